@@ -1,0 +1,13 @@
+use Rattle.std.proofs.Common.{◌≤◌, ◌-◌, take, length}
+use Rattle.std.specs.Io.KnownBytes.{Appends}
+use Rattle.desk_base.proofs.sink.write_all.Given as goal
+
+abbrev pub invariant-pieces : goal.invariant-pieces
+invariant-pieces g l = record {
+  within : l.at ≤ length l.piece;
+  grown : Appends (g.W.Sink.written l.fn.sink) (g.W.Sink.written l.sink) (take l.at l.piece);
+  later : g.W.Sink.write_faults l.fn.sink ≤ g.W.Sink.write_faults l.sink;
+}
+
+abbrev pub decreases-pieces : goal.decreases-pieces
+decreases-pieces g l = length l.initial.piece - l.at

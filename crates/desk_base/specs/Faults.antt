@@ -1,0 +1,16 @@
+-- When a device may answer that it failed, and what a write that failed leaves.
+use Rattle.std.specs.Prelude.{◌≡◌, ℕ, ◌+◌, ◌-◌, ◌^◌, ◌<◌, ◌≤◌, min, List, length, take, Option, Result, OnErr}
+use Rattle.std.specs.Io.KnownBytes.{Appends}
+
+-- the count of faults rose, or it stands at its last value
+abbrev pub Rose : ℕ → ℕ → Type 0
+Rose before now = min (before + 1) (2 ^ 64 - 1) ≤ now
+
+-- the count of faults did not fall, and a failure is answered only where it rose
+pub record HasCause {T E : Type 0} (before now : ℕ) (result : Result T E) : Type 0 where
+  pub later : before ≤ now
+  pub failed : OnErr result (Rose before now)
+
+-- known bytes grew by a part of the piece, but not by all of it
+abbrev pub AppendsPart : Option (List ℕ) → Option (List ℕ) → List ℕ → Type 0
+AppendsPart old new piece = (count : ℕ) × (count < length piece) × Appends old new (take count piece)

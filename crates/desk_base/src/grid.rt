@@ -1,0 +1,102 @@
+//! The cells of master data, in rows. A clause sees a `Grid` as its number of columns and the list of
+//! its rows.
+ghost use Rattle.std.specs.Prelude.{◌≡◌, ◌<◌, ◌≤◌, ◌∷◌, ◌++◌, [], length, All, IfOk, OnOk, OnErr};
+ghost use Rattle.desk_base.specs.Grid.{cell_text};
+
+use std::alloc::Global;
+use std::marker::Model;
+
+use crate::duplicate::{Duplicate, copies};
+use crate::error::NoMemory;
+use crate::list::List;
+use crate::text::Text;
+
+/// The greatest number of rows in a grid.
+pub const MAX_ROWS: u32 = 20_000;
+
+/// Rows of texts, each with the same number of them. All cells lie in one list, row after row.
+#[derive(Debug, Drop)]
+pub struct Grid {
+    width: u16,
+    count: u32,
+    cells: Vec<Text>,
+}
+
+impl Model for Grid {
+    ghost use Rattle.std.specs.Prelude.{◌≡◌, ◌*◌, ◌≤◌, length};
+    ghost use Rattle.desk_base.specs.Grid.{Table, table_code, rows_of};
+
+    ghost Value = { Table };
+
+    ghost coded = { table_code };
+
+    ghost view = { λ g. record { columns = g.width; rows = rows_of g.width g.count g.cells.items } };
+
+    ghost invariant = { λ g. (g.count ≤ 20000) × (length g.cells.items ≡ g.count * g.width) };
+}
+
+impl Grid {
+    /// A grid of so many columns, without rows. It takes no memory yet.
+    pub fn new(alloc: Global, columns: u16) -> Grid
+        ensures { result ≡ record { columns = columns; rows = [] } }
+    {
+        Grid {
+            width: columns,
+            count: 0,
+            cells: Vec::new(alloc),
+        }
+    }
+
+    /// Adds a row behind the others. Where there is no memory the grid is as before, and the row is gone.
+    pub fn push_row(&mut self, row: List<Text>) -> Result<(), NoMemory>
+        requires full { length row ≡ self.old.columns }
+        requires room { length self.old.rows < 20000 }
+        ensures pushed { OnOk result (self.new ≡ record self.old { rows = self.old.rows ++ row ∷ [] }) }
+        ensures unchanged { OnErr result (self.new ≡ self.old) }
+    {
+        let mut texts = row.into_vec();
+        match self.cells.append(&mut texts) {
+            Ok(()) => {
+                self.count += 1;
+                Ok(())
+            }
+            Err(_) => Err(NoMemory),
+        }
+    }
+
+    /// How many rows there are, at most 20,000, each with a text in every column.
+    pub fn rows(&self) -> u32
+        ensures rows { result ≡ length self.now.rows }
+        ensures few { result ≤ 20000 }
+        ensures full { All (λ row. length row ≡ self.now.columns) self.now.rows }
+    {
+        self.count
+    }
+
+    /// How many columns there are.
+    pub fn columns(&self) -> u16
+        ensures { result ≡ self.now.columns }
+    {
+        self.width
+    }
+
+    /// The text in a row and a column, both counted from 0.
+    pub fn cell(&self, row: u32, column: u16) -> &Text
+        requires row_within { row < length self.now.rows }
+        requires column_within { column < self.now.columns }
+        ensures { result.now ≡ cell_text self.now row column }
+    {
+        &self.cells[row as usize * self.width as usize + column as usize]
+    }
+}
+
+impl Duplicate for Grid {
+    fn copy(&self) -> Result<Grid, NoMemory> {
+        let cells = copies(*self.cells.allocator(), self.cells.as_slice())?;
+        Ok(Grid {
+            width: self.width,
+            count: self.count,
+            cells,
+        })
+    }
+}

@@ -1,0 +1,69 @@
+//! Where bytes go. A clause sees the bytes that were written, where the sink tells them, and how often
+//! it has failed.
+ghost use Rattle.std.specs.Prelude.{◌<◌, ◌≤◌, ℕ, List, Option, length, IfOk, OnOk, OnErr};
+ghost use Rattle.std.specs.Io.KnownBytes.{WriteAppends, Appends};
+ghost use Rattle.desk_base.specs.Faults.{HasCause, AppendsPart};
+
+use std::io::Write;
+
+use crate::error::Failed;
+
+/// A stream of bytes that can be written.
+pub trait Sink {
+    /// The bytes that were written, where the sink tells them.
+    ghost written: { Self → Option (List ℕ) };
+
+    /// How often a write has failed. It never falls, and stands at 2^64 - 1.
+    ghost write_faults: { Self → ℕ };
+
+    /// Writes the first bytes of the piece, at least one, and answers how many. Where it fails nothing
+    /// was written.
+    fn write(&mut self, piece: &[u8]) -> Result<usize, Failed>
+        requires { 0 < length piece.now }
+        ensures some { IfOk result (λ count. (0 < count) × (count ≤ length piece.now)) }
+        ensures bytes { WriteAppends (written self.old) (written self.new) result piece.now }
+        ensures cause { HasCause (write_faults self.old) (write_faults self.new) result };
+}
+
+/// Writes the whole piece. Where the sink fails, a part of it stands there, but not all.
+pub fn write_all<W: Sink>(sink: &mut W, piece: &[u8]) -> Result<(), Failed>
+    ensures written { OnOk result (Appends (W.written sink.old) (W.written sink.new) piece.now) }
+    ensures part { OnErr result (AppendsPart (W.written sink.old) (W.written sink.new) piece.now) }
+    ensures cause { HasCause (W.write_faults sink.old) (W.write_faults sink.new) result }
+{
+    let mut at = 0;
+    'pieces: while at < piece.len() {
+        at += sink.write(&piece[at..])?;
+    }
+    Ok(())
+}
+
+/// A writer of std as a sink. An error of the writer is a fault, and so is a write that takes nothing.
+#[derive(Debug, Drop)]
+pub struct StdSink<W: Write> {
+    writer: W,
+    faults: u64,
+}
+
+impl<W: Write> StdSink<W> {
+    /// The sink over this writer, which has not failed yet.
+    pub fn new(writer: W) -> StdSink<W> {
+        StdSink { writer, faults: 0 }
+    }
+}
+
+impl<W: Write> Sink for StdSink<W> {
+    ghost written = { λ s. W.contents s.writer };
+
+    ghost write_faults = { λ s. s.faults };
+
+    fn write(&mut self, piece: &[u8]) -> Result<usize, Failed> {
+        match self.writer.write(piece) {
+            Ok(count) if count > 0 => Ok(count),
+            _ => {
+                self.faults = self.faults.saturating_add(1);
+                Err(Failed)
+            }
+        }
+    }
+}

@@ -1,0 +1,57 @@
+//! Where bytes come from. A clause sees the bytes that are left, where the source tells them, and how
+//! often it has failed.
+ghost use Rattle.std.specs.Prelude.{◌<◌, ℕ, List, Option, length};
+ghost use Rattle.std.specs.Io.{ReadsAtMost};
+ghost use Rattle.std.specs.Io.KnownBytes.{ReadConsumes};
+ghost use Rattle.desk_base.specs.Faults.{HasCause};
+
+use std::io::Read;
+
+use crate::error::Failed;
+
+/// A stream of bytes that can be read.
+pub trait Source {
+    /// The bytes that are still to come, where the source tells them.
+    ghost left: { Self → Option (List ℕ) };
+
+    /// How often a read has failed. It never falls, and stands at 2^64 - 1.
+    ghost read_faults: { Self → ℕ };
+
+    /// Puts the next bytes at the front of the buffer, and answers how many there are: none only at the
+    /// end. Where it fails nothing is lost.
+    fn read(&mut self, buf: &mut [u8]) -> Result<usize, Failed>
+        requires { 0 < length buf.old }
+        ensures within { ReadsAtMost result buf.new }
+        ensures bytes { ReadConsumes (left self.old) (left self.new) result buf.new }
+        ensures cause { HasCause (read_faults self.old) (read_faults self.new) result };
+}
+
+/// A reader of std as a source. An error of the reader is a fault.
+#[derive(Debug, Drop)]
+pub struct StdSource<R: Read> {
+    reader: R,
+    faults: u64,
+}
+
+impl<R: Read> StdSource<R> {
+    /// The source over this reader, which has not failed yet.
+    pub fn new(reader: R) -> StdSource<R> {
+        StdSource { reader, faults: 0 }
+    }
+}
+
+impl<R: Read> Source for StdSource<R> {
+    ghost left = { λ s. R.remaining s.reader };
+
+    ghost read_faults = { λ s. s.faults };
+
+    fn read(&mut self, buf: &mut [u8]) -> Result<usize, Failed> {
+        match self.reader.read(buf) {
+            Ok(count) => Ok(count),
+            Err(_) => {
+                self.faults = self.faults.saturating_add(1);
+                Err(Failed)
+            }
+        }
+    }
+}
