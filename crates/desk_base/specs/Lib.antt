@@ -4,3 +4,4 @@ pub mod Grid
 pub mod Lending
 pub mod Roomy
 pub mod Memory
+pub mod Words

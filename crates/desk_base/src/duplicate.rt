@@ -1,9 +1,8 @@
 //! Copies that may want memory.
 ghost use Rattle.std.specs.Prelude.{◌≡◌, IfOk};
 
-use std::alloc::Global;
-
 use crate::error::NoMemory;
+use std::alloc::Global;
 
 /// A value that can be copied, where memory is found.
 pub trait Duplicate: Sized {

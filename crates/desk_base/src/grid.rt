@@ -3,13 +3,12 @@
 ghost use Rattle.std.specs.Prelude.{◌≡◌, ◌<◌, ◌≤◌, ◌∷◌, ◌++◌, [], length, All, IfOk, OnOk, OnErr};
 ghost use Rattle.desk_base.specs.Grid.{cell_text};
 
-use std::alloc::Global;
-use std::marker::Model;
-
 use crate::duplicate::{Duplicate, copies};
 use crate::error::NoMemory;
 use crate::list::List;
 use crate::text::Text;
+use std::alloc::Global;
+use std::marker::Model;
 
 /// The greatest number of rows in a grid.
 pub const MAX_ROWS: u32 = 20_000;

@@ -12,14 +12,12 @@ mod error;
 mod grid;
 mod list;
 mod memory;
-
 mod room;
 mod sink;
 mod source;
 mod steps;
-
-
 mod text;
+mod words;
 
 pub use both::Both;
 pub use duplicate::Duplicate;
@@ -27,9 +25,9 @@ pub use error::{Failed, NoMemory};
 pub use grid::{Grid, MAX_ROWS};
 pub use list::List;
 pub use memory::{MemLink, MemSink, MemSource};
-
 pub use room::Room;
 pub use sink::{Sink, StdSink, write_all};
 pub use source::{Source, StdSource};
 pub use steps::Steps;
 pub use text::{MAX_TEXT, Text, TextFault};
+pub use words::{MAX_WORD, is_name, is_word, is_word_byte, starts_word};

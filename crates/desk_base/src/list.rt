@@ -1,11 +1,10 @@
 //! A list that answers want of memory. A clause sees its items.
 ghost use Rattle.std.specs.Prelude.{◌≡◌, ◌==◌, ◌<◌, ◌∷◌, ◌++◌, [], length, slice_set, OnOk, OnErr};
 
-use std::alloc::Global;
-use std::marker::Model;
-
 use crate::duplicate::{Duplicate, copies};
 use crate::error::NoMemory;
+use std::alloc::Global;
+use std::marker::Model;
 
 /// A list of items.
 #[derive(Debug, Drop)]

@@ -6,14 +6,13 @@ ghost use Rattle.std.specs.Io.KnownBytes.{ReadConsumes, WriteAppends};
 ghost use Rattle.desk_base.specs.Faults.{HasCause};
 ghost use Rattle.desk_base.specs.Memory.{NextFails, after_call};
 
-use std::alloc::Global;
-use std::marker::Model;
-
 use crate::both::Both;
 use crate::error::{Failed, NoMemory};
 use crate::list::List;
 use crate::sink::Sink;
 use crate::source::Source;
+use std::alloc::Global;
+use std::marker::Model;
 
 /// How many calls a device has answered, and which of them, counted from 1, are to fail.
 #[derive(Debug, Drop)]
@@ -152,7 +151,12 @@ impl Model for MemSink {
 impl MemSink {
     /// A sink that takes at most `cut` bytes a call and `room` bytes in all, for which it takes the memory
     /// here. Its k-th call, from 1, fails exactly where `fails` holds k or `room` bytes are written.
-    pub fn new(alloc: Global, cut: usize, room: usize, fails: List<u64>) -> Result<MemSink, NoMemory>
+    pub fn new(
+        alloc: Global,
+        cut: usize,
+        room: usize,
+        fails: List<u64>,
+    ) -> Result<MemSink, NoMemory>
         requires { 1 ≤ cut }
         ensures { IfOk result (λ sink. sink ≡ record { written = []; cut = cut; room = room; schedule = record { calls = 0; fails = fails }; faults = 0 }) }
     {

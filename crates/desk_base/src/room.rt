@@ -3,11 +3,10 @@ ghost use Rattle.std.specs.Prelude.{◌≡◌, ◌==◌, ◌+◌, ◌-◌, ◌<�
 ghost use Rattle.std.specs.Borrow.{sem};
 ghost use Rattle.desk_base.specs.Lending.{LendsSlot};
 
-use std::alloc::Global;
-use std::marker::Model;
-
 use crate::duplicate::{Duplicate, copies};
 use crate::error::NoMemory;
+use std::alloc::Global;
+use std::marker::Model;
 
 /// A list of items, with places reserved behind them.
 #[derive(Debug, Drop)]

@@ -4,9 +4,8 @@ ghost use Rattle.std.specs.Prelude.{◌<◌, ◌≤◌, ℕ, List, Option, lengt
 ghost use Rattle.std.specs.Io.KnownBytes.{WriteAppends, Appends};
 ghost use Rattle.desk_base.specs.Faults.{HasCause, AppendsPart};
 
-use std::io::Write;
-
 use crate::error::Failed;
+use std::io::Write;
 
 /// A stream of bytes that can be written.
 pub trait Sink {

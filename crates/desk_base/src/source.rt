@@ -5,9 +5,8 @@ ghost use Rattle.std.specs.Io.{ReadsAtMost};
 ghost use Rattle.std.specs.Io.KnownBytes.{ReadConsumes};
 ghost use Rattle.desk_base.specs.Faults.{HasCause};
 
-use std::io::Read;
-
 use crate::error::Failed;
+use std::io::Read;
 
 /// A stream of bytes that can be read.
 pub trait Source {

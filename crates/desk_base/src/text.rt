@@ -1,11 +1,10 @@
 //! The text of a cell: UTF-8, at most 200 bytes. A clause sees its bytes.
 ghost use Rattle.std.specs.Prelude.{◌≡◌, ◌==◌, ◌<◌, ◌≤◌, ◌↔◌, length, IsTrue, IfOk, OnOk, IsErrOf, IsUtf8, []};
 
-use std::alloc::Global;
-use std::marker::Model;
-
 use crate::duplicate::Duplicate;
 use crate::error::NoMemory;
+use std::alloc::Global;
+use std::marker::Model;
 
 /// The greatest number of bytes in a cell.
 pub const MAX_TEXT: usize = 200;

@@ -1,4 +1,4 @@
-use Rattle.std.proofs.Common.{rules, arith, ◌≡◌, ◌+◌, ◌-◌, ◌≤◌, ◌<◌, take, drop, length, length-drop}
+use Rattle.std.proofs.Common.{rules, arith, ◌≡◌, ◌-◌, take, drop, length, length-drop}
 use Rattle.std.proofs.lemmas.List.{take_all}
 use Rattle.std.proofs.Math.Seq.{take-add}
 use Rattle.desk_base.proofs.Growth.{Appends-then}

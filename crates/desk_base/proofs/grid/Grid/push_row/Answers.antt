@@ -1,4 +1,4 @@
-use Rattle.std.proofs.Common.{◌+◌, ◌*◌, ◌≤◌, ◌<◌, ◌≡◌, ◌++◌, ◌∷◌, [], ◌∙◌, ap, sym, arith, length, length-append, add-one}
+use Rattle.std.proofs.Common.{◌+◌, ◌<◌, ◌≡◌, ◌++◌, ◌∷◌, [], ◌∙◌, ap, sym, arith, length, length-append, add-one}
 use Rattle.std.proofs.Math.Nat.{suc-mul}
 use Rattle.desk_base.proofs.Rows.{length-rows_of, rows_of-append}
 use Rattle.desk_base.specs.Grid.{rows_of}
