@@ -1,0 +1,43 @@
+-- What a look into the master data of a rule finds.
+use Rattle.std.specs.Prelude.{◌≡◌, ◌≢◌, ℕ, ◌≤◌, List, filter, Option, MatchOption}
+use Rattle.fix_model.specs.declared.book.Hit.{Hit}
+use Rattle.fix_model.specs.declared.kit.Kit.{Kit}
+use Rattle.fix_model.specs.declared.rule.Rule.{Rule}
+use Rattle.fix_model.specs.declared.state.State.{State}
+use Rattle.fix_model.specs.Application.{RowAgrees, RowAgreesAt}
+use Rattle.fix_model.specs.Rules.{from_text}
+use Rattle.fix_model.specs.States.{cell_at, is_covering, value_at}
+
+-- the row agrees, and is the least that does
+pub record IsFirstRow (kit : Kit) (values : ℕ → List ℕ) (rule : Rule) (row : ℕ) : Type 0 where
+  pub agrees : RowAgrees kit values rule row
+  pub least : (other : ℕ) → RowAgrees kit values rule other → row ≤ other
+
+-- the row agrees and gives another text than the first one, and is the least that does
+pub record IsOtherRow (kit : Kit) (values : ℕ → List ℕ) (rule : Rule) (first row : ℕ) : Type 0 where
+  pub agrees : RowAgrees kit values rule row
+  pub differs : from_text kit rule row ≢ from_text kit rule first
+  pub least : (other : ℕ) → RowAgrees kit values rule other → from_text kit rule other ≢ from_text kit rule first → row ≤ other
+
+-- the least row that agrees, and the least of those that give another text, or none where all give the same
+pub record IsHit (kit : Kit) (values : ℕ → List ℕ) (rule : Rule) (hit : Hit) : Type 0 where
+  pub first : IsFirstRow kit values rule hit.first
+  pub other : MatchOption hit.other
+      ((row : ℕ) → RowAgrees kit values rule row → from_text kit rule row ≡ from_text kit rule hit.first)
+      (IsOtherRow kit values rule hit.first)
+
+-- no row agrees
+abbrev pub IsMissed : Kit → (ℕ → List ℕ) → Rule → Type 0
+IsMissed kit values rule = (row : ℕ) → ¬ RowAgrees kit values rule row
+
+-- what a look answers: nothing exactly where no row agrees
+abbrev pub IsFound : Kit → (ℕ → List ℕ) → Rule → Option Hit → Type 0
+IsFound kit values rule answer = MatchOption answer (IsMissed kit values rule) (IsHit kit values rule)
+
+-- the keys of a rule whose attributes are covered
+abbrev pub covered_keys : State → Rule → List (ℕ × ℕ)
+covered_keys state rule = filter (λ key. is_covering (cell_at state key.0)) rule.keys
+
+-- some usable row agrees with the values at the covered keys
+abbrev pub SomeRowAgrees : Kit → State → Rule → Type 0
+SomeRowAgrees kit state rule = (row : ℕ) × RowAgreesAt kit (value_at kit state) rule (covered_keys state rule) row

@@ -1,0 +1,11 @@
+pub mod Alike
+pub mod Application
+pub mod FirstRun
+pub mod Hit
+pub mod Obeys
+pub mod Order
+pub mod Pattern
+pub mod Rules
+pub mod Run
+pub mod States
+pub mod Valid

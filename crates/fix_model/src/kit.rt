@@ -1,0 +1,140 @@
+//! A set of rules with its master data.
+ghost use Rattle.std.specs.Prelude.{◌≡◌, ◌<◌, ◌≤◌, ◌≢◌, ◌↔◌, All, AllPairs, Any, length, IsTrue};
+ghost use Rattle.fix_model.specs.Valid.{IsValid, IsValidRule, AreValidKeys, AreValidConds};
+ghost use Rattle.fix_model.specs.Pattern.{IsSized};
+ghost use Rattle.fix_model.specs.Rules.{rule_at, master_of, step_text, IsStepOf, is_folded};
+
+use crate::pattern::Pat;
+use crate::rule::Rule;
+use crate::state::Step;
+use desk_base::{Duplicate, Grid, List, NoMemory, Text};
+
+/// The greatest number of attributes.
+pub const MAX_WIDTH: u16 = 48;
+
+/// The greatest number of rules in a kit.
+pub const MAX_RULES: usize = 200;
+
+/// The greatest number of masters in a kit.
+pub const MAX_MASTERS: usize = 8;
+
+/// The greatest number of keys in a rule.
+pub const MAX_KEYS: usize = 8;
+
+/// The greatest number of conditions in a rule.
+pub const MAX_CONDS: usize = 8;
+
+/// The greatest number of texts in a set.
+pub const MAX_SET: usize = 64;
+
+/// Editing rules over the attributes of one schema, with the master data that they look into.
+#[derive(Debug, Drop)]
+pub struct Kit {
+    /// How many attributes there are.
+    pub width: u16,
+    pub rules: List<Rule>,
+    pub masters: List<Grid>,
+    /// For each attribute whether keys and conditions compare it without regard to ASCII case.
+    pub folded: List<bool>,
+}
+
+impl Kit {
+    /// Whether the kit is one that rules can be applied with: 1 to 48 attributes, at most 200 rules and 8
+    /// masters, a flag for each attribute, and in each rule 1 to 8 keys and at most 8 conditions that
+    /// name attributes and columns which are there, none of them twice, and not the head; a finite set
+    /// has 1 to 64 texts.
+    pub fn valid(&self) -> bool
+        ensures { IsTrue result ↔ IsValid self.now }
+    {
+        self.width >= 1
+            && self.width <= MAX_WIDTH
+            && self.rules.len() <= MAX_RULES
+            && self.masters.len() <= MAX_MASTERS
+            && self.folded.len() == usize::from(self.width)
+            && self.has_valid_rules()
+    }
+
+    fn has_valid_rules(&self) -> bool
+        ensures { IsTrue result ↔ All (IsValidRule self.now) self.now.rules }
+    {
+        self.rules.as_slice().iter().all(|rule| self.takes(rule))
+    }
+
+    /// Whether this rule may stand in the kit.
+    fn takes(&self, rule: &Rule) -> bool
+        ensures { IsTrue result ↔ IsValidRule self.now rule.now }
+    {
+        let Some(master) = self.masters.as_slice().get(usize::from(rule.master)) else {
+            return false;
+        };
+        rule.head < self.width
+            && rule.from < master.columns()
+            && has_valid_keys(rule, self.width, master.columns())
+            && has_valid_conds(rule, self.width)
+    }
+}
+
+fn has_valid_keys(rule: &Rule, width: u16, columns: u16) -> bool
+    ensures { IsTrue result ↔ AreValidKeys width columns rule.now.head rule.now.keys }
+{
+    let keys = rule.keys.as_slice();
+    !keys.is_empty()
+        && keys.len() <= MAX_KEYS
+        && keys.iter().all(|key| key.0 < width)
+        && keys.iter().all(|key| key.0 != rule.head)
+        && keys.iter().all(|key| key.1 < columns)
+        && has_distinct_attributes(keys)
+}
+
+fn has_valid_conds(rule: &Rule, width: u16) -> bool
+    ensures { IsTrue result ↔ AreValidConds width rule.now.head rule.now.conds }
+{
+    let conds = rule.conds.as_slice();
+    conds.len() <= MAX_CONDS
+        && conds.iter().all(|cond| cond.0 < width)
+        && conds.iter().all(|cond| cond.0 != rule.head)
+        && conds.iter().all(|cond| is_sized(&cond.1))
+        && has_distinct_attributes(conds)
+}
+
+fn is_sized(pat: &Pat) -> bool
+    ensures { IsTrue result ↔ IsSized pat.now }
+{
+    match pat {
+        Pat::OneOf(texts) | Pat::NoneOf(texts) => !texts.is_empty() && texts.len() <= MAX_SET,
+        Pat::Is(_) | Pat::IsNot(_) | Pat::Any => true,
+    }
+}
+
+fn has_distinct_attributes<T>(pairs: &[(u16, T)]) -> bool
+    ensures { IsTrue result ↔ AllPairs (λ pair later. pair.0 ≢ later.0) pairs.now }
+{
+    'pairs: for (place, pair) in pairs.iter().enumerate() {
+        if names(&pairs[place + 1..], pair.0) {
+            return false;
+        }
+    }
+    true
+}
+
+fn names<T>(pairs: &[(u16, T)], attribute: u16) -> bool
+    ensures { IsTrue result ↔ Any (λ pair. pair.0 ≡ attribute) pairs.now }
+{
+    'pairs: for pair in pairs {
+        if pair.0 == attribute {
+            return true;
+        }
+    }
+    false
+}
+
+impl Duplicate for Kit {
+    fn copy(&self) -> Result<Kit, NoMemory> {
+        Ok(Kit {
+            width: self.width,
+            rules: self.rules.copy()?,
+            masters: self.masters.copy()?,
+            folded: self.folded.copy()?,
+        })
+    }
+}

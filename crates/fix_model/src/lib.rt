@@ -1,0 +1,21 @@
+//! Editing rules over master data, the record that is being keyed, and what applying a rule means.
+//!
+//! A rule copies a cell of a master row into a record where the row agrees with attributes that are
+//! already covered, that is confirmed by a clerk or fixed by an earlier step. The types are plain
+//! data, which clauses see as it is. `specs/` has the notions, from a pattern that matches a text to
+//! the first run, and `docs/definitions.md` explains each.
+#![tactic(auto)]
+
+mod book;
+mod comparison;
+mod kit;
+mod pattern;
+mod rule;
+mod state;
+
+pub use book::{Book, Hit, value};
+pub use comparison::alike;
+pub use kit::{Kit, MAX_CONDS, MAX_KEYS, MAX_MASTERS, MAX_RULES, MAX_SET, MAX_WIDTH};
+pub use pattern::{Pat, matches};
+pub use rule::Rule;
+pub use state::{Cell, State, Step};
