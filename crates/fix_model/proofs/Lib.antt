@@ -1,2 +1,4 @@
+pub mod Filters
+pub mod Hits
 pub mod Pairs
 pub mod States

@@ -2,11 +2,12 @@
 ghost use Rattle.std.specs.Prelude.{◌≡◌, ◌<◌, ◌≤◌, ◌≢◌, ◌↔◌, All, AllPairs, Any, length, IsTrue};
 ghost use Rattle.fix_model.specs.Valid.{IsValid, IsValidRule, AreValidKeys, AreValidConds};
 ghost use Rattle.fix_model.specs.Pattern.{IsSized};
+ghost use Rattle.fix_model.specs.States.{Fits, value_at};
 ghost use Rattle.fix_model.specs.Rules.{rule_at, master_of, step_text, IsStepOf, is_folded};
 
 use crate::pattern::Pat;
 use crate::rule::Rule;
-use crate::state::Step;
+use crate::state::{Cell, State, Step};
 use desk_base::{Duplicate, Grid, List, NoMemory, Text};
 
 /// The greatest number of attributes.
@@ -71,6 +72,58 @@ impl Kit {
             && rule.from < master.columns()
             && has_valid_keys(rule, self.width, master.columns())
             && has_valid_conds(rule, self.width)
+    }
+}
+
+impl Kit {
+    /// The rule at a place, counted from 0.
+    pub(crate) fn rule(&self, place: u16) -> &Rule
+        requires { place < length self.now.rules }
+        ensures rule { result.now ≡ rule_at self.now place }
+        ensures valid { IsValid self.now → IsValidRule self.now result.now }
+    {
+        &self.rules.as_slice()[usize::from(place)]
+    }
+
+    /// The master data of a rule.
+    pub(crate) fn master(&self, rule: &Rule) -> &Grid
+        requires { rule.now.master < length self.now.masters }
+        ensures { result.now ≡ master_of self.now rule.now }
+    {
+        &self.masters.as_slice()[usize::from(rule.master)]
+    }
+
+    /// The text that a step gives to the head of its rule.
+    pub(crate) fn step_text(&self, step: Step) -> &Text
+        requires valid { IsValid self.now }
+        requires step { IsStepOf self.now step }
+        ensures { result.now ≡ step_text self.now step }
+    {
+        let rule = self.rule(step.rule);
+        self.master(rule).cell(step.row, rule.from)
+    }
+
+    /// The value of an attribute.
+    pub(crate) fn value<'a>(&'a self, state: &'a State, attr: u16) -> &'a Text
+        requires valid { IsValid self.now }
+        requires fits { Fits self.now state.now }
+        requires attr_within { attr < self.now.width }
+        ensures { result.now ≡ value_at self.now state.now attr }
+    {
+        let place = usize::from(attr);
+        match state.cells.as_slice()[place] {
+            Cell::Fixed(step) => self.step_text(step),
+            Cell::Confirmed | Cell::Uncovered => &state.typed.as_slice()[place],
+        }
+    }
+
+    /// Whether keys and conditions compare this attribute without regard to ASCII case.
+    pub(crate) fn folds(&self, attr: u16) -> bool
+        requires valid { IsValid self.now }
+        requires attr_within { attr < self.now.width }
+        ensures { result ≡ is_folded self.now attr }
+    {
+        self.folded.as_slice()[usize::from(attr)]
     }
 }
 

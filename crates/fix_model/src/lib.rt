@@ -6,16 +6,20 @@
 //! the first run, and `docs/definitions.md` explains each.
 #![tactic(auto)]
 
+mod application;
 mod book;
 mod comparison;
 mod kit;
+mod list_book;
 mod pattern;
 mod rule;
 mod state;
 
+pub use application::fires;
 pub use book::{Book, Hit, value};
 pub use comparison::alike;
 pub use kit::{Kit, MAX_CONDS, MAX_KEYS, MAX_MASTERS, MAX_RULES, MAX_SET, MAX_WIDTH};
+pub use list_book::ListBook;
 pub use pattern::{Pat, matches};
 pub use rule::Rule;
 pub use state::{Cell, State, Step};

@@ -1,7 +1,7 @@
 //! A record while it is keyed.
-ghost use Rattle.std.specs.Prelude.{◌≡◌, ◌<◌, length, map, if◌then◌else◌, IfOk};
+ghost use Rattle.std.specs.Prelude.{◌≡◌, ◌<◌, length, map, if◌then◌else◌, IfOk, IsTrue, ◌↔◌};
 ghost use Rattle.fix_model.specs.declared.kit.Kit.{Kit};
-ghost use Rattle.fix_model.specs.States.{confirmed_cell, Fits};
+ghost use Rattle.fix_model.specs.States.{confirmed_cell, Fits, IsCovered};
 
 use desk_base::{Duplicate, List, NoMemory, Text};
 use std::alloc::Global;
@@ -49,6 +49,18 @@ impl State {
             })?;
         }
         Ok(State { typed, cells })
+    }
+}
+
+impl State {
+    /// Whether an attribute, counted from 0, is confirmed or fixed.
+    pub fn covers(&self, attr: u16) -> bool
+        ensures { IsTrue result ↔ IsCovered self.now attr }
+    {
+        match self.cells.as_slice().get(usize::from(attr)) {
+            Some(Cell::Confirmed | Cell::Fixed(_)) => true,
+            Some(Cell::Uncovered) | None => false,
+        }
     }
 }
 

@@ -1,0 +1,126 @@
+//! Whether a rule may be applied with a master row.
+ghost use Rattle.std.specs.Prelude.{◌≢◌, ◌<◌, ◌↔◌, All, [], length, IsTrue};
+ghost use Rattle.fix_model.specs.Application.{AreMatched, Fires, IsEnabled, IsUsable, RowAgreesAt};
+ghost use Rattle.fix_model.specs.Hit.{covered_keys, IsAlikeWhereCovered};
+ghost use Rattle.fix_model.specs.Rules.{master_of, master_text};
+ghost use Rattle.fix_model.specs.States.{Fits, IsCovered, value_at};
+ghost use Rattle.fix_model.specs.Valid.{IsValid, IsValidRule};
+
+use crate::comparison::alike;
+use crate::kit::Kit;
+use crate::pattern::matches;
+use crate::rule::Rule;
+use crate::state::{State, Step};
+
+/// Whether the step may be made: its row is usable for its rule, the rule's keys and conditions are
+/// covered and its head is not, each condition matches, and the row agrees with the values at the keys.
+/// A step that the kit does not have may not.
+pub fn fires(kit: &Kit, state: &State, step: Step) -> bool
+    requires valid { IsValid kit.now }
+    requires fits { Fits kit.now state.now }
+    ensures { IsTrue result ↔ Fires kit.now state.now step }
+{
+    if usize::from(step.rule) >= kit.rules.len() {
+        return false;
+    }
+    let rule = kit.rule(step.rule);
+    if state.covers(rule.head) {
+        return false;
+    }
+    is_enabled(kit, state, rule) && row_agrees(kit, state, rule, step.row)
+}
+
+fn is_enabled(kit: &Kit, state: &State, rule: &Rule) -> bool
+    requires valid { IsValid kit.now }
+    requires rule_valid { IsValidRule kit.now rule.now }
+    requires fits { Fits kit.now state.now }
+    ensures { IsTrue result ↔ IsEnabled kit.now state.now rule.now }
+{
+    has_covered_keys(state, rule) && has_covered_conds(state, rule) && are_matched(kit, state, rule)
+}
+
+fn has_covered_keys(state: &State, rule: &Rule) -> bool
+    ensures { IsTrue result ↔ All (λ key. IsCovered state.now key.0) rule.now.keys }
+{
+    rule.keys.as_slice().iter().all(|key| state.covers(key.0))
+}
+
+fn has_covered_conds(state: &State, rule: &Rule) -> bool
+    ensures { IsTrue result ↔ All (λ cond. IsCovered state.now cond.0) rule.now.conds }
+{
+    rule.conds
+        .as_slice()
+        .iter()
+        .all(|cond| state.covers(cond.0))
+}
+
+fn are_matched(kit: &Kit, state: &State, rule: &Rule) -> bool
+    requires valid { IsValid kit.now }
+    requires rule_valid { IsValidRule kit.now rule.now }
+    requires fits { Fits kit.now state.now }
+    ensures { IsTrue result ↔ AreMatched kit.now (value_at kit.now state.now) rule.now }
+{
+    'conds: for cond in rule.conds.as_slice() {
+        if !matches(&cond.1, kit.value(state, cond.0), kit.folds(cond.0)) {
+            return false;
+        }
+    }
+    true
+}
+
+/// Whether the row is usable, and agrees with the values at those keys of the rule that are covered.
+pub(crate) fn row_agrees(kit: &Kit, state: &State, rule: &Rule, row: u32) -> bool
+    requires valid { IsValid kit.now }
+    requires rule_valid { IsValidRule kit.now rule.now }
+    requires fits { Fits kit.now state.now }
+    ensures { IsTrue result
+        ↔ RowAgreesAt kit.now (value_at kit.now state.now) rule.now (covered_keys state.now rule.now) row }
+{
+    is_usable(kit, rule, row) && is_alike_at_covered(kit, state, rule, row)
+}
+
+fn is_usable(kit: &Kit, rule: &Rule, row: u32) -> bool
+    requires rule_valid { IsValidRule kit.now rule.now }
+    ensures { IsTrue result ↔ IsUsable kit.now rule.now row }
+{
+    let master = kit.master(rule);
+    row < master.rows()
+        && !master.cell(row, rule.from).is_blank()
+        && has_usable_keys(kit, rule, row)
+}
+
+fn has_usable_keys(kit: &Kit, rule: &Rule, row: u32) -> bool
+    requires rule_valid { IsValidRule kit.now rule.now }
+    requires row_within { row < length (master_of kit.now rule.now).rows }
+    ensures { IsTrue result ↔ All (λ key. master_text kit.now rule.now row key.1 ≢ []) rule.now.keys }
+{
+    let master = kit.master(rule);
+    'keys: for key in rule.keys.as_slice() {
+        if master.cell(row, key.1).is_blank() {
+            return false;
+        }
+    }
+    true
+}
+
+fn is_alike_at_covered(kit: &Kit, state: &State, rule: &Rule, row: u32) -> bool
+    requires valid { IsValid kit.now }
+    requires rule_valid { IsValidRule kit.now rule.now }
+    requires fits { Fits kit.now state.now }
+    requires row_within { row < length (master_of kit.now rule.now).rows }
+    ensures { IsTrue result ↔ All (IsAlikeWhereCovered kit.now state.now rule.now row) rule.now.keys }
+{
+    let master = kit.master(rule);
+    'keys: for key in rule.keys.as_slice() {
+        if state.covers(key.0)
+            && !alike(
+                kit.value(state, key.0),
+                master.cell(row, key.1),
+                kit.folds(key.0),
+            )
+        {
+            return false;
+        }
+    }
+    true
+}
