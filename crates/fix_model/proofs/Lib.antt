@@ -1,4 +1,7 @@
+pub mod Counts
+pub mod Covered
 pub mod Filters
 pub mod Hits
 pub mod Pairs
+pub mod Runs
 pub mod States

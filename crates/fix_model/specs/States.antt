@@ -1,5 +1,5 @@
 -- The record of a clerk and its covered attributes.
-use Rattle.std.specs.Prelude.{◌≡◌, ℕ, Bool, true, false, List, [], length, map, All, IsTrue, slice_index_or, ⊤}
+use Rattle.std.specs.Prelude.{◌≡◌, ℕ, Bool, true, false, List, [], length, filter, map, not, All, IsTrue, slice_index_or, ⊤}
 use Rattle.std.specs.List.{range_with_len}
 use Rattle.fix_model.specs.declared.kit.Kit.{Kit}
 use Rattle.fix_model.specs.declared.state.Cell.{Cell}
@@ -51,3 +51,7 @@ pub record Fits (kit : Kit) (state : State) : Type 0 where
 abbrev pub confirmed_cell : Bool → Cell
 confirmed_cell true = Confirmed
 confirmed_cell false = Uncovered
+
+-- how many attributes are uncovered
+abbrev pub uncovered_count : State → ℕ
+uncovered_count state = length (filter (λ cell. not (is_covering cell)) state.cells)

@@ -1,14 +1,15 @@
 //! Whether a rule may be applied with a master row.
 ghost use Rattle.std.specs.Prelude.{◌≢◌, ◌<◌, ◌↔◌, All, [], length, IsTrue};
-ghost use Rattle.fix_model.specs.Application.{AreMatched, Fires, IsEnabled, IsUsable, RowAgreesAt};
+ghost use Rattle.fix_model.specs.Application.{Fires, IsUsable, RowAgreesAt};
 ghost use Rattle.fix_model.specs.Hit.{covered_keys, IsAlikeWhereCovered};
 ghost use Rattle.fix_model.specs.Rules.{master_of, master_text};
 ghost use Rattle.fix_model.specs.States.{Fits, IsCovered, value_at};
 ghost use Rattle.fix_model.specs.Valid.{IsValid, IsValidRule};
 
+use crate::book::enabled;
 use crate::comparison::alike;
 use crate::kit::Kit;
-use crate::pattern::matches;
+use crate::lent_book::LentBook;
 use crate::rule::Rule;
 use crate::state::{State, Step};
 
@@ -27,45 +28,7 @@ pub fn fires(kit: &Kit, state: &State, step: Step) -> bool
     if state.covers(rule.head) {
         return false;
     }
-    is_enabled(kit, state, rule) && row_agrees(kit, state, rule, step.row)
-}
-
-fn is_enabled(kit: &Kit, state: &State, rule: &Rule) -> bool
-    requires valid { IsValid kit.now }
-    requires rule_valid { IsValidRule kit.now rule.now }
-    requires fits { Fits kit.now state.now }
-    ensures { IsTrue result ↔ IsEnabled kit.now state.now rule.now }
-{
-    has_covered_keys(state, rule) && has_covered_conds(state, rule) && are_matched(kit, state, rule)
-}
-
-fn has_covered_keys(state: &State, rule: &Rule) -> bool
-    ensures { IsTrue result ↔ All (λ key. IsCovered state.now key.0) rule.now.keys }
-{
-    rule.keys.as_slice().iter().all(|key| state.covers(key.0))
-}
-
-fn has_covered_conds(state: &State, rule: &Rule) -> bool
-    ensures { IsTrue result ↔ All (λ cond. IsCovered state.now cond.0) rule.now.conds }
-{
-    rule.conds
-        .as_slice()
-        .iter()
-        .all(|cond| state.covers(cond.0))
-}
-
-fn are_matched(kit: &Kit, state: &State, rule: &Rule) -> bool
-    requires valid { IsValid kit.now }
-    requires rule_valid { IsValidRule kit.now rule.now }
-    requires fits { Fits kit.now state.now }
-    ensures { IsTrue result ↔ AreMatched kit.now (value_at kit.now state.now) rule.now }
-{
-    'conds: for cond in rule.conds.as_slice() {
-        if !matches(&cond.1, kit.value(state, cond.0), kit.folds(cond.0)) {
-            return false;
-        }
-    }
-    true
+    enabled::<(), LentBook>(&kit.lend(), state, rule) && row_agrees(kit, state, rule, step.row)
 }
 
 /// Whether the row is usable, and agrees with the values at those keys of the rule that are covered.
@@ -112,13 +75,8 @@ fn is_alike_at_covered(kit: &Kit, state: &State, rule: &Rule, row: u32) -> bool
 {
     let master = kit.master(rule);
     'keys: for key in rule.keys.as_slice() {
-        if state.covers(key.0)
-            && !alike(
-                kit.value(state, key.0),
-                master.cell(row, key.1),
-                kit.folds(key.0),
-            )
-        {
+        let text = kit.value(state, key.0);
+        if state.covers(key.0) && !alike(text, master.cell(row, key.1), kit.folds(key.0)) {
             return false;
         }
     }

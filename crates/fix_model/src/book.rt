@@ -4,8 +4,10 @@ ghost use Rattle.fix_model.specs.declared.kit.Kit.{Kit as KitOf};
 ghost use Rattle.fix_model.specs.Hit.{IsFound, SomeRowAgrees};
 ghost use Rattle.fix_model.specs.Rules.{rule_at, step_text, IsStepOf, is_folded};
 ghost use Rattle.fix_model.specs.States.{Fits, IsCovered, value_at};
-ghost use Rattle.fix_model.specs.Valid.{IsValid};
+ghost use Rattle.fix_model.specs.Application.{AreMatched, IsEnabled};
+ghost use Rattle.fix_model.specs.Valid.{IsValid, IsValidRule};
 
+use crate::pattern::matches;
 use crate::rule::Rule;
 use crate::state::{Cell, State, Step};
 use desk_base::{Steps, Text};
@@ -74,4 +76,45 @@ pub fn value<'a, L, B: Book<L>>(book: &'a B, state: &'a State, attr: u16) -> &'a
         Cell::Fixed(step) => book.text(step),
         Cell::Confirmed | Cell::Uncovered => &state.typed.as_slice()[place],
     }
+}
+
+/// Whether the keys and the conditions of a rule are covered, and each condition matches the value of its
+/// attribute. It takes no memory.
+pub fn enabled<L, B: Book<L>>(book: &B, state: &State, rule: &Rule) -> bool
+    requires fits { Fits (B.kit book.now) state.now }
+    requires rule_valid { IsValidRule (B.kit book.now) rule.now }
+    ensures { IsTrue result ↔ IsEnabled (B.kit book.now) state.now rule.now }
+{
+    has_covered_keys(state, rule)
+        && has_covered_conds(state, rule)
+        && are_matched::<L, B>(book, state, rule)
+}
+
+fn has_covered_keys(state: &State, rule: &Rule) -> bool
+    ensures { IsTrue result ↔ All (λ key. IsCovered state.now key.0) rule.now.keys }
+{
+    rule.keys.as_slice().iter().all(|key| state.covers(key.0))
+}
+
+fn has_covered_conds(state: &State, rule: &Rule) -> bool
+    ensures { IsTrue result ↔ All (λ cond. IsCovered state.now cond.0) rule.now.conds }
+{
+    rule.conds
+        .as_slice()
+        .iter()
+        .all(|cond| state.covers(cond.0))
+}
+
+fn are_matched<L, B: Book<L>>(book: &B, state: &State, rule: &Rule) -> bool
+    requires fits { Fits (B.kit book.now) state.now }
+    requires rule_valid { IsValidRule (B.kit book.now) rule.now }
+    ensures { IsTrue result ↔ AreMatched (B.kit book.now) (value_at (B.kit book.now) state.now) rule.now }
+{
+    'conds: for cond in rule.conds.as_slice() {
+        let text = value::<L, B>(book, state, cond.0);
+        if !matches(&cond.1, text, book.folds(cond.0)) {
+            return false;
+        }
+    }
+    true
 }

@@ -5,6 +5,7 @@ ghost use Rattle.fix_model.specs.Pattern.{IsSized};
 ghost use Rattle.fix_model.specs.States.{Fits, value_at};
 ghost use Rattle.fix_model.specs.Rules.{rule_at, master_of, step_text, IsStepOf, is_folded};
 
+use crate::lent_book::LentBook;
 use crate::pattern::Pat;
 use crate::rule::Rule;
 use crate::state::{Cell, State, Step};
@@ -115,6 +116,14 @@ impl Kit {
             Cell::Fixed(step) => self.step_text(step),
             Cell::Confirmed | Cell::Uncovered => &state.typed.as_slice()[place],
         }
+    }
+
+    /// The kit as a book.
+    pub(crate) fn lend(&self) -> LentBook<'_>
+        requires { IsValid self.now }
+        ensures { result ≡ self.now }
+    {
+        LentBook::new(self)
     }
 
     /// Whether keys and conditions compare this attribute without regard to ASCII case.

@@ -10,13 +10,14 @@ mod application;
 mod book;
 mod comparison;
 mod kit;
+mod lent_book;
 mod list_book;
 mod pattern;
 mod rule;
 mod state;
 
 pub use application::fires;
-pub use book::{Book, Hit, value};
+pub use book::{Book, Hit, enabled, value};
 pub use comparison::alike;
 pub use kit::{Kit, MAX_CONDS, MAX_KEYS, MAX_MASTERS, MAX_RULES, MAX_SET, MAX_WIDTH};
 pub use list_book::ListBook;

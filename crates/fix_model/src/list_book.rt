@@ -1,12 +1,7 @@
-//! The plain book, which looks through all rows of a master.
-ghost use Rattle.std.specs.Prelude.{◌≡◌, ◌≢◌, ◌<◌, ◌↔◌, ℕ, All, length, IsTrue, MatchBool, MatchOption};
-ghost use Rattle.fix_model.specs.Application.{RowAgrees};
-ghost use Rattle.fix_model.specs.Hit.{IsFirstRow, IsMissed, IsOtherRow, SomeRowAgrees};
-ghost use Rattle.fix_model.specs.Rules.{from_text, master_of};
-ghost use Rattle.fix_model.specs.States.{Fits, IsCovered, value_at};
-ghost use Rattle.fix_model.specs.Valid.{IsValid, IsValidRule};
+//! The plain book over a kit of its own.
+ghost use Rattle.std.specs.Prelude.{◌≡◌};
+ghost use Rattle.fix_model.specs.Valid.{IsValid};
 
-use crate::application::row_agrees;
 use crate::book::{Book, Hit};
 use crate::kit::Kit;
 use crate::rule::Rule;
@@ -61,85 +56,10 @@ impl<L> Book<L> for ListBook {
     }
 
     fn find(&self, rule: u16, state: &State, steps: &mut Steps<L>) -> Option<Hit> {
-        steps.look();
-        let rule = self.inside.rule(rule);
-        let first = first_row(&self.inside, state, rule)?;
-        let other = other_row(&self.inside, state, rule, first);
-        Some(Hit { first, other })
+        self.inside.lend().find(rule, state, steps)
     }
 
     fn agrees(&self, rule: u16, state: &State, steps: &mut Steps<L>) -> bool {
-        steps.look();
-        some_row_agrees(&self.inside, state, self.inside.rule(rule))
+        self.inside.lend().agrees(rule, state, steps)
     }
-}
-
-fn first_row(kit: &Kit, state: &State, rule: &Rule) -> Option<u32>
-    requires valid { IsValid kit.now }
-    requires rule_valid { IsValidRule kit.now rule.now }
-    requires fits { Fits kit.now state.now }
-    requires covered { All (λ key. IsCovered state.now key.0) rule.now.keys }
-    ensures { MatchOption result (IsMissed kit.now (value_at kit.now state.now) rule.now)
-        (IsFirstRow kit.now (value_at kit.now state.now) rule.now) }
-{
-    'rows: for row in 0..kit.master(rule).rows() {
-        if row_agrees(kit, state, rule, row) {
-            return Some(row);
-        }
-    }
-    None
-}
-
-fn other_row(kit: &Kit, state: &State, rule: &Rule, first: u32) -> Option<u32>
-    requires valid { IsValid kit.now }
-    requires rule_valid { IsValidRule kit.now rule.now }
-    requires fits { Fits kit.now state.now }
-    requires covered { All (λ key. IsCovered state.now key.0) rule.now.keys }
-    requires first_row { IsFirstRow kit.now (value_at kit.now state.now) rule.now first }
-    ensures { MatchOption result
-        ((row : ℕ) → RowAgrees kit.now (value_at kit.now state.now) rule.now row
-        → from_text kit.now rule.now row ≡ from_text kit.now rule.now first)
-        (IsOtherRow kit.now (value_at kit.now state.now) rule.now first) }
-{
-    'rows: for row in first..kit.master(rule).rows() {
-        if gives_other(kit, state, rule, first, row) {
-            return Some(row);
-        }
-    }
-    None
-}
-
-/// Whether the row agrees and gives another text than the first one.
-fn gives_other(kit: &Kit, state: &State, rule: &Rule, first: u32, row: u32) -> bool
-    requires valid { IsValid kit.now }
-    requires rule_valid { IsValidRule kit.now rule.now }
-    requires fits { Fits kit.now state.now }
-    requires covered { All (λ key. IsCovered state.now key.0) rule.now.keys }
-    requires first_within { first < length (master_of kit.now rule.now).rows }
-    requires row_within { row < length (master_of kit.now rule.now).rows }
-    ensures { MatchBool result
-        (RowAgrees kit.now (value_at kit.now state.now) rule.now row
-        × (from_text kit.now rule.now row ≢ from_text kit.now rule.now first))
-        (RowAgrees kit.now (value_at kit.now state.now) rule.now row
-        → from_text kit.now rule.now row ≡ from_text kit.now rule.now first) }
-{
-    let master = kit.master(rule);
-    if master.cell(row, rule.from).as_str() == master.cell(first, rule.from).as_str() {
-        return false;
-    }
-    row_agrees(kit, state, rule, row)
-}
-
-fn some_row_agrees(kit: &Kit, state: &State, rule: &Rule) -> bool
-    requires valid { IsValid kit.now }
-    requires rule_valid { IsValidRule kit.now rule.now }
-    requires fits { Fits kit.now state.now }
-    ensures { IsTrue result ↔ SomeRowAgrees kit.now state.now rule.now }
-{
-    'rows: for row in 0..kit.master(rule).rows() {
-        if row_agrees(kit, state, rule, row) {
-            return true;
-        }
-    }
-    false
 }

@@ -4,7 +4,7 @@ use Rattle.fix_model.specs.States.{value_at}
 use Rattle.std.proofs.Common.{◌≡◌, ◌∙◌, sym}
 use Rattle.std.specs.Cmp.Lexicographic.{other_text}
 use Rattle.fix_model.proofs.Hits.{covered_keys-all, tells_both}
-use Rattle.fix_model.proofs.list_book.gives_other.Goals as goal
+use Rattle.fix_model.proofs.lent_book.gives_other.Goals as goal
 
 pub returns : goal.returns
 returns c =

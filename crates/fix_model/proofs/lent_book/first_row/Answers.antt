@@ -3,7 +3,7 @@ use borrow.Author.Count.{below_more}
 use Rattle.fix_model.specs.Application.{RowAgrees}
 use Rattle.fix_model.specs.States.{value_at}
 use Rattle.fix_model.proofs.Hits.{covered_keys-all, least_from_none_below}
-use Rattle.fix_model.proofs.list_book.first_row.Goals as goal
+use Rattle.fix_model.proofs.lent_book.first_row.Goals as goal
 
 pub returns-then-row_agrees : goal.returns-then-row_agrees
 returns-then-row_agrees c = record {

@@ -1,0 +1,4 @@
+pub mod Coding
+pub mod Looks
+pub mod Plan
+pub mod Next
