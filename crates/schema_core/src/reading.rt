@@ -1,0 +1,143 @@
+//! From bytes to a schema, one test after the other.
+ghost use Rattle.std.specs.Prelude.{◌≡◌, ◌≢◌, ◌≤◌, [], length, map, Some, None, Ok, Err, IfOk, IfErr};
+ghost use Rattle.toml.specs.View.{view, array_view, table_view};
+ghost use Rattle.schema_core.specs.Reading.{document_of, keys_known, texts_in, texts_of, attribute_fault, first_fault, schema_with, schema_of_values, schema_of_document};
+
+use crate::fault::SchemaFault;
+use crate::schema::{MAX_ATTRIBUTES, Schema};
+use desk_base::{List, Text, is_name, is_word};
+use std::alloc::Global;
+use toml::value::Array;
+use toml::{Table, Value};
+
+/// The document that the bytes write.
+pub fn parse(alloc: Global, bytes: &[u8]) -> Result<Table, SchemaFault>
+    ensures document { IfOk result (λ table. document_of bytes.now ≡ Some (table_view table)) }
+    ensures fault { IfErr result (λ fault. fault ≢ SchemaFault.NoMemory
+        → (fault ≡ SchemaFault.NotToml) × (document_of bytes.now ≡ None)) }
+{
+    match toml::table_from_slice(alloc, bytes) {
+        Ok(table) => Ok(table),
+        Err(error) => {
+            if error.is_memory() {
+                Err(SchemaFault::NoMemory)
+            } else {
+                Err(SchemaFault::NotToml)
+            }
+        }
+    }
+}
+
+/// The schema of a document.
+pub fn schema_of(alloc: Global, table: &Table) -> Result<Schema, SchemaFault>
+    ensures schema { IfOk result (λ schema.
+        schema_of_document (table_view table.now) ≡ Ok schema) }
+    ensures fault { IfErr result (λ fault. fault ≢ SchemaFault.NoMemory
+        → schema_of_document (table_view table.now) ≡ Err fault) }
+{
+    if !has_known_keys(table) {
+        return Err(SchemaFault::UnknownKey);
+    }
+    let name = table.get("name").ok_or(SchemaFault::MissingKey(1))?;
+    let attributes = table.get("attributes").ok_or(SchemaFault::MissingKey(2))?;
+    schema_of_values(alloc, name, attributes)
+}
+
+fn has_known_keys(table: &Table) -> bool
+    ensures { result ≡ keys_known (table_view table.now) }
+{
+    table.keys().all(|key| key.as_str() == "name" || key.as_str() == "attributes")
+}
+
+/// The schema of the values at the two keys.
+fn schema_of_values(alloc: Global, name: &Value, attributes: &Value) -> Result<Schema, SchemaFault>
+    ensures schema { IfOk result (λ schema.
+        schema_of_values (Some (view name.now)) (Some (view attributes.now)) ≡ Ok schema) }
+    ensures fault { IfErr result (λ fault. fault ≢ SchemaFault.NoMemory
+        → schema_of_values (Some (view name.now)) (Some (view attributes.now)) ≡ Err fault) }
+{
+    let name = name.as_str().ok_or(SchemaFault::WrongKind(1))?;
+    let array = attributes.as_array().ok_or(SchemaFault::WrongKind(2))?;
+    let attributes = strings_in(alloc, array)?;
+    schema_with(alloc, name, attributes.as_slice())
+}
+
+/// The strings of an array that holds nothing else.
+fn strings_in<'a>(alloc: Global, array: &'a Array) -> Result<Vec<&'a str>, SchemaFault>
+    ensures strings { IfOk result (λ strings.
+        texts_in (array_view array.now) ≡ Some (map (λ text. text.now) strings.items)) }
+    ensures fault { IfErr result (λ fault. fault ≢ SchemaFault.NoMemory
+        → (fault ≡ SchemaFault.WrongKind 2) × (texts_in (array_view array.now) ≡ None)) }
+{
+    let mut strings = Vec::new(alloc);
+    'items: for item in array {
+        let string = item.as_str().ok_or(SchemaFault::WrongKind(2))?;
+        if strings.push(string).is_err() {
+            return Err(SchemaFault::NoMemory);
+        }
+    }
+    Ok(strings)
+}
+
+/// The schema of a name and attributes.
+fn schema_with(alloc: Global, name: &str, attributes: &[&str]) -> Result<Schema, SchemaFault>
+    ensures schema { IfOk result (λ schema.
+        schema_with name.now (map (λ text. text.now) attributes.now) ≡ Ok schema) }
+    ensures fault { IfErr result (λ fault. fault ≢ SchemaFault.NoMemory
+        → schema_with name.now (map (λ text. text.now) attributes.now) ≡ Err fault) }
+{
+    if !is_name(name.as_bytes()) {
+        return Err(SchemaFault::BadName(0));
+    }
+    if attributes.is_empty() || attributes.len() > MAX_ATTRIBUTES {
+        return Err(SchemaFault::BadCount(attributes.len() as u64));
+    }
+    let attributes = attributes_of(alloc, attributes)?;
+    let name = text_of(alloc, name)?;
+    Ok(Schema { name, attributes })
+}
+
+/// The attributes, where each is a word and none stands twice.
+fn attributes_of(alloc: Global, strings: &[&str]) -> Result<List<Text>, SchemaFault>
+    requires { length strings.now ≤ 48 }
+    ensures attributes { IfOk result (λ attributes.
+        attributes ≡ map (λ text. text.now) strings.now) }
+    ensures sound { IfOk result (λ attributes. first_fault [] attributes ≡ None) }
+    ensures fault { IfErr result (λ fault. fault ≢ SchemaFault.NoMemory
+        → first_fault [] (map (λ text. text.now) strings.now) ≡ Some fault) }
+{
+    let mut attributes = List::new(alloc);
+    'strings: for string in strings {
+        if let Some(fault) = attribute_fault(attributes.as_slice(), string) {
+            return Err(fault);
+        }
+        attributes.push(text_of(alloc, string)?)?;
+    }
+    Ok(attributes)
+}
+
+/// What is wrong with an attribute behind the earlier ones.
+fn attribute_fault(earlier: &[Text], attribute: &str) -> Option<SchemaFault>
+    requires { length earlier.now ≤ 48 }
+    ensures { result ≡ attribute_fault earlier.now attribute.now }
+{
+    let position = earlier.len() as u64 + 1;
+    if !is_word(attribute.as_bytes()) {
+        Some(SchemaFault::BadName(position))
+    } else if earlier.iter().any(|other| attribute == other.as_str()) {
+        Some(SchemaFault::Twice(position))
+    } else {
+        None
+    }
+}
+
+/// The text of a name or a word.
+fn text_of(alloc: Global, string: &str) -> Result<Text, SchemaFault>
+    ensures text { IfOk result (λ text. text ≡ string.now) }
+    ensures fault { IfErr result (λ fault. fault ≡ SchemaFault.NoMemory) }
+{
+    match Text::new(alloc, string.as_bytes()) {
+        Ok(text) => Ok(text),
+        Err(_) => Err(SchemaFault::NoMemory),
+    }
+}

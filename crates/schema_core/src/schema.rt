@@ -1,0 +1,43 @@
+//! Schemas. A clause sees one as a name and a list of attributes, each as bytes.
+ghost use Rattle.std.specs.Prelude.{◌≡◌, ◌≢◌, Ok, Err, IfOk, IfErr};
+ghost use Rattle.schema_core.specs.Schemas.{IsSchema};
+ghost use Rattle.schema_core.specs.Reading.{schema_of};
+
+use crate::fault::SchemaFault;
+use crate::reading::{parse, schema_of};
+use desk_base::{Duplicate, List, NoMemory, Text};
+use std::alloc::Global;
+
+/// The greatest number of attributes of a schema.
+pub const MAX_ATTRIBUTES: usize = 48;
+
+/// The name of a schema, and the attributes of its records in their order.
+#[derive(Debug, Drop)]
+pub struct Schema {
+    pub name: Text,
+    pub attributes: List<Text>,
+}
+
+impl Schema {
+    /// Reads a schema from TOML with exactly the keys `name`, a name, and `attributes`, 1 to 48
+    /// distinct words.
+    pub fn read(alloc: Global, bytes: &[u8]) -> Result<Schema, SchemaFault>
+        ensures schema { IfOk result (λ schema. schema_of bytes.now ≡ Ok schema) }
+        ensures sound { IfOk result IsSchema }
+
+        // Each refusal but want of memory, exactly where it comes.
+        ensures fault { IfErr result (λ fault. fault ≢ SchemaFault.NoMemory
+            → schema_of bytes.now ≡ Err fault) }
+    {
+        let table = parse(alloc, bytes)?;
+        schema_of(alloc, &table)
+    }
+}
+
+impl Duplicate for Schema {
+    fn copy(&self) -> Result<Schema, NoMemory> {
+        let name = self.name.copy()?;
+        let attributes = self.attributes.copy()?;
+        Ok(Schema { name, attributes })
+    }
+}
