@@ -10,10 +10,14 @@ use Rattle.schema_core.specs.declared.schema.Schema.{Schema}
 use Rattle.schema_core.specs.declared.fault.SchemaFault.{SchemaFault}
 use Rattle.schema_core.specs.declared.fault.SchemaFault.TheVariants.{NotToml, UnknownKey, MissingKey, WrongKind, BadName, BadCount, Twice}
 
--- each key is `name` or `attributes`
+-- the key is `name` or `attributes`
+abbrev pub is_known_key : List ℕ → Bool
+is_known_key key = bytes_eq key (codes "name") || bytes_eq key (codes "attributes")
+
+-- each key of a document is one of the two
 abbrev pub keys_known : Members → Bool
 keys_known no_members = true
-keys_known (member key value rest) = (bytes_eq key (codes "name") || bytes_eq key (codes "attributes")) && keys_known rest
+keys_known (member key value rest) = is_known_key key && keys_known rest
 
 -- the strings of an array that holds nothing else
 abbrev pub texts_in : Items → Option (List (List ℕ))

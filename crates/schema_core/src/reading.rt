@@ -1,13 +1,15 @@
 //! From bytes to a schema, one test after the other.
-ghost use Rattle.std.specs.Prelude.{◌≡◌, ◌≢◌, ◌≤◌, [], length, map, Some, None, Ok, Err, IfOk, IfErr};
-ghost use Rattle.toml.specs.View.{view, array_view, table_view};
-ghost use Rattle.schema_core.specs.Reading.{document_of, keys_known, texts_in, texts_of, attribute_fault, first_fault, schema_with, schema_of_values, schema_of_document};
+ghost use Rattle.std.specs.Prelude.{◌≡◌, ◌≢◌, ◌≤◌, [], length, map, option_map, Some, None, Ok, Err, IfOk, IfErr};
+ghost use Rattle.std.specs.List.{list_any};
+ghost use Rattle.std.specs.Str.{bytes_eq};
+ghost use Rattle.toml.specs.Data.{get_member};
+ghost use Rattle.toml.specs.View.{view, items_view, table_view};
+ghost use Rattle.schema_core.specs.Reading.{document_of, is_known_key, keys_known, texts_in, texts_of, attribute_fault, first_fault, schema_with, schema_of_values, schema_of_document};
 
 use crate::fault::SchemaFault;
 use crate::schema::{MAX_ATTRIBUTES, Schema};
 use desk_base::{List, Text, is_name, is_word};
 use std::alloc::Global;
-use toml::value::Array;
 use toml::{Table, Value};
 
 /// The document that the bytes write.
@@ -38,15 +40,32 @@ pub fn schema_of(alloc: Global, table: &Table) -> Result<Schema, SchemaFault>
     if !has_known_keys(table) {
         return Err(SchemaFault::UnknownKey);
     }
-    let name = table.get("name").ok_or(SchemaFault::MissingKey(1))?;
-    let attributes = table.get("attributes").ok_or(SchemaFault::MissingKey(2))?;
+    let Some(name) = value_at(table, "name") else {
+        return Err(SchemaFault::MissingKey(1));
+    };
+    let Some(attributes) = value_at(table, "attributes") else {
+        return Err(SchemaFault::MissingKey(2));
+    };
     schema_of_values(alloc, name, attributes)
 }
 
 fn has_known_keys(table: &Table) -> bool
     ensures { result ≡ keys_known (table_view table.now) }
 {
-    table.keys().all(|key| key.as_str() == "name" || key.as_str() == "attributes")
+    table.keys().all(|key| is_known_key(key.as_str()))
+}
+
+fn is_known_key(key: &str) -> bool
+    ensures { result ≡ is_known_key key.now }
+{
+    key == "name" || key == "attributes"
+}
+
+fn value_at<'a>(table: &'a Table, key: &str) -> Option<&'a Value>
+    ensures { option_map (λ value. view value.now) result
+        ≡ get_member key.now (table_view table.now) }
+{
+    table.get(key)
 }
 
 /// The schema of the values at the two keys.
@@ -56,22 +75,28 @@ fn schema_of_values(alloc: Global, name: &Value, attributes: &Value) -> Result<S
     ensures fault { IfErr result (λ fault. fault ≢ SchemaFault.NoMemory
         → schema_of_values (Some (view name.now)) (Some (view attributes.now)) ≡ Err fault) }
 {
-    let name = name.as_str().ok_or(SchemaFault::WrongKind(1))?;
-    let array = attributes.as_array().ok_or(SchemaFault::WrongKind(2))?;
-    let attributes = strings_in(alloc, array)?;
+    let Some(name) = name.as_str() else {
+        return Err(SchemaFault::WrongKind(1));
+    };
+    let Some(items) = attributes.as_array() else {
+        return Err(SchemaFault::WrongKind(2));
+    };
+    let attributes = strings_in(alloc, items.as_slice())?;
     schema_with(alloc, name, attributes.as_slice())
 }
 
 /// The strings of an array that holds nothing else.
-fn strings_in<'a>(alloc: Global, array: &'a Array) -> Result<Vec<&'a str>, SchemaFault>
+fn strings_in<'a>(alloc: Global, items: &'a [Value]) -> Result<Vec<&'a str>, SchemaFault>
     ensures strings { IfOk result (λ strings.
-        texts_in (array_view array.now) ≡ Some (map (λ text. text.now) strings.items)) }
+        texts_in (items_view items.now) ≡ Some (map (λ text. text.now) strings.items)) }
     ensures fault { IfErr result (λ fault. fault ≢ SchemaFault.NoMemory
-        → (fault ≡ SchemaFault.WrongKind 2) × (texts_in (array_view array.now) ≡ None)) }
+        → (fault ≡ SchemaFault.WrongKind 2) × (texts_in (items_view items.now) ≡ None)) }
 {
     let mut strings = Vec::new(alloc);
-    'items: for item in array {
-        let string = item.as_str().ok_or(SchemaFault::WrongKind(2))?;
+    'items: for item in items {
+        let Some(string) = item.as_str() else {
+            return Err(SchemaFault::WrongKind(2));
+        };
         if strings.push(string).is_err() {
             return Err(SchemaFault::NoMemory);
         }
@@ -124,11 +149,17 @@ fn attribute_fault(earlier: &[Text], attribute: &str) -> Option<SchemaFault>
     let position = earlier.len() as u64 + 1;
     if !is_word(attribute.as_bytes()) {
         Some(SchemaFault::BadName(position))
-    } else if earlier.iter().any(|other| attribute == other.as_str()) {
+    } else if stands_among(earlier, attribute) {
         Some(SchemaFault::Twice(position))
     } else {
         None
     }
+}
+
+fn stands_among(texts: &[Text], string: &str) -> bool
+    ensures { result ≡ list_any (bytes_eq string.now) texts.now }
+{
+    texts.iter().any(|text| string == text.as_str())
 }
 
 /// The text of a name or a word.

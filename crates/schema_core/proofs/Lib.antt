@@ -1,0 +1,5 @@
+pub mod Documents
+pub mod Keys
+pub mod Strings
+pub mod Attributes
+pub mod Sound
