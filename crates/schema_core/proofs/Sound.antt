@@ -22,9 +22,9 @@ faultless : (earlier : List (List ℕ)) (attribute : List ℕ) → attribute_fau
 faultless earlier attribute none =
     elim (cases_Bool (is_word attribute)) [
       | inl word ↦ elim (cases_Bool (list_any (bytes_eq attribute) earlier)) [
-          | inl among ↦ let fault = rw (word, among) at none in absurd cc
-          | inr apart ↦ (word, apart)
-        ]
+        | inl among ↦ let fault = rw (word, among) at none in absurd cc
+        | inr apart ↦ (word, apart)
+      ]
       | inr other ↦ let fault = rw other at none in absurd cc
     ]
 
@@ -70,9 +70,9 @@ fair_attribute : (earlier : List (List ℕ)) (attribute : List ℕ) → IfSome (
 fair_attribute earlier attribute =
     elim (cases_Bool (is_word attribute)) [
       | inl word ↦ elim (cases_Bool (list_any (bytes_eq attribute) earlier)) [
-          | inl among ↦ rw (word, among) (λ same. cc)
-          | inr apart ↦ rw (word, apart) tt
-        ]
+        | inl among ↦ rw (word, among) (λ same. cc)
+        | inr apart ↦ rw (word, apart) tt
+      ]
       | inr other ↦ rw other (λ same. cc)
     ]
 
@@ -88,17 +88,17 @@ fair_with : (name : List ℕ) (attributes : List (List ℕ)) → IsFair (schema_
 fair_with name attributes =
     elim (cases_Bool (is_name name)) [
       | inl named ↦ elim (cases_Bool (length attributes == 0 || nat_lt 48 (length attributes))) [
-          | inl other ↦ rw (named, other) (λ same. cc)
-          | inr counted ↦
-              let (filled, fitting) = or_parts (length attributes == 0) (nat_lt 48 (length attributes)) counted in
-              rw (named, counted) (fair_unless _ _ (fair_first [] attributes) (λ none. record {
-                named = named;
-                some = grind (arith, nat_tests);
-                fits = grind (arith, nat_tests);
-                words = words attributes none;
-                distinct = distinct attributes none
-              }))
-        ]
+        | inl other ↦ rw (named, other) (λ same. cc)
+        | inr counted ↦
+            let (filled, fitting) = or_parts (length attributes == 0) (nat_lt 48 (length attributes)) counted in
+            rw (named, counted) (fair_unless _ _ (fair_first [] attributes) (λ none. record {
+              named = named;
+              some = grind (arith, nat_tests);
+              fits = grind (arith, nat_tests);
+              words = words attributes none;
+              distinct = distinct attributes none;
+            }))
+      ]
       | inr other ↦ rw other (λ same. cc)
     ]
 

@@ -124,7 +124,6 @@ fn schema_with(alloc: Global, name: &str, attributes: &[&str]) -> Result<Schema,
 
 /// The attributes, where each is a word and none stands twice.
 fn attributes_of(alloc: Global, strings: &[&str]) -> Result<List<Text>, SchemaFault>
-    requires { length strings.now ≤ 48 }
     ensures attributes { IfOk result (λ attributes.
         attributes ≡ map (λ text. text.now) strings.now) }
     ensures sound { IfOk result (λ attributes. first_fault [] attributes ≡ None) }
@@ -143,7 +142,6 @@ fn attributes_of(alloc: Global, strings: &[&str]) -> Result<List<Text>, SchemaFa
 
 /// What is wrong with an attribute behind the earlier ones.
 fn attribute_fault(earlier: &[Text], attribute: &str) -> Option<SchemaFault>
-    requires { length earlier.now ≤ 48 }
     ensures { result ≡ attribute_fault earlier.now attribute.now }
 {
     let position = earlier.len() as u64 + 1;
