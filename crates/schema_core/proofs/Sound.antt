@@ -1,5 +1,5 @@
 -- What bytes can read as: schemas, and faults of theirs.
-use Rattle.std.proofs.Common.{◌≡◌, ◌≢◌, ◌∙◌, ℕ, zero, suc, ◌+◌, ◌<◌, ◌≤◌, Bool, true, false, nat_lt, ◌==◌, ◌||◌, List, [], ◌∷◌, ◌++◌, length, length-take, append-nil, get_or, take, sym, refl, arith, Option, Some, None, Result, Ok, Err, inl, inr, MatchResult}
+use Rattle.std.proofs.Common.{◌≡◌, ◌≢◌, ◌∙◌, ℕ, zero, suc, ◌<◌, true, false, nat_lt, ◌==◌, ◌||◌, List, [], ◌∷◌, ◌++◌, length, length-take, append-nil, get_or, take, sym, refl, arith, Option, Some, None, Result, Ok, Err, inl, inr, MatchResult}
 use Rattle.std.specs.Prelude.{codes, AllPairs, All, IsTrue, IfSome}
 use Rattle.std.specs.List.{list_any}
 use Rattle.std.specs.Option.{option_or, option_map_or}
@@ -125,8 +125,13 @@ fair_found (Some members) = fair_document members
 
 -- what bytes read as is a schema, or a fault of theirs
 pub fair : (bytes : List ℕ) → IsFair (schema_of bytes)
+unfolding schema_of
 fair bytes = fair_found (document_of bytes)
 
 -- what a document reads as is a schema
 pub IsSchema-from_document : (members : Members) (schema : Schema) → schema_of_document members ≡ Ok schema → IsSchema schema
 IsSchema-from_document members schema read = rw read at (fair_document members)
+
+-- and so is what bytes read as
+pub IsSchema-from_bytes : (bytes : List ℕ) (schema : Schema) → schema_of bytes ≡ Ok schema → IsSchema schema
+IsSchema-from_bytes bytes schema read = rw read at (fair bytes)

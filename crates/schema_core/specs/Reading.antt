@@ -70,5 +70,5 @@ abbrev pub document_of : List ℕ → Option Members
 document_of bytes = if is_utf8 bytes then parse_document bytes else None
 
 -- what bytes read as
-abbrev pub schema_of : List ℕ → Result Schema SchemaFault
+unfoldable pub schema_of : List ℕ → Result Schema SchemaFault
 schema_of bytes = option_map_or schema_of_document (document_of bytes) (Err NotToml)

@@ -1,5 +1,5 @@
 -- What a schema is.
-use Rattle.std.specs.Prelude.{ℕ, ◌≤◌, ◌≢◌, List, length, All, AllPairs, IsTrue}
+use Rattle.std.specs.Prelude.{◌≤◌, ◌≢◌, length, All, AllPairs, IsTrue}
 use Rattle.desk_base.specs.Words.{is_name, is_word}
 use Rattle.schema_core.specs.declared.schema.Schema.{Schema}
 

@@ -4,9 +4,11 @@ ghost use Rattle.schema_core.specs.declared.fault.SchemaFault.TheVariants as fau
 
 use desk_base::NoMemory;
 
-/// Why some bytes are no schema. The tests come in the order in which the faults stand here, and the
-/// first that the bytes fail is named. A key is 1 for `name` and 2 for `attributes`; an attribute's
-/// position is counted from 1.
+/// Why some bytes are no schema: the first test that they fail.
+///
+/// The tests come in the order in which the faults stand here. The attributes are tested last, one after
+/// the other, each for its form and then against those before it. A key is 1 for `name` and 2 for
+/// `attributes`; an attribute's position is counted from 1.
 #[derive(Clone, Copy, Debug, PartialEq, Eq)]
 pub enum SchemaFault {
     /// They are not UTF-8, or no TOML document.

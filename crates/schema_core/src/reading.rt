@@ -20,13 +20,8 @@ pub fn parse(alloc: Global, bytes: &[u8]) -> Result<Table, SchemaFault>
 {
     match toml::table_from_slice(alloc, bytes) {
         Ok(table) => Ok(table),
-        Err(error) => {
-            if error.is_memory() {
-                Err(SchemaFault::NoMemory)
-            } else {
-                Err(SchemaFault::NotToml)
-            }
-        }
+        Err(error) if error.is_memory() => Err(SchemaFault::NoMemory),
+        Err(_) => Err(SchemaFault::NotToml),
     }
 }
 

@@ -14,13 +14,16 @@ pub const MAX_ATTRIBUTES: usize = 48;
 /// The name of a schema, and the attributes of its records in their order.
 #[derive(Debug, Drop)]
 pub struct Schema {
+    /// A name, in a schema that was read.
     pub name: Text,
+    /// 1 to 48 distinct words, in a schema that was read.
     pub attributes: List<Text>,
 }
 
 impl Schema {
-    /// Reads a schema from TOML with exactly the keys `name`, a name, and `attributes`, 1 to 48
-    /// distinct words.
+    /// Reads a schema from TOML with exactly the keys `name`, a name, and `attributes`, an array of 1
+    /// to 48 distinct words. Otherwise it names the first test that the bytes fail.
+    #[tactic(auto, unfolding(crate::specs::Reading::schema_of))]
     pub fn read(alloc: Global, bytes: &[u8]) -> Result<Schema, SchemaFault>
         ensures schema { IfOk result (λ schema. schema_of bytes.now ≡ Ok schema) }
         ensures sound { IfOk result IsSchema }
