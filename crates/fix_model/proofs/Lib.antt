@@ -1,7 +1,10 @@
 pub mod Counts
 pub mod Covered
+pub mod Deciding
 pub mod Filters
 pub mod Hits
+pub mod Lengths
 pub mod Pairs
+pub mod Plain
 pub mod Runs
 pub mod States

@@ -9,3 +9,4 @@ pub mod Rules
 pub mod Run
 pub mod States
 pub mod Valid
+pub mod Plain

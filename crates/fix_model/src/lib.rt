@@ -10,6 +10,7 @@ mod application;
 mod book;
 mod comparison;
 mod kit;
+pub mod laws;
 mod lent_book;
 mod list_book;
 mod pattern;
