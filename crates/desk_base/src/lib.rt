@@ -16,6 +16,8 @@ mod room;
 mod sink;
 mod source;
 mod steps;
+#[cfg(test)]
+mod tests;
 mod text;
 mod words;
 

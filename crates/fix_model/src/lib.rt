@@ -16,6 +16,8 @@ mod list_book;
 mod pattern;
 mod rule;
 mod state;
+#[cfg(test)]
+mod tests;
 
 pub use application::fires;
 pub use book::{Book, Hit, enabled, value};

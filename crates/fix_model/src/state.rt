@@ -42,11 +42,12 @@ impl State {
     {
         let mut cells = List::new(alloc);
         'flags: for flag in confirmed {
-            cells.push(if *flag {
+            let cell = if *flag {
                 Cell::Confirmed
             } else {
                 Cell::Uncovered
-            })?;
+            };
+            cells.push(cell)?;
         }
         Ok(State { typed, cells })
     }
