@@ -18,8 +18,8 @@ use Rattle.schema_core.specs.Schemas.{IsSchema}
 use Rattle.schema_core.specs.Reading.{keys_known, texts_of, attribute_fault, first_fault, schema_with, schema_of_texts, schema_of_values, schema_of_document, document_of, schema_of}
 
 -- an attribute without a fault is a word that is not among the earlier ones
-faultless : (earlier : List (List ℕ)) (attribute : List ℕ) → attribute_fault earlier attribute ≡ None → (is_word attribute ≡ true) × (list_any (bytes_eq attribute) earlier ≡ false)
-faultless earlier attribute none =
+attribute_fault-None : (earlier : List (List ℕ)) (attribute : List ℕ) → attribute_fault earlier attribute ≡ None → (is_word attribute ≡ true) × (list_any (bytes_eq attribute) earlier ≡ false)
+attribute_fault-None earlier attribute none =
     elim (cases_Bool (is_word attribute)) [
       | inl word ↦ elim (cases_Bool (list_any (bytes_eq attribute) earlier)) [
         | inl among ↦ let fault = rw (word, among) at none in absurd cc
@@ -28,30 +28,31 @@ faultless earlier attribute none =
       | inr other ↦ let fault = rw other at none in absurd cc
     ]
 
-none_of_both : (first other : Option SchemaFault) → option_or first other ≡ None → (first ≡ None) × (other ≡ None)
-none_of_both None other none = (refl, none)
-none_of_both (Some fault) other none = absurd cc
+-- none of two is none of either
+option_or-None : (first other : Option SchemaFault) → option_or first other ≡ None → (first ≡ None) × (other ≡ None)
+option_or-None None other none = (refl, none)
+option_or-None (Some fault) other none = absurd cc
 
 -- where there is no first fault, no attribute has one behind those before it
-faultless_at : (earlier attributes : List (List ℕ)) (i : ℕ) (d : List ℕ) → first_fault earlier attributes ≡ None → i < length attributes → attribute_fault (earlier ++ take i attributes) (get_or attributes i d) ≡ None
-faultless_at earlier [] i d none within = absurd (omega arith)
-faultless_at earlier (attribute ∷ rest) zero d none within = rw append-nil (none_of_both _ _ none).0
-faultless_at earlier (attribute ∷ rest) (suc i) d none within =
+first_fault-None : (earlier attributes : List (List ℕ)) (i : ℕ) (d : List ℕ) → first_fault earlier attributes ≡ None → i < length attributes → attribute_fault (earlier ++ take i attributes) (get_or attributes i d) ≡ None
+first_fault-None earlier [] i d none within = absurd (omega arith)
+first_fault-None earlier (attribute ∷ rest) zero d none within = rw append-nil (option_or-None _ _ none).0
+first_fault-None earlier (attribute ∷ rest) (suc i) d none within =
     let inside : i < length rest = omega arith in
-    let later = faultless_at (earlier ++ attribute ∷ []) rest i d (none_of_both _ _ none).1 inside in
+    let later = first_fault-None (earlier ++ attribute ∷ []) rest i d (option_or-None _ _ none).1 inside in
     rw append_assoc at later
 
 -- so each is a word that is not among those before it
 fresh : (attributes : List (List ℕ)) (i : ℕ) (d : List ℕ) → first_fault [] attributes ≡ None → i < length attributes → (is_word (get_or attributes i d) ≡ true) × (list_any (bytes_eq (get_or attributes i d)) (take i attributes) ≡ false)
-fresh attributes i d none within = faultless (take i attributes) (get_or attributes i d) (faultless_at [] attributes i d none within)
+fresh attributes i d none within = attribute_fault-None (take i attributes) (get_or attributes i d) (first_fault-None [] attributes i d none within)
 
 -- they are words
-words : (attributes : List (List ℕ)) → first_fault [] attributes ≡ None → All (λ attribute. IsTrue (is_word attribute)) attributes
-words attributes none = λ i d within. (fresh attributes i d none within).0
+All-is_word : (attributes : List (List ℕ)) → first_fault [] attributes ≡ None → All (λ attribute. IsTrue (is_word attribute)) attributes
+All-is_word attributes none = λ i d within. (fresh attributes i d none within).0
 
 -- they are distinct
-distinct : (attributes : List (List ℕ)) → first_fault [] attributes ≡ None → AllPairs (λ earlier later. earlier ≢ later) attributes
-distinct attributes none = λ i j d before within same.
+AllPairs-distinct : (attributes : List (List ℕ)) → first_fault [] attributes ≡ None → AllPairs (λ earlier later. earlier ≢ later) attributes
+AllPairs-distinct attributes none = λ i j d before within same.
     let apart = (fresh attributes j d none within).1 in
     let inside : i < length (take j attributes) = omega (arith, length-take j attributes) in
     let found : get_or (take j attributes) i d ≡ get_or attributes i d = get_or-take j attributes i d before in
@@ -62,12 +63,14 @@ distinct attributes none = λ i j d before within same.
 abbrev pub IsFair : Result Schema SchemaFault → Type 0
 IsFair answer = MatchResult answer IsSchema (λ fault. fault ≢ NoMemory)
 
-fair_either : (first other : Option SchemaFault) → IfSome first (λ fault. fault ≢ NoMemory) → IfSome other (λ fault. fault ≢ NoMemory) → IfSome (option_or first other) (λ fault. fault ≢ NoMemory)
-fair_either None other here there = there
-fair_either (Some fault) other here there = here
+-- a fault of the bytes, from either side
+option_or-fair : (first other : Option SchemaFault) → IfSome first (λ fault. fault ≢ NoMemory) → IfSome other (λ fault. fault ≢ NoMemory) → IfSome (option_or first other) (λ fault. fault ≢ NoMemory)
+option_or-fair None other here there = there
+option_or-fair (Some fault) other here there = here
 
-fair_attribute : (earlier : List (List ℕ)) (attribute : List ℕ) → IfSome (attribute_fault earlier attribute) (λ fault. fault ≢ NoMemory)
-fair_attribute earlier attribute =
+-- the fault of an attribute is one of the bytes
+attribute_fault-fair : (earlier : List (List ℕ)) (attribute : List ℕ) → IfSome (attribute_fault earlier attribute) (λ fault. fault ≢ NoMemory)
+attribute_fault-fair earlier attribute =
     elim (cases_Bool (is_word attribute)) [
       | inl word ↦ elim (cases_Bool (list_any (bytes_eq attribute) earlier)) [
         | inl among ↦ rw (word, among) (λ same. cc)
@@ -76,62 +79,69 @@ fair_attribute earlier attribute =
       | inr other ↦ rw other (λ same. cc)
     ]
 
-fair_first : (earlier attributes : List (List ℕ)) → IfSome (first_fault earlier attributes) (λ fault. fault ≢ NoMemory)
-fair_first earlier [] = tt
-fair_first earlier (attribute ∷ rest) = fair_either _ _ (fair_attribute earlier attribute) (fair_first (earlier ++ attribute ∷ []) rest)
+-- and so is the first among attributes
+first_fault-fair : (earlier attributes : List (List ℕ)) → IfSome (first_fault earlier attributes) (λ fault. fault ≢ NoMemory)
+first_fault-fair earlier [] = tt
+first_fault-fair earlier (attribute ∷ rest) = option_or-fair _ _ (attribute_fault-fair earlier attribute) (first_fault-fair (earlier ++ attribute ∷ []) rest)
 
-fair_unless : (schema : Schema) (first : Option SchemaFault) → IfSome first (λ fault. fault ≢ NoMemory) → (first ≡ None → IsSchema schema) → IsFair (option_map_or Err first (Ok schema))
-fair_unless schema None fair sound = sound refl
-fair_unless schema (Some fault) fair sound = fair
+-- an answer is either where the schema is one unless there is a first fault
+IsFair-unless : (schema : Schema) (first : Option SchemaFault) → IfSome first (λ fault. fault ≢ NoMemory) → (first ≡ None → IsSchema schema) → IsFair (option_map_or Err first (Ok schema))
+IsFair-unless schema None fair sound = sound refl
+IsFair-unless schema (Some fault) fair sound = fair
 
-fair_with : (name : List ℕ) (attributes : List (List ℕ)) → IsFair (schema_with name attributes)
-fair_with name attributes =
+-- the answer over a name and attributes is either
+IsFair-schema_with : (name : List ℕ) (attributes : List (List ℕ)) → IsFair (schema_with name attributes)
+IsFair-schema_with name attributes =
     elim (cases_Bool (is_name name)) [
       | inl named ↦ elim (cases_Bool (length attributes == 0 || nat_lt 48 (length attributes))) [
         | inl other ↦ rw (named, other) (λ same. cc)
         | inr counted ↦
             let (filled, fitting) = or_parts (length attributes == 0) (nat_lt 48 (length attributes)) counted in
-            rw (named, counted) (fair_unless _ _ (fair_first [] attributes) (λ none. record {
+            rw (named, counted) (IsFair-unless _ _ (first_fault-fair [] attributes) (λ none. record {
               named = named;
               some = grind (arith, nat_tests);
               fits = grind (arith, nat_tests);
-              words = words attributes none;
-              distinct = distinct attributes none;
+              words = All-is_word attributes none;
+              distinct = AllPairs-distinct attributes none;
             }))
       ]
       | inr other ↦ rw other (λ same. cc)
     ]
 
-fair_texts : (name : Option (List ℕ)) (attributes : Option (List (List ℕ))) → IsFair (schema_of_texts name attributes)
-fair_texts None attributes = λ same. cc
-fair_texts (Some name) None = λ same. cc
-fair_texts (Some name) (Some attributes) = fair_with name attributes
+-- so is the answer over a string and an array of strings
+IsFair-schema_of_texts : (name : Option (List ℕ)) (attributes : Option (List (List ℕ))) → IsFair (schema_of_texts name attributes)
+IsFair-schema_of_texts None attributes = λ same. cc
+IsFair-schema_of_texts (Some name) None = λ same. cc
+IsFair-schema_of_texts (Some name) (Some attributes) = IsFair-schema_with name attributes
 
-fair_values : (name attributes : Option Data) → IsFair (schema_of_values name attributes)
-fair_values None attributes = λ same. cc
-fair_values (Some name) None = λ same. cc
-fair_values (Some name) (Some attributes) = fair_texts (as_str name) (texts_of attributes)
+-- so is the answer over the values at the two keys
+IsFair-schema_of_values : (name attributes : Option Data) → IsFair (schema_of_values name attributes)
+IsFair-schema_of_values None attributes = λ same. cc
+IsFair-schema_of_values (Some name) None = λ same. cc
+IsFair-schema_of_values (Some name) (Some attributes) = IsFair-schema_of_texts (as_str name) (texts_of attributes)
 
-fair_document : (members : Members) → IsFair (schema_of_document members)
-fair_document members =
+-- so is the answer over a document
+IsFair-schema_of_document : (members : Members) → IsFair (schema_of_document members)
+IsFair-schema_of_document members =
     elim (cases_Bool (keys_known members)) [
-      | inl known ↦ rw known (fair_values (get_member (codes "name") members) (get_member (codes "attributes") members))
+      | inl known ↦ rw known (IsFair-schema_of_values (get_member (codes "name") members) (get_member (codes "attributes") members))
       | inr other ↦ rw other (λ same. cc)
     ]
 
-fair_found : (document : Option Members) → IsFair (option_map_or schema_of_document document (Err NotToml))
-fair_found None = λ same. cc
-fair_found (Some members) = fair_document members
+-- so is the answer over a document that may not be there
+IsFair-option_map_or : (document : Option Members) → IsFair (option_map_or schema_of_document document (Err NotToml))
+IsFair-option_map_or None = λ same. cc
+IsFair-option_map_or (Some members) = IsFair-schema_of_document members
 
 -- what bytes read as is a schema, or a fault of theirs
-pub fair : (bytes : List ℕ) → IsFair (schema_of bytes)
+pub IsFair-schema_of : (bytes : List ℕ) → IsFair (schema_of bytes)
 unfolding schema_of
-fair bytes = fair_found (document_of bytes)
+IsFair-schema_of bytes = IsFair-option_map_or (document_of bytes)
 
 -- what a document reads as is a schema
 pub IsSchema-from_document : (members : Members) (schema : Schema) → schema_of_document members ≡ Ok schema → IsSchema schema
-IsSchema-from_document members schema read = rw read at (fair_document members)
+IsSchema-from_document members schema read = rw read at (IsFair-schema_of_document members)
 
 -- and so is what bytes read as
 pub IsSchema-from_bytes : (bytes : List ℕ) (schema : Schema) → schema_of bytes ≡ Ok schema → IsSchema schema
-IsSchema-from_bytes bytes schema read = rw read at (fair bytes)
+IsSchema-from_bytes bytes schema read = rw read at (IsFair-schema_of bytes)

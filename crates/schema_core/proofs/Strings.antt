@@ -8,15 +8,18 @@ use Rattle.toml.specs.View.{view, items_view}
 use Rattle.toml.specs.declared.value.Value.{Value}
 use Rattle.schema_core.specs.Reading.{texts_in}
 
+-- a first text behind none
 one_text : (text : Option (List ℕ)) → option_and_then (λ t. Some (t ∷ [])) text ≡ option_map (λ t. t ∷ []) text
 one_text None = refl
 one_text (Some t) = refl
 
+-- a text at the front, and one at the end
 more_texts : (first : List ℕ) (texts : Option (List (List ℕ))) (last : Option (List ℕ)) → option_map (λ ts. first ∷ ts) (option_and_then (λ ts. option_map (λ t. ts ++ t ∷ []) last) texts) ≡ option_and_then (λ ts. option_map (λ t. ts ++ t ∷ []) last) (option_map (λ ts. first ∷ ts) texts)
 more_texts first None last = refl
 more_texts first (Some ts) None = refl
 more_texts first (Some ts) (Some t) = refl
 
+-- the same, where the one at the front may be no text
 after_text : (first : Option (List ℕ)) (texts : Option (List (List ℕ))) (last : Option (List ℕ)) → option_and_then (λ f. option_map (λ ts. f ∷ ts) (option_and_then (λ ts. option_map (λ t. ts ++ t ∷ []) last) texts)) first ≡ option_and_then (λ ts. option_map (λ t. ts ++ t ∷ []) last) (option_and_then (λ f. option_map (λ ts. f ∷ ts) texts) first)
 after_text None texts last = refl
 after_text (Some f) texts last = more_texts f texts last
@@ -31,6 +34,7 @@ pub texts_in-take_more : (values : List Value) (i : ℕ) (d : Value) (texts : Li
 texts_in-take_more values i d texts text within done next =
     rw (take_more values i d within, items_view-push (take i values) (get_or values i d), texts_in-push_item (items_view (take i values)) (view (get_or values i d)), done, next) refl
 
+-- there is none where the rest has none
 none_after : (first : Option (List ℕ)) → option_and_then (λ f. option_map (λ ts. f ∷ ts) None) first ≡ None
 none_after None = refl
 none_after (Some f) = refl
