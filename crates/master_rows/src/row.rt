@@ -1,0 +1,51 @@
+//! The data rows of a sheet: their tests, and the texts of their cells.
+ghost use Rattle.std.specs.Prelude.{◌≡◌, ◌≢◌, ◌+◌, map, length, IfOk, IfErr, Some, None};
+ghost use Rattle.master_rows.specs.Row.{cells_fault, row_fault};
+
+use crate::error::SheetFault;
+use crate::fields::are_texts;
+use desk_base::{Grid, List, MAX_ROWS, Text, TextFault};
+use std::alloc::Global;
+
+/// The texts of a row's cells, tested one by one.
+fn tested_cells(alloc: Global, row: u64, fields: &[&[u8]]) -> Result<List<Text>, SheetFault>
+    ensures cells { IfOk result (λ cells. cells ≡ map (λ field. field.now) fields.now) }
+    ensures faultless { IfOk result (λ cells. cells_fault row 1 cells ≡ None) }
+    ensures fault { IfErr result (λ fault. fault ≢ SheetFault.NoMemory
+        → cells_fault row 1 (map (λ field. field.now) fields.now) ≡ Some fault) }
+{
+    let mut cells = List::new(alloc);
+    for field in fields {
+        match Text::new(alloc, field) {
+            Ok(cell) => cells.push(cell)?,
+            Err(TextFault::TooLong) => {
+                return Err(SheetFault::CellLong(row, cells.len() as u64 + 1));
+            }
+            // It was found to be UTF-8.
+            Err(_) => return Err(SheetFault::NoMemory),
+        }
+    }
+    Ok(cells)
+}
+
+/// The texts of the row that is to stand behind the others.
+pub(crate) fn next_row(alloc: Global, grid: &Grid, fields: &[&[u8]]) -> Result<List<Text>, SheetFault>
+    ensures cells { IfOk result (λ cells. cells ≡ map (λ field. field.now) fields.now) }
+    ensures faultless { IfOk result (λ cells.
+        row_fault grid.now.columns (length grid.now.rows + 1) cells ≡ None) }
+    ensures fault { IfErr result (λ fault. fault ≢ SheetFault.NoMemory
+        → row_fault grid.now.columns (length grid.now.rows + 1) (map (λ field. field.now) fields.now)
+            ≡ Some fault) }
+{
+    let row = u64::from(grid.rows()) + 1;
+    if grid.rows() == MAX_ROWS {
+        return Err(SheetFault::TooManyRows);
+    }
+    if fields.len() != usize::from(grid.columns()) {
+        return Err(SheetFault::Ragged(row));
+    }
+    if !are_texts(fields) {
+        return Err(SheetFault::NotUtf8(row));
+    }
+    tested_cells(alloc, row, fields)
+}
