@@ -1,0 +1,40 @@
+-- The fields of a record, one by one, and what they hold.
+use Rattle.std.proofs.Common.{◌≡◌, ℕ, zero, suc, ◌+◌, ◌<◌, List, [], ◌∷◌, ◌++◌, Bool, true, false, Bor, length, get_or, take, drop, map, refl, sym, ap, ◌∙◌, arith, inl, inr}
+use Rattle.std.specs.Prelude.{Option, Some, None, IsUtf8}
+use Rattle.std.specs.Str.{is_utf8}
+use Rattle.std.proofs.lemmas.Bool.{cases_Bool}
+use Rattle.std.proofs.lemmas.Str.{IsUtf8-from_is_utf8}
+use Rattle.csv.specs.Records.{field_at}
+
+-- what is no UTF-8 fails the test
+pub is_utf8-fails : (bytes : List ℕ) → (IsUtf8 bytes → ⊥) → is_utf8 bytes ≡ false
+is_utf8-fails bytes refused = elim (cases_Bool (is_utf8 bytes)) [
+  | inl passed ↦ absurd (refused (IsUtf8-from_is_utf8 bytes passed))
+  | inr failed ↦ failed
+]
+
+-- the front of the fields grows by the next of them
+pub take-field_at : (fields : List (List ℕ)) (place : ℕ) (field : List ℕ) → field_at fields place ≡ Some field → take (suc place) fields ≡ take place fields ++ field ∷ []
+unfolding field_at
+take-field_at [] place field h = absurd cc
+take-field_at (x ∷ rest) zero field h = cc
+take-field_at (x ∷ rest) (suc place) field h = ap (λ l. x ∷ l) (take-field_at rest place field h)
+
+-- each place has a field
+pub field_at-some : (fields : List (List ℕ)) (place : ℕ) → place < length fields → field_at fields place ≡ None → ⊥
+unfolding field_at
+field_at-some [] place within none = absurd (omega arith)
+field_at-some (x ∷ rest) zero within none = absurd cc
+field_at-some (x ∷ rest) (suc place) within none = field_at-some rest place (omega arith) none
+
+-- what is left of the texts begins with that of the field at hand
+pub drop-texts : (fields : List (Bor (List ℕ))) (place : ℕ) (d : Bor (List ℕ)) → place < length fields → drop place (map (λ field. field.now) fields) ≡ (get_or fields place d).now ∷ drop (suc place) (map (λ field. field.now) fields)
+drop-texts [] place d within = absurd (omega arith)
+drop-texts (x ∷ rest) zero d within = refl
+drop-texts (x ∷ rest) (suc place) d within = drop-texts rest place d (omega arith)
+
+-- the front of the texts grows by that of the field at hand
+pub take-texts : (fields : List (Bor (List ℕ))) (place : ℕ) (d : Bor (List ℕ)) → place < length fields → take (suc place) (map (λ field. field.now) fields) ≡ take place (map (λ field. field.now) fields) ++ (get_or fields place d).now ∷ []
+take-texts [] place d within = absurd (omega arith)
+take-texts (x ∷ rest) zero d within = refl
+take-texts (x ∷ rest) (suc place) d within = ap (λ l. x.now ∷ l) (take-texts rest place d (omega arith))

@@ -1,0 +1,21 @@
+use Rattle.std.proofs.Common.{◌≡◌, ◌+◌, ◌++◌, ◌∷◌, [], List, ℕ, Bor, map, length, sym, ap, ◌∙◌, rules, arith, false}
+use Rattle.std.specs.Prelude.{IfErr, Err, Some, None, is_none}
+use Rattle.std.proofs.lemmas.Grind.{common_steps}
+use Rattle.csv.specs.Records.{fields_of}
+use Rattle.master_rows.specs.Row.{row_fault}
+use Rattle.master_rows.proofs.Faults.{read_records-taken, HasNoFault-row}
+use Rattle.master_rows.proofs.draft.Draft.take.Goals as goal
+
+pub returns-in_err-row-clause-fault : goal.returns-in_err-row-clause-fault
+returns-in_err-row-clause-fault c =
+    let inside = c.self.inside in
+    let begun : is_none inside.columns ≡ false = search rules in
+    let is : c.from_residual-in_err-row.result ≡ Err c.in_err-row.field-0.0 = search rules in
+    let fault = rw (c.as_slice-2.ensures.value, c.in_ok-fields.ensures) at c.in_err-row.ensures.fault in
+    rw is (λ apart later. rw (← c.self.view_is) (read_records-taken inside.columns inside.grid (fields_of c.args.next.now) later c.in_err-row.field-0.0 begun c.self.invariant (fault apart)))
+
+pub invariant_of-self-2 : goal.invariant_of-self-2
+invariant_of-self-2 c =
+    let inside = c.self.inside in
+    let begun : is_none inside.columns ≡ false = search rules in
+    rw c.in_ok-push_row.ensures.pushed (HasNoFault-row inside.columns inside.grid c.in_ok-row.row begun c.self.invariant c.in_ok-row.ensures.faultless)
