@@ -5,7 +5,7 @@ use Rattle.std.proofs.lemmas.Bool.{cases_Bool}
 use Rattle.std.proofs.lemmas.List.{append-nil}
 use Rattle.std.proofs.lemmas.List.Elements.{All-nil, All-cons}
 use Rattle.csv.specs.Machine.{Read, step, is_end, next_record, fields_after, field_after, ends_at_end, in_field, start_field, start_record, after_end}
-use Rattle.csv.specs.Reading.{AreRecords, Reached, records, records_from, default_config}
+use Rattle.csv.specs.Reading.{AreRecords, Reached, records, records_from, records_next, default_config}
 use Rattle.csv.specs.declared.parser.State.{State}
 use Rattle.csv.specs.declared.parser.State.TheVariants as st
 use Rattle.csv.specs.declared.parser.Action.{Action}
@@ -84,16 +84,15 @@ pub record IsFront (rows all : List (List (List ℕ))) (s : State) (rest : List 
   pub enough : length rest < fuel
   pub between : ends_at_end s ≡ false
   pub front : all ≡ rows ++ records_from default_config fuel s rest
-  pub fields : All (λ row. 1 ≤ length row) rows
 
 reached_front : (fuel : ℕ) (s s2 : State) (text rest : List ℕ) (rows : List (List (List ℕ))) → ends_at_end s ≡ false → length text < fuel → Reached default_config s text rows s2 rest → IsFront rows (records_from default_config fuel s text) s2 rest
 unfolding Reached records_from
 reached_front zero s s2 text rest rows apart enough h = absurd (omega arith)
-reached_front (suc fuel) s s2 text rest [] apart enough h = rw (← h.0, ← h.1) (record { fuel = suc fuel; enough = enough; between = apart; front = refl; fields = All-nil (λ row. 1 ≤ length row) })
+reached_front (suc fuel) s s2 text rest [] apart enough h = rw (← h.0, ← h.1) (record { fuel = suc fuel; enough = enough; between = apart; front = refl })
 reached_front (suc fuel) s s2 text rest (row ∷ rows) apart enough h =
     let taken = next-taken s [] [] text h.0 h.1 in
     let later = reached_front fuel h.0.1 s2 h.0.2 rest rows taken.between (omega (arith, taken.shorter apart)) h.3 in
-    record { fuel = later.fuel; enough = later.enough; between = later.between; front = rw (h.1, h.2) (ap (λ l. h.0.0 ∷ l) later.front); fields = rw h.2 (All-cons (λ row. 1 ≤ length row) h.0.0 rows taken.some later.fields) }
+    record { fuel = later.fuel; enough = later.enough; between = later.between; front = rw (h.1, h.2) (ap (λ l. h.0.0 ∷ l) later.front) }
 
 -- of all records of a text
 pub records-reached : (text rest : List ℕ) (rows : List (List (List ℕ))) (s : State) → Reached default_config st.StartRecord text rows s rest → IsFront rows (records default_config text) s rest
@@ -110,3 +109,16 @@ pub records-end : (text rest : List ℕ) (rows : List (List (List ℕ))) (s : St
 records-end text rest rows s h end =
     let all = records-reached text rest rows s h in
     sym (all.front ∙ ap (λ more. rows ++ more) (records_from-none all.fuel s rest end) ∙ append-nil rows)
+
+records_next-some : (next : Option Read) (more : State → List ℕ → List (List (List ℕ))) → ((taken : Read) → next ≡ Some taken → 1 ≤ length taken.0) → ((s : State) (text : List ℕ) → All (λ row. 1 ≤ length row) (more s text)) → All (λ row. 1 ≤ length row) (records_next more next)
+records_next-some None more here later = All-nil (λ row. 1 ≤ length row)
+records_next-some (Some taken) more here later = All-cons (λ row. 1 ≤ length row) taken.0 (more taken.1 taken.2) (here taken refl) (later taken.1 taken.2)
+
+-- each record of a text has a field
+records_from-some : (fuel : ℕ) (s : State) (text : List ℕ) → All (λ row. 1 ≤ length row) (records_from default_config fuel s text)
+unfolding records_from
+records_from-some zero s text = All-nil (λ row. 1 ≤ length row)
+records_from-some (suc fuel) s text = records_next-some (next_record default_config s [] [] text) (records_from default_config fuel) (λ taken is. (next-taken s [] [] text taken is).some) (records_from-some fuel)
+
+pub records-some : (text : List ℕ) → All (λ row. 1 ≤ length row) (records default_config text)
+records-some text = records_from-some (length text + 1) st.StartRecord text

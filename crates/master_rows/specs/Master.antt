@@ -1,6 +1,5 @@
 -- The masters that a sheet can give.
-use Rattle.std.specs.Prelude.{◌≡◌, ◌≤◌, ℕ, Bool, true, false, List, length, All, IsUtf8, bytes_eq}
-use Rattle.std.specs.List.{IsDistinct}
+use Rattle.std.specs.Prelude.{◌≡◌, ◌≢◌, ◌≤◌, ℕ, false, List, length, All, AllPairs, IsUtf8}
 use Rattle.master_rows.specs.Mark.{begins_with_mark}
 use Rattle.master_rows.specs.declared.master.Master.{Master}
 
@@ -26,7 +25,7 @@ pub record IsMaster (master : Master) : Type 0 where
   pub headed : 1 ≤ length master.columns
   pub narrow : length master.columns ≤ 48
   pub columns : All IsColumn master.columns
-  pub distinct : IsDistinct bytes_eq master.columns
+  pub distinct : AllPairs (λ one other. one ≢ other) master.columns
   pub width : master.grid.columns ≡ length master.columns
   pub few : length master.grid.rows ≤ 20000
   pub rows : All (IsRow (length master.columns)) master.grid.rows

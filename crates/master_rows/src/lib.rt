@@ -9,6 +9,7 @@ mod error;
 mod fields;
 mod header;
 mod master;
+mod print;
 mod row;
 #[cfg(test)]
 mod tests;

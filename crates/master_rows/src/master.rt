@@ -6,6 +6,7 @@ ghost use Rattle.master_rows.specs.Sheet.{read_sheet, sheet_of};
 
 use crate::draft::Draft;
 use crate::error::SheetFault;
+use crate::print::sheet_bytes;
 use desk_base::{Duplicate, Grid, List, NoMemory, Text};
 use std::alloc::Global;
 
@@ -45,8 +46,11 @@ impl Master {
         ensures sheet { IfOk result (λ sheet. sheet ≡ sheet_of self.now) }
         ensures reads_back { IfOk result (λ sheet. read_sheet sheet ≡ Ok self.now) }
     {
-        let _alloc = alloc;
-        Err(NoMemory)
+        match sheet_bytes(alloc, self) {
+            Ok(bytes) => Ok(List::from_vec(bytes)),
+            // A sheet in memory is written without failing, so only memory was wanting.
+            Err(_) => Err(NoMemory),
+        }
     }
 }
 
