@@ -8,6 +8,7 @@ mod draft;
 mod error;
 mod fields;
 mod header;
+pub mod laws;
 mod master;
 mod print;
 mod row;
