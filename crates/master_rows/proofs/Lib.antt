@@ -1,5 +1,6 @@
 pub mod Records
 pub mod Faults
+pub mod Memory
 pub mod Sheets
 pub mod Masters
 pub mod Written

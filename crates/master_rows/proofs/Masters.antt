@@ -87,8 +87,8 @@ columns_fault-differ earlier [] columns differ = refl
 columns_fault-differ earlier (column ∷ later) columns differ =
     let good = is_column-IsColumn column (All-head IsColumn column later columns) in
     let new = stands_among-none earlier column (λ k d within.
-      let inside : length earlier < length (earlier ++ column ∷ later) = omega (arith, length-append earlier (column ∷ later)) in
-      rw (get_or-append earlier (column ∷ later) d k within, get_or-append_seam earlier column later d) at (differ k (length earlier) d within inside)) in
+    let inside : length earlier < length (earlier ++ column ∷ later) = omega (arith, length-append earlier (column ∷ later)) in
+    rw (get_or-append earlier (column ∷ later) d k within, get_or-append_seam earlier column later d) at (differ k (length earlier) d within inside)) in
     columns_fault-next earlier later column good new ∙ columns_fault-differ (earlier ++ column ∷ []) later (All-tail IsColumn column later columns) (rw append_assoc differ)
 
 -- cells without a fault are short
@@ -147,7 +147,7 @@ pub read_records-master : (master : Master) → IsMaster master → read_records
 read_records-master master is = read_records-faultless master.columns master.grid (record {
   header = header_fault-differ master.columns is.narrow is.columns is.distinct;
   rows = rows_fault-rows (length master.columns) 1 master.grid.rows is.rows (omega (arith, is.few));
-  width = is.width
+  width = is.width;
 })
 
 -- what is given has no fault

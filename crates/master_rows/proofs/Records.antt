@@ -5,6 +5,7 @@ use Rattle.std.specs.Str.{is_utf8}
 use Rattle.std.proofs.lemmas.Bool.{cases_Bool}
 use Rattle.std.proofs.lemmas.Str.{IsUtf8-from_is_utf8}
 use Rattle.csv.specs.Records.{field_at}
+use Rattle.master_rows.specs.Fields.{bytes_of}
 
 -- what is no UTF-8 fails the test
 pub is_utf8-fails : (bytes : List ℕ) → (IsUtf8 bytes → ⊥) → is_utf8 bytes ≡ false
@@ -28,13 +29,13 @@ field_at-some (x ∷ rest) zero within none = absurd cc
 field_at-some (x ∷ rest) (suc place) within none = field_at-some rest place (omega arith) none
 
 -- what is left of the texts begins with that of the field at hand
-pub drop-texts : (fields : List (Bor (List ℕ))) (place : ℕ) (d : Bor (List ℕ)) → place < length fields → drop place (map (λ field. field.now) fields) ≡ (get_or fields place d).now ∷ drop (suc place) (map (λ field. field.now) fields)
+pub drop-texts : (fields : List (Bor (List ℕ))) (place : ℕ) (d : Bor (List ℕ)) → place < length fields → drop place (bytes_of fields) ≡ (get_or fields place d).now ∷ drop (suc place) (bytes_of fields)
 drop-texts [] place d within = absurd (omega arith)
 drop-texts (x ∷ rest) zero d within = refl
 drop-texts (x ∷ rest) (suc place) d within = drop-texts rest place d (omega arith)
 
 -- the front of the texts grows by that of the field at hand
-pub take-texts : (fields : List (Bor (List ℕ))) (place : ℕ) (d : Bor (List ℕ)) → place < length fields → take (suc place) (map (λ field. field.now) fields) ≡ take place (map (λ field. field.now) fields) ++ (get_or fields place d).now ∷ []
+pub take-texts : (fields : List (Bor (List ℕ))) (place : ℕ) (d : Bor (List ℕ)) → place < length fields → take (suc place) (bytes_of fields) ≡ take place (bytes_of fields) ++ (get_or fields place d).now ∷ []
 take-texts [] place d within = absurd (omega arith)
 take-texts (x ∷ rest) zero d within = refl
 take-texts (x ∷ rest) (suc place) d within = ap (λ l. x.now ∷ l) (take-texts rest place d (omega arith))

@@ -1,4 +1,5 @@
 pub mod Mark
+pub mod Fields
 pub mod Header
 pub mod Row
 pub mod Sheet

@@ -1,5 +1,5 @@
 //! A master that grows record by record. A clause sees a `Draft` as the records that it has taken.
-ghost use Rattle.std.specs.Prelude.{◌≡◌, ◌≢◌, ℕ, List, [], ◌∷◌, ◌++◌, IfOk, IfErr, OnOk, Err};
+ghost use Rattle.std.specs.Prelude.{◌≡◌, ◌≢◌, ℕ, List, [], ◌∷◌, ◌++◌, IfOk, IfErr, OnOk, OnErr, Err};
 ghost use Rattle.csv.specs.Records.{fields_of};
 ghost use Rattle.master_rows.specs.Sheet.{read_records, sheet_records};
 
@@ -47,6 +47,7 @@ impl Draft {
     /// Takes the next record: the header, or a row under it.
     fn take(&mut self, next: &ByteRecord) -> Result<(), SheetFault>
         ensures taken { OnOk result (self.new ≡ self.old ++ fields_of next.now ∷ []) }
+        ensures unchanged { OnErr result (self.new ≡ self.old) }
         ensures fault { IfErr result (λ fault. fault ≢ SheetFault.NoMemory
             → (later : List (List (List ℕ)))
             → read_records (self.old ++ fields_of next.now ∷ later) ≡ Err fault) }

@@ -1,9 +1,10 @@
 //! The header of a sheet: its tests, and the columns that it names.
-ghost use Rattle.std.specs.Prelude.{◌≡◌, ◌≢◌, map, IfOk, IfErr, Some, None, []};
+ghost use Rattle.std.specs.Prelude.{◌≡◌, ◌≢◌, IfOk, IfErr, Some, None, []};
 ghost use Rattle.std.specs.List.{list_all};
 ghost use Rattle.std.specs.Str.{is_utf8};
 ghost use Rattle.master_rows.specs.Mark.{begins_with_mark};
 ghost use Rattle.master_rows.specs.Header.{is_column, stands_among, columns_fault, header_fault};
+ghost use Rattle.master_rows.specs.Fields.{bytes_of};
 
 use crate::error::SheetFault;
 use crate::fields::are_texts;
@@ -30,15 +31,17 @@ fn is_column(text: &[u8]) -> bool
 fn stands_among(columns: &[Text], text: &[u8]) -> bool
     ensures { result ≡ stands_among columns.now text.now }
 {
-    columns.iter().any(|column| text == column.as_str().as_bytes())
+    columns
+        .iter()
+        .any(|column| text == column.as_str().as_bytes())
 }
 
 /// The columns, tested one by one.
 fn tested_columns(alloc: Global, fields: &[&[u8]]) -> Result<List<Text>, SheetFault>
-    ensures columns { IfOk result (λ columns. columns ≡ map (λ field. field.now) fields.now) }
+    ensures columns { IfOk result (λ columns. columns ≡ bytes_of fields.now) }
     ensures faultless { IfOk result (λ columns. columns_fault [] columns ≡ None) }
     ensures fault { IfErr result (λ fault. fault ≢ SheetFault.NoMemory
-        → columns_fault [] (map (λ field. field.now) fields.now) ≡ Some fault) }
+        → columns_fault [] (bytes_of fields.now) ≡ Some fault) }
 {
     let mut columns = List::new(alloc);
     for field in fields {
@@ -60,10 +63,10 @@ fn tested_columns(alloc: Global, fields: &[&[u8]]) -> Result<List<Text>, SheetFa
 
 /// The columns that a header names.
 pub(crate) fn header_columns(alloc: Global, fields: &[&[u8]]) -> Result<List<Text>, SheetFault>
-    ensures columns { IfOk result (λ columns. columns ≡ map (λ field. field.now) fields.now) }
+    ensures columns { IfOk result (λ columns. columns ≡ bytes_of fields.now) }
     ensures faultless { IfOk result (λ columns. header_fault columns ≡ None) }
     ensures fault { IfErr result (λ fault. fault ≢ SheetFault.NoMemory
-        → header_fault (map (λ field. field.now) fields.now) ≡ Some fault) }
+        → header_fault (bytes_of fields.now) ≡ Some fault) }
 {
     if !are_texts(fields) {
         return Err(SheetFault::NotUtf8(0));

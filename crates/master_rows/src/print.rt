@@ -1,6 +1,7 @@
 //! The sheet of a master, record by record.
-ghost use Rattle.std.specs.Prelude.{◌≡◌, ◌<◌, ◌+◌, [], map, length, slice_index_or, IfOk};
+ghost use Rattle.std.specs.Prelude.{◌≡◌, ◌<◌, ◌+◌, [], length, slice_index_or, IfOk};
 ghost use Rattle.master_rows.specs.Sheet.{sheet_of};
+ghost use Rattle.master_rows.specs.Fields.{bytes_of};
 
 use crate::master::Master;
 use csv::{Error, WriterBuilder};
@@ -9,7 +10,7 @@ use std::alloc::Global;
 
 /// The fields of a header.
 fn header_fields(alloc: Global, columns: &[Text]) -> Result<Vec<&[u8]>, Error>
-    ensures { IfOk result (λ fields. map (λ field. field.now) fields.items ≡ columns.now) }
+    ensures { IfOk result (λ fields. bytes_of fields.items ≡ columns.now) }
 {
     let mut fields = Vec::new(alloc);
     for column in columns {
@@ -25,11 +26,14 @@ fn row_fields(alloc: Global, grid: &Grid, row: u32) -> Result<Vec<&[u8]>, Error>
     requires within { row < length grid.now.rows }
     requires full { length (slice_index_or grid.now.rows row []) ≡ grid.now.columns }
     ensures { IfOk result (λ fields.
-        map (λ field. field.now) fields.items ≡ slice_index_or grid.now.rows row []) }
+        bytes_of fields.items ≡ slice_index_or grid.now.rows row []) }
 {
     let mut fields = Vec::new(alloc);
     for column in 0..grid.columns() {
-        if fields.push(grid.cell(row, column).as_str().as_bytes()).is_err() {
+        if fields
+            .push(grid.cell(row, column).as_str().as_bytes())
+            .is_err()
+        {
             return Err(Error::out_of_memory());
         }
     }

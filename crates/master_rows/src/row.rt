@@ -1,6 +1,7 @@
 //! The data rows of a sheet: their tests, and the texts of their cells.
-ghost use Rattle.std.specs.Prelude.{◌≡◌, ◌≢◌, ◌+◌, map, length, IfOk, IfErr, Some, None};
+ghost use Rattle.std.specs.Prelude.{◌≡◌, ◌≢◌, ◌+◌, length, IfOk, IfErr, Some, None};
 ghost use Rattle.master_rows.specs.Row.{cells_fault, row_fault};
+ghost use Rattle.master_rows.specs.Fields.{bytes_of};
 
 use crate::error::SheetFault;
 use crate::fields::are_texts;
@@ -9,10 +10,10 @@ use std::alloc::Global;
 
 /// The texts of a row's cells, tested one by one.
 fn tested_cells(alloc: Global, row: u64, fields: &[&[u8]]) -> Result<List<Text>, SheetFault>
-    ensures cells { IfOk result (λ cells. cells ≡ map (λ field. field.now) fields.now) }
+    ensures cells { IfOk result (λ cells. cells ≡ bytes_of fields.now) }
     ensures faultless { IfOk result (λ cells. cells_fault row 1 cells ≡ None) }
     ensures fault { IfErr result (λ fault. fault ≢ SheetFault.NoMemory
-        → cells_fault row 1 (map (λ field. field.now) fields.now) ≡ Some fault) }
+        → cells_fault row 1 (bytes_of fields.now) ≡ Some fault) }
 {
     let mut cells = List::new(alloc);
     for field in fields {
@@ -29,13 +30,17 @@ fn tested_cells(alloc: Global, row: u64, fields: &[&[u8]]) -> Result<List<Text>,
 }
 
 /// The texts of the row that is to stand behind the others.
-pub(crate) fn next_row(alloc: Global, grid: &Grid, fields: &[&[u8]]) -> Result<List<Text>, SheetFault>
-    ensures cells { IfOk result (λ cells. cells ≡ map (λ field. field.now) fields.now) }
+pub(crate) fn next_row(
+    alloc: Global,
+    grid: &Grid,
+    fields: &[&[u8]],
+) -> Result<List<Text>, SheetFault>
+    ensures cells { IfOk result (λ cells. cells ≡ bytes_of fields.now) }
     ensures faultless { IfOk result (λ cells.
         row_fault grid.now.columns (length grid.now.rows + 1) cells ≡ None) }
     ensures fault { IfErr result (λ fault. fault ≢ SheetFault.NoMemory
-        → row_fault grid.now.columns (length grid.now.rows + 1) (map (λ field. field.now) fields.now)
-            ≡ Some fault) }
+        → row_fault grid.now.columns (length grid.now.rows + 1) (bytes_of fields.now)
+        ≡ Some fault) }
 {
     let row = u64::from(grid.rows()) + 1;
     if grid.rows() == MAX_ROWS {

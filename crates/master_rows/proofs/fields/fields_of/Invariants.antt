@@ -1,6 +1,7 @@
 use Rattle.std.proofs.Common.{◌≡◌, map, take}
 use Rattle.csv.specs.Records.{fields_of}
+use Rattle.master_rows.specs.Fields.{bytes_of}
 use Rattle.master_rows.proofs.fields.fields_of.Given as goal
 
 abbrev pub invariant-loop-place : goal.invariant-loop-place
-invariant-loop-place l = map (λ field. field.now) l.fields.items ≡ take l.place (fields_of l.source)
+invariant-loop-place l = bytes_of l.fields.items ≡ take l.place (fields_of l.source)

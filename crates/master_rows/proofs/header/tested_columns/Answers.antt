@@ -1,5 +1,6 @@
 use Rattle.std.proofs.Common.{◌≡◌, ◌<◌, ◌≤◌, ◌++◌, ◌∷◌, [], ℕ, List, Bor, suc, map, take, drop, get_or, length, sym, ap, ◌∙◌, refl, arith, add-one}
 use Rattle.std.proofs.lemmas.List.{take_all, drop_all, length-map}
+use Rattle.master_rows.specs.Fields.{bytes_of}
 use Rattle.master_rows.specs.Header.{is_column, stands_among, columns_fault}
 use Rattle.master_rows.proofs.Records.{drop-texts, take-texts}
 use Rattle.master_rows.proofs.Faults.{columns_fault-bad, columns_fault-twice, columns_fault-next}
@@ -11,7 +12,7 @@ loop-field-init c = rw c.new-columns.ensures (refl, refl)
 pub returns-then-not-is_column-clause-fault : goal.returns-then-not-is_column-clause-fault
 returns-then-not-is_column-clause-fault c =
     let bad = sym c.is_column.ensures ∙ c.if-not-is_column.true in
-    let texts = map (λ (field : Bor (List ℕ)). field.now) c.args.fields.now in
+    let texts = bytes_of c.args.fields.now in
     let place = c.loop-field.field-index in
     let field = get_or c.args.fields.now place (record { ref_ptr = (0, 0); now = [] }) in
     rw c.len.ensures (λ _. c.loop-field.invariant.1
@@ -22,7 +23,7 @@ pub returns-then-stands_among-clause-fault : goal.returns-then-stands_among-clau
 returns-then-stands_among-clause-fault c =
     let good = sym c.is_column.ensures ∙ c.if-not-is_column.false in
     let twice = sym (rw c.as_slice.ensures at c.stands_among.ensures) ∙ c.if-stands_among.true in
-    let texts = map (λ (field : Bor (List ℕ)). field.now) c.args.fields.now in
+    let texts = bytes_of c.args.fields.now in
     let place = c.loop-field.field-index in
     let field = get_or c.args.fields.now place (record { ref_ptr = (0, 0); now = [] }) in
     rw c.len.ensures (λ _. c.loop-field.invariant.1
@@ -33,24 +34,25 @@ pub loop-field-preserved : goal.loop-field-preserved
 loop-field-preserved c =
     let good = sym c.is_column.ensures ∙ c.if-not-is_column.false in
     let new = sym (rw c.as_slice.ensures at c.stands_among.ensures) ∙ c.if-stands_among.false in
-    let texts = map (λ (field : Bor (List ℕ)). field.now) c.args.fields.now in
+    let texts = bytes_of c.args.fields.now in
     let place = c.loop-field.field-index in
     let field = get_or c.args.fields.now place (record { ref_ptr = (0, 0); now = [] }) in
     let grown = rw c.in-Ok.ensures.text at c.in_ok-push-in-Ok.ensures.pushed in
     rw (grown, add-one) (
       ap (λ (front : List (List ℕ)). front ++ field.now ∷ []) c.loop-field.invariant.0 ∙ sym (take-texts c.args.fields.now place _ c.loop-field-test.true),
       c.loop-field.invariant.1
-      ∙ ap (columns_fault c.loop-field.columns) (drop-texts c.args.fields.now place _ c.loop-field-test.true)
-      ∙ columns_fault-next c.loop-field.columns (drop (suc place) texts) field.now good new)
+          ∙ ap (columns_fault c.loop-field.columns) (drop-texts c.args.fields.now place _ c.loop-field-test.true)
+          ∙ columns_fault-next c.loop-field.columns (drop (suc place) texts) field.now good new,
+    )
 
 pub returns-clause-columns : goal.returns-clause-columns
 returns-clause-columns c =
-    let texts = map (λ (field : Bor (List ℕ)). field.now) c.args.fields.now in
+    let texts = bytes_of c.args.fields.now in
     c.loop-field.invariant.0 ∙ take_all c.loop-field.field-index texts (rw length-map c.loop-field-test.false)
 
 pub returns-clause-faultless : goal.returns-clause-faultless
 returns-clause-faultless c =
-    let texts = map (λ (field : Bor (List ℕ)). field.now) c.args.fields.now in
+    let texts = bytes_of c.args.fields.now in
     let place = c.loop-field.field-index in
     let past : length texts ≤ place = rw length-map c.loop-field-test.false in
     let all : c.loop-field.columns ≡ texts = c.loop-field.invariant.0 ∙ take_all place texts past in

@@ -1,4 +1,4 @@
-use Rattle.master_rows.proofs.Faults.{read_sheet-memory}
+use Rattle.master_rows.proofs.Memory.{read_sheet-memory}
 use Rattle.master_rows.proofs.laws.memory_is_no_fault.Goals as goal
 
 pub returns : goal.returns

@@ -24,7 +24,7 @@ loop-record-init c =
       config = rw (flexible, plain) at reader.config ∙ c.new.ensures.config;
       rest = strip_bom c.args.sheet.now;
       source = reader.source;
-      reached = (sym reader.state, refl)
+      reached = (sym reader.state, refl);
     })
 
 pub loop-record-preserved : goal.loop-record-preserved
@@ -39,7 +39,7 @@ loop-record-preserved c =
       config = step.0.2 ∙ before.config;
       rest = more.0;
       source = more.1;
-      reached = more.2
+      reached = more.2;
     })
 
 pub returns-in_err-take-clause-fault : goal.returns-in_err-take-clause-fault
