@@ -35,18 +35,6 @@ cells_fault-long row column cell later long = rw (lt-ltb 200 (length cell) long)
 pub cells_fault-next : (row column : ℕ) (cell : List ℕ) (later : List (List ℕ)) → length cell ≤ 200 → cells_fault row column (cell ∷ later) ≡ cells_fault row (column + 1) later
 cells_fault-next row column cell later short = rw (le-ltb 200 (length cell) short) refl
 
--- a row past the last one
-pub row_fault-many : (columns row : ℕ) (cells : List (List ℕ)) → 20000 < row → row_fault columns row cells ≡ Some TooManyRows
-row_fault-many columns row cells past = rw (lt-ltb 20000 row past) refl
-
--- a row of another width
-pub row_fault-ragged : (columns row : ℕ) (cells : List (List ℕ)) → row ≤ 20000 → length cells ≢ columns → row_fault columns row cells ≡ Some (Ragged row)
-row_fault-ragged columns row cells within other = rw (le-ltb 20000 row within, ne_eqb (length cells) columns other) refl
-
--- a row that is no text
-pub row_fault-bytes : (columns row : ℕ) (cells : List (List ℕ)) → row ≤ 20000 → length cells ≡ columns → list_all is_utf8 cells ≡ false → row_fault columns row cells ≡ Some (NotUtf8 row)
-row_fault-bytes columns row cells within full bytes = rw (le-ltb 20000 row within, eq-eqb (length cells) columns full, bytes) refl
-
 -- a row whose cells alone are left to test
 pub row_fault-cells : (columns row : ℕ) (cells : List (List ℕ)) → row ≤ 20000 → length cells ≡ columns → list_all is_utf8 cells ≡ true → row_fault columns row cells ≡ cells_fault row 1 cells
 row_fault-cells columns row cells within full texts = rw (le-ltb 20000 row within, eq-eqb (length cells) columns full, texts) refl

@@ -1,5 +1,5 @@
 -- What a reader has given of a sheet so far stands at the front of all its records.
-use Rattle.std.proofs.Common.{◌≡◌, ℕ, zero, suc, ◌+◌, ◌<◌, ◌≤◌, ◌==◌, List, [], ◌∷◌, ◌++◌, Bool, true, false, ◌||◌, if◌then◌else◌, length, length-append, refl, sym, ap, ◌∙◌, arith, inl, inr}
+use Rattle.std.proofs.Common.{◌≡◌, ℕ, zero, suc, ◌+◌, ◌<◌, ◌≤◌, ◌==◌, List, [], ◌∷◌, ◌++◌, Bool, true, false, ◌||◌, if◌then◌else◌, length, length-append, append_assoc, refl, sym, ap, ◌∙◌, arith, inl, inr}
 use Rattle.std.specs.Prelude.{Option, Some, None, All}
 use Rattle.std.proofs.lemmas.Bool.{cases_Bool}
 use Rattle.std.proofs.lemmas.List.{append-nil}
@@ -79,11 +79,11 @@ next-taken s fields field (c ∷ rest) taken h = elim (cases_Bool (is_end (step 
 ]
 
 -- the records that were reached stand in front of those that are left
-pub record IsFront (rows all : List (List (List ℕ))) (s : State) (rest : List ℕ) : Type 0 where
-  pub fuel : ℕ
-  pub enough : length rest < fuel
-  pub between : ends_at_end s ≡ false
-  pub front : all ≡ rows ++ records_from default_config fuel s rest
+record IsFront (rows all : List (List (List ℕ))) (s : State) (rest : List ℕ) : Type 0 where
+  fuel : ℕ
+  enough : length rest < fuel
+  between : ends_at_end s ≡ false
+  front : all ≡ rows ++ records_from default_config fuel s rest
 
 reached_front : (fuel : ℕ) (s s2 : State) (text rest : List ℕ) (rows : List (List (List ℕ))) → ends_at_end s ≡ false → length text < fuel → Reached default_config s text rows s2 rest → IsFront rows (records_from default_config fuel s text) s2 rest
 unfolding Reached records_from
@@ -95,8 +95,15 @@ reached_front (suc fuel) s s2 text rest (row ∷ rows) apart enough h =
     record { fuel = later.fuel; enough = later.enough; between = later.between; front = rw (h.1, h.2) (ap (λ l. h.0.0 ∷ l) later.front) }
 
 -- of all records of a text
-pub records-reached : (text rest : List ℕ) (rows : List (List (List ℕ))) (s : State) → Reached default_config st.StartRecord text rows s rest → IsFront rows (records default_config text) s rest
+records-reached : (text rest : List ℕ) (rows : List (List (List ℕ))) (s : State) → Reached default_config st.StartRecord text rows s rest → IsFront rows (records default_config text) s rest
 records-reached text rest rows s h = reached_front (length text + 1) st.StartRecord s text rest rows refl (omega arith) h
+
+-- what holds however the records that were reached go on holds of all records
+pub records-however : {X : Type 0} (f : List (List (List ℕ)) → X) (x : X) (text rest : List ℕ) (rows : List (List (List ℕ))) (row : List (List ℕ)) (s : State) → Reached default_config st.StartRecord text (rows ++ row ∷ []) s rest → ((later : List (List (List ℕ))) → f (rows ++ row ∷ later) ≡ x) → f (records default_config text) ≡ x
+records-however f x text rest rows row s h however =
+    let all = records-reached text rest (rows ++ row ∷ []) s h in
+    let later = records_from default_config all.fuel s rest in
+    ap f (all.front ∙ append_assoc rows (row ∷ []) later) ∙ however later
 
 -- where there is no next record, none are left
 records_from-none : (fuel : ℕ) (s : State) (rest : List ℕ) → next_record default_config s [] [] rest ≡ None → records_from default_config fuel s rest ≡ []

@@ -6,9 +6,6 @@ use Rattle.master_rows.proofs.Records.{drop-texts, take-texts}
 use Rattle.master_rows.proofs.Faults.{columns_fault-bad, columns_fault-twice, columns_fault-next}
 use Rattle.master_rows.proofs.header.tested_columns.Goals as goal
 
-pub loop-field-init : goal.loop-field-init
-loop-field-init c = rw c.new-columns.ensures (refl, refl)
-
 pub returns-then-not-is_column-clause-fault : goal.returns-then-not-is_column-clause-fault
 returns-then-not-is_column-clause-fault c =
     let bad = sym c.is_column.ensures ∙ c.if-not-is_column.true in
@@ -38,22 +35,9 @@ loop-field-preserved c =
     let place = c.loop-field.field-index in
     let field = get_or c.args.fields.now place (record { ref_ptr = (0, 0); now = [] }) in
     let grown = rw c.in-Ok.ensures.text at c.in_ok-push-in-Ok.ensures.pushed in
-    rw (grown, add-one) (
+    rw (grown, add-one place) (
       ap (λ (front : List (List ℕ)). front ++ field.now ∷ []) c.loop-field.invariant.0 ∙ sym (take-texts c.args.fields.now place _ c.loop-field-test.true),
       c.loop-field.invariant.1
           ∙ ap (columns_fault c.loop-field.columns) (drop-texts c.args.fields.now place _ c.loop-field-test.true)
           ∙ columns_fault-next c.loop-field.columns (drop (suc place) texts) field.now good new,
     )
-
-pub returns-clause-columns : goal.returns-clause-columns
-returns-clause-columns c =
-    let texts = bytes_of c.args.fields.now in
-    c.loop-field.invariant.0 ∙ take_all c.loop-field.field-index texts (rw length-map c.loop-field-test.false)
-
-pub returns-clause-faultless : goal.returns-clause-faultless
-returns-clause-faultless c =
-    let texts = bytes_of c.args.fields.now in
-    let place = c.loop-field.field-index in
-    let past : length texts ≤ place = rw length-map c.loop-field-test.false in
-    let all : c.loop-field.columns ≡ texts = c.loop-field.invariant.0 ∙ take_all place texts past in
-    ap (columns_fault []) all ∙ c.loop-field.invariant.1 ∙ ap (columns_fault c.loop-field.columns) (drop_all place texts past)

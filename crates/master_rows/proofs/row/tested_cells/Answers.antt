@@ -21,7 +21,7 @@ loop-field-preserved c =
     let place = c.loop-field.field-index in
     let field = get_or c.args.fields.now place (record { ref_ptr = (0, 0); now = [] }) in
     let grown = rw c.in-Ok.ensures.text at c.in_ok-push-in-Ok.ensures.pushed in
-    rw (grown, add-one, length-append) (
+    rw (grown, add-one place, length-append) (
       ap (λ (front : List (List ℕ)). front ++ field.now ∷ []) c.loop-field.invariant.0 ∙ sym (take-texts c.args.fields.now place _ c.loop-field-test.true),
       c.loop-field.invariant.1
           ∙ ap (cells_fault c.args.row (length c.loop-field.cells + 1)) (drop-texts c.args.fields.now place _ c.loop-field-test.true)

@@ -4,8 +4,8 @@ use Rattle.csv.specs.Reading.{Reached, records_from, reader_state, default_confi
 use Rattle.csv.specs.Records.{fields_of}
 use Rattle.csv.specs.declared.parser.State.TheVariants as st
 use Rattle.csv.proofs.ReadFacts.{rows-end, rows-more}
-use Rattle.master_rows.specs.Sheet.{read_records}
-use Rattle.master_rows.proofs.Sheets.{records-reached, records-end}
+use Rattle.master_rows.specs.Sheet.{read_records, sheet_records}
+use Rattle.master_rows.proofs.Sheets.{records-however, records-end}
 use Rattle.master_rows.proofs.draft.Draft.of_sheet.Invariants.{GoesOn}
 use Rattle.master_rows.proofs.draft.Draft.of_sheet.Goals as goal
 
@@ -46,13 +46,10 @@ pub returns-in_err-take-clause-fault : goal.returns-in_err-take-clause-fault
 returns-in_err-take-clause-fault c =
     let before = c.loop-record.invariant in
     let taken = fields_of c.in_ok-record.field-0 in
-    let state = reader_state c.next.new.self.rdr in
     let step = rw (c.in-Some.is, c.in_ok-record.was) at ((c.next.ensures.steps before.some before.untrimmed).0 before.ready) in
     let more = rows-more (λ (s : Bor (List ℕ)). Some s.now) c.loop-record.record-iterator.rdr c.next.new.self.rdr taken default_config st.StartRecord (strip_bom c.args.sheet.now) before.rest c.loop-record.draft before.config before.source before.reached step.0 in
-    let all = records-reached (strip_bom c.args.sheet.now) more.0 (c.loop-record.draft ++ taken ∷ []) state more.2 in
-    let later = records_from default_config all.fuel state more.0 in
     let is : c.from_residual-in_err-take.result ≡ Err c.in_err-take.field-0.0 = search rules in
-    rw is (λ apart. ap read_records (all.front ∙ append_assoc c.loop-record.draft (taken ∷ []) later) ∙ c.in_err-take.ensures.fault apart later)
+    rw is (λ apart. records-however read_records (Err c.in_err-take.field-0.0) (strip_bom c.args.sheet.now) more.0 c.loop-record.draft taken (reader_state c.next.new.self.rdr) more.2 (c.in_err-take.ensures.fault apart))
 
 pub returns : goal.returns
 returns c =
