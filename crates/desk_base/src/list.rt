@@ -81,6 +81,11 @@ impl<T> List<T> {
         self.items.as_slice()
     }
 
+    /// The allocator that the list was made with.
+    pub fn allocator(&self) -> Global {
+        *self.items.allocator()
+    }
+
     /// Hands out the items in their order. It takes no memory.
     pub fn into_vec(self) -> Vec<T>
         ensures { result.items ≡ self }
@@ -91,7 +96,7 @@ impl<T> List<T> {
 
 impl<T: Duplicate + Drop> Duplicate for List<T> {
     fn copy(&self) -> Result<List<T>, NoMemory> {
-        let items = copies(*self.items.allocator(), self.items.as_slice())?;
+        let items = copies(self.allocator(), self.items.as_slice())?;
         Ok(List { items })
     }
 }

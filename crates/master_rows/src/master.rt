@@ -41,12 +41,12 @@ impl Master {
     }
 
     /// The sheet of this master, which reads back to an equal one.
-    pub fn print(&self, alloc: Global) -> Result<List<u8>, NoMemory>
+    pub fn print(&self) -> Result<List<u8>, NoMemory>
         requires { IsMaster self.now }
         ensures sheet { IfOk result (λ sheet. sheet ≡ sheet_of self.now) }
         ensures reads_back { IfOk result (λ sheet. read_sheet sheet ≡ Ok self.now) }
     {
-        match sheet_bytes(alloc, self) {
+        match sheet_bytes(self.columns.allocator(), self) {
             Ok(bytes) => Ok(List::from_vec(bytes)),
             // A sheet in memory is written without failing, so only memory was wanting.
             Err(_) => Err(NoMemory),

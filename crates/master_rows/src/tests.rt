@@ -81,7 +81,7 @@ fn sheets_print_as_they_read(rt: HostRuntime) -> Result<(), Fail> {
     for (case, sheet, printed) in rows {
         let master = Master::read(rt.alloc(), sheet)?;
         let copy = master.copy()?;
-        assert_eq!(rt; copy.print(rt.alloc())?.as_slice(), printed, "{case}");
+        assert_eq!(rt; copy.print()?.as_slice(), printed, "{case}");
     }
     Ok(())
 }
