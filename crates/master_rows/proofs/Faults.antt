@@ -1,19 +1,16 @@
 -- The first fault of a header and of rows, step by step.
-use Rattle.std.proofs.Common.{◌≡◌, ◌≢◌, ℕ, zero, suc, ◌+◌, ◌<◌, ◌≤◌, ◌==◌, List, [], ◌∷◌, ◌++◌, Bool, true, false, length, refl, sym, ap, ◌∙◌, arith, inl, inr}
+use Rattle.std.proofs.Common.{◌≡◌, ℕ, ◌+◌, ◌<◌, ◌≤◌, ◌==◌, List, [], ◌∷◌, ◌++◌, true, false, length, refl, ap, ◌∙◌, arith, inl, inr}
 use Rattle.std.specs.Prelude.{Option, Some, None, Ok, Err, nat_lt, is_none}
 use Rattle.std.specs.List.{list_all}
-use Rattle.std.specs.Bool.{if◌then◌else◌}
 use Rattle.std.specs.Str.{is_utf8}
-use Rattle.std.proofs.lemmas.Bool.{cases_Bool, lt-ltb, le-ltb, ltb-false, eq-eqb, eqb-true, ne_eqb}
+use Rattle.std.proofs.lemmas.Bool.{cases_Bool, lt-ltb, le-ltb, ltb-false, eq-eqb, eqb-true}
 use Rattle.desk_base.specs.Grid.{Table}
 use Rattle.master_rows.specs.Header.{is_column, stands_among, columns_fault, header_fault}
 use Rattle.master_rows.specs.Row.{cells_fault, row_fault, rows_fault, first_fault}
-use Rattle.master_rows.specs.Sheet.{read_sheet, sheet_records, read_records, master_of, unless}
-use Rattle.master_rows.specs.Mark.{begins_with_two_marks}
-use Rattle.master_rows.specs.declared.master.Master.{Master}
+use Rattle.master_rows.specs.Sheet.{read_records}
 use Rattle.master_rows.specs.Draft.{IsFaultless, HasNoFault, records_taken}
 use Rattle.master_rows.specs.declared.error.SheetFault.{SheetFault}
-use Rattle.master_rows.specs.declared.error.SheetFault.TheVariants.{NotUtf8, BadColumn, ColumnTwice, Ragged, CellLong, TooManyRows, TooManyColumns, NoMemory}
+use Rattle.master_rows.specs.declared.error.SheetFault.TheVariants.{BadColumn, ColumnTwice, CellLong}
 
 -- a text that may not stand as a column
 pub columns_fault-bad : (earlier later : List (List ℕ)) (column : List ℕ) → is_column column ≡ false → columns_fault earlier (column ∷ later) ≡ Some (BadColumn (length earlier + 1))

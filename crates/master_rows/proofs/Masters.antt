@@ -1,28 +1,28 @@
 -- The masters that a sheet can give are those whose records have no fault.
-use Rattle.std.proofs.Common.{◌≡◌, ◌≢◌, ℕ, zero, suc, ◌+◌, ◌<◌, ◌≤◌, ◌==◌, ◌&&◌, ◌||◌, not, List, [], ◌∷◌, ◌++◌, Bool, true, false, length, length-append, get_or, refl, sym, ap, ◌∙◌, arith, inl, inr}
-use Rattle.std.specs.Prelude.{Option, Some, None, Result, Ok, Err, IfOk, nat_lt, nat_le, bytes_eq, All, AllPairs, Any, IsUtf8}
-use Rattle.std.specs.List.{list_all, list_any, AllPass}
+use Rattle.std.proofs.Common.{◌≡◌, ◌≢◌, ℕ, zero, suc, ◌+◌, ◌<◌, ◌≤◌, ◌&&◌, ◌||◌, not, List, [], ◌∷◌, ◌++◌, Bool, true, false, length, length-append, get_or, refl, sym, ◌∙◌, arith, inl, inr}
+use Rattle.std.specs.Prelude.{Option, Some, None, Result, Ok, Err, IfOk, nat_lt, bytes_eq, All, AllPairs}
+use Rattle.std.specs.List.{list_all}
 use Rattle.std.specs.Str.{is_utf8}
 use Rattle.std.proofs.Math.ListN.{get_or-append}
 use Rattle.std.proofs.Math.Seq.{get_or-append_seam}
-use Rattle.std.proofs.lemmas.Bool.{cases_Bool, lt-ltb, le-ltb, ltb-true, ltb-false, le-leb, leb-true, eq-eqb}
+use Rattle.std.proofs.lemmas.Bool.{cases_Bool, lt-ltb, le-ltb, ltb-true, ltb-false, le-leb, leb-true}
 use Rattle.std.proofs.lemmas.Str.{IsUtf8-from_is_utf8, is_utf8-from_IsUtf8}
 use Rattle.std.proofs.lemmas.Slice.Eq.{bytes_eq-Decides}
 use Rattle.std.proofs.lemmas.List.{append-nil, append_assoc}
 use Rattle.std.proofs.lemmas.List.Elements.{All-nil, All-cons, All-head, All-tail}
 use Rattle.std.proofs.lemmas.List.Folds.{list_any_none}
-use Rattle.std.proofs.lemmas.List.Sums.{AllPass-from_list_all, list_all-from_AllPass}
+use Rattle.std.proofs.lemmas.List.Sums.{list_all-from_AllPass}
 use Rattle.std.proofs.lemmas.List.Quantifiers.{all_pairs_push}
 use Rattle.master_rows.specs.Mark.{begins_with_mark, begins_with_two_marks}
 use Rattle.master_rows.specs.Header.{is_column, stands_among, columns_fault, header_fault}
-use Rattle.master_rows.specs.Row.{cells_fault, row_fault, rows_fault, first_fault}
-use Rattle.master_rows.specs.Sheet.{read_sheet, sheet_records, read_records, master_of, master_records, unless}
+use Rattle.master_rows.specs.Row.{cells_fault, rows_fault}
+use Rattle.master_rows.specs.Sheet.{read_sheet, sheet_records, read_records, master_records, unless}
 use Rattle.master_rows.specs.Master.{IsColumn, IsCell, IsRow, IsMaster}
 use Rattle.master_rows.specs.declared.error.SheetFault.{SheetFault}
 use Rattle.master_rows.specs.declared.master.Master.{Master}
 use Rattle.csv.specs.Reading.{strip_bom}
 use Rattle.master_rows.proofs.Sheets.{records-some}
-use Rattle.master_rows.proofs.Faults.{IsFine, row_fault-none, row_fault-cells, first_fault-none, cells_fault-next, columns_fault-bad, columns_fault-twice, columns_fault-next, read_records-faultless}
+use Rattle.master_rows.proofs.Faults.{row_fault-none, row_fault-cells, first_fault-none, cells_fault-next, columns_fault-bad, columns_fault-twice, columns_fault-next, read_records-faultless}
 
 -- both parts of a test that passed
 pub both : (a b : Bool) → (a && b) ≡ true → (a ≡ true) × (b ≡ true)

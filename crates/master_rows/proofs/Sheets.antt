@@ -4,8 +4,8 @@ use Rattle.std.specs.Prelude.{Option, Some, None, All}
 use Rattle.std.proofs.lemmas.Bool.{cases_Bool}
 use Rattle.std.proofs.lemmas.List.{append-nil}
 use Rattle.std.proofs.lemmas.List.Elements.{All-nil, All-cons}
-use Rattle.csv.specs.Machine.{Read, step, is_end, next_record, fields_after, field_after, ends_at_end, in_field, start_field, start_record, after_end}
-use Rattle.csv.specs.Reading.{AreRecords, Reached, records, records_from, records_next, default_config}
+use Rattle.csv.specs.Machine.{Read, step, is_end, next_record, fields_after, field_after, ends_at_end, in_field, start_record}
+use Rattle.csv.specs.Reading.{Reached, records, records_from, records_next, default_config}
 use Rattle.csv.specs.declared.parser.State.{State}
 use Rattle.csv.specs.declared.parser.State.TheVariants as st
 use Rattle.csv.specs.declared.parser.Action.{Action}

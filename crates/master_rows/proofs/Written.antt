@@ -1,17 +1,17 @@
 -- What is printed reads back.
-use Rattle.std.proofs.Common.{◌≡◌, ◌≢◌, ℕ, zero, suc, ◌+◌, ◌<◌, ◌≤◌, ◌==◌, ◌&&◌, ◌||◌, not, List, [], ◌∷◌, ◌++◌, Bool, true, false, length, take, refl, sym, ap, ◌∙◌, arith, inl, inr, append_assoc}
-use Rattle.std.specs.Prelude.{Some, None, Ok, All, nat_eq}
+use Rattle.std.proofs.Common.{◌≡◌, ℕ, ◌≤◌, ◌==◌, ◌&&◌, List, [], ◌∷◌, ◌++◌, Bool, true, false, length, refl, sym, ◌∙◌, arith, inl, inr, append_assoc}
+use Rattle.std.specs.Prelude.{Ok, All, nat_eq}
 use Rattle.std.specs.List.{flat_map, list_any, starts_with}
-use Rattle.std.proofs.lemmas.Bool.{cases_Bool, eq-eqb, eqb-true, ne_eqb}
+use Rattle.std.proofs.lemmas.Bool.{cases_Bool, eqb-true, ne_eqb}
 use Rattle.std.proofs.lemmas.List.{append-nil}
-use Rattle.std.proofs.lemmas.List.Elements.{All-nil, All-cons, All-head, All-tail}
+use Rattle.std.proofs.lemmas.List.Elements.{All-cons, All-head, All-tail}
 use Rattle.csv.specs.Machine.{next_record}
-use Rattle.csv.specs.Reading.{Reached, default_config, records, records_from, strip_bom, is_bom}
-use Rattle.csv.specs.Writing.{default_writer, field_text, fields_text, needs_byte, quoted, read_back, row_text, is_blank}
+use Rattle.csv.specs.Reading.{Reached, default_config, records, strip_bom, is_bom}
+use Rattle.csv.specs.Writing.{default_writer, field_text, fields_text, needs_byte, row_text, is_blank}
 use Rattle.csv.specs.declared.parser.State.TheVariants as st
 use Rattle.csv.proofs.RoundTrip.{read-write}
 use Rattle.master_rows.specs.Mark.{begins_with_mark, begins_with_two_marks, byte_order_mark}
-use Rattle.master_rows.specs.Sheet.{read_sheet, read_records, sheet_of, sheet_records, master_records}
+use Rattle.master_rows.specs.Sheet.{read_sheet, sheet_of, master_records}
 use Rattle.master_rows.specs.Master.{IsMaster, IsColumn}
 use Rattle.master_rows.specs.declared.master.Master.{Master}
 use Rattle.master_rows.proofs.Sheets.{records-end}

@@ -3,7 +3,6 @@ use Rattle.std.specs.Prelude.{ℕ, List, [], ◌∷◌, length, Option, Some, No
 use Rattle.std.specs.List.{flat_map}
 use Rattle.csv.specs.Reading.{records, default_config, strip_bom}
 use Rattle.csv.specs.Writing.{row_text, default_writer}
-use Rattle.desk_base.specs.Grid.{Table}
 use Rattle.master_rows.specs.Mark.{begins_with_two_marks}
 use Rattle.master_rows.specs.Header.{header_fault}
 use Rattle.master_rows.specs.Row.{first_fault, rows_fault}

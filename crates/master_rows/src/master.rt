@@ -27,7 +27,8 @@ fn begins_with_two_marks(sheet: &[u8]) -> bool
 }
 
 impl Master {
-    /// Reads a sheet, or tells its first fault. `NoMemory` alone may come in place of any answer.
+    /// Reads a sheet: CSV, with one byte order mark at its start passed over. The first record is the
+    /// header. A fault is the first one that the sheet has; `NoMemory` may come in place of any answer.
     pub fn read(alloc: Global, sheet: &[u8]) -> Result<Master, SheetFault>
         ensures master { IfOk result (λ master. read_sheet sheet.now ≡ Ok master) }
         ensures sound { IfOk result IsMaster }
@@ -40,7 +41,7 @@ impl Master {
         Draft::of_sheet(alloc, sheet)?.finish()
     }
 
-    /// The sheet of this master, which reads back to an equal one.
+    /// The sheet of this master, with LF at the end of each line. It reads back to an equal master.
     pub fn print(&self) -> Result<List<u8>, NoMemory>
         requires { IsMaster self.now }
         ensures sheet { IfOk result (λ sheet. sheet ≡ sheet_of self.now) }

@@ -1,8 +1,7 @@
-use Rattle.std.proofs.Common.{◌≡◌, ◌<◌, ◌≤◌, ◌++◌, ◌∷◌, [], ℕ, List, Bor, map, length, true, take, sym, ap, ◌∙◌, rules, arith, add-one}
-use Rattle.std.specs.Prelude.{Some, None}
+use Rattle.std.proofs.Common.{◌≡◌, ◌<◌, ◌++◌, ◌∷◌, [], ℕ, List, Bor, length, true, sym, ap, ◌∙◌, rules, arith, add-one}
 use Rattle.std.specs.Result.{is_ok}
 use Rattle.std.proofs.lemmas.List.{map-append, take_all}
-use Rattle.csv.specs.Records.{fields_of, field_at}
+use Rattle.csv.specs.Records.{fields_of}
 use Rattle.master_rows.proofs.Records.{take-field_at, field_at-some}
 use Rattle.master_rows.proofs.fields.fields_of.Goals as goal
 use Rattle.master_rows.proofs.fields.fields_of.Goals.{in-Some+else-is_err, in_default}

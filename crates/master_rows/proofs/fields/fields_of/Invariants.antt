@@ -1,4 +1,4 @@
-use Rattle.std.proofs.Common.{◌≡◌, map, take}
+use Rattle.std.proofs.Common.{◌≡◌, take}
 use Rattle.csv.specs.Records.{fields_of}
 use Rattle.master_rows.specs.Fields.{bytes_of}
 use Rattle.master_rows.proofs.fields.fields_of.Given as goal

@@ -1,7 +1,6 @@
-use Rattle.std.proofs.Common.{◌≡◌, ◌<◌, ◌≤◌, ◌++◌, ◌∷◌, [], ℕ, List, Bor, suc, map, take, drop, get_or, length, sym, ap, ◌∙◌, refl, arith, add-one}
-use Rattle.std.proofs.lemmas.List.{take_all, drop_all, length-map}
+use Rattle.std.proofs.Common.{◌++◌, ◌∷◌, [], ℕ, List, suc, drop, get_or, sym, ap, ◌∙◌, add-one}
 use Rattle.master_rows.specs.Fields.{bytes_of}
-use Rattle.master_rows.specs.Header.{is_column, stands_among, columns_fault}
+use Rattle.master_rows.specs.Header.{columns_fault}
 use Rattle.master_rows.proofs.Records.{drop-texts, take-texts}
 use Rattle.master_rows.proofs.Faults.{columns_fault-bad, columns_fault-twice, columns_fault-next}
 use Rattle.master_rows.proofs.header.tested_columns.Goals as goal

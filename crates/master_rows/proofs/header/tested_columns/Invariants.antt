@@ -1,4 +1,4 @@
-use Rattle.std.proofs.Common.{◌≡◌, [], map, take, drop}
+use Rattle.std.proofs.Common.{◌≡◌, [], take, drop}
 use Rattle.master_rows.specs.Fields.{bytes_of}
 use Rattle.master_rows.specs.Header.{columns_fault}
 use Rattle.master_rows.proofs.header.tested_columns.Given as goal

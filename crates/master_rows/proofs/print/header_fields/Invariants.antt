@@ -1,4 +1,4 @@
-use Rattle.std.proofs.Common.{◌≡◌, map, take}
+use Rattle.std.proofs.Common.{◌≡◌, take}
 use Rattle.master_rows.specs.Fields.{bytes_of}
 use Rattle.master_rows.proofs.print.header_fields.Given as goal
 

@@ -1,4 +1,4 @@
-use Rattle.std.proofs.Common.{◌≡◌, [], map, take}
+use Rattle.std.proofs.Common.{◌≡◌, [], take}
 use Rattle.std.specs.Prelude.{slice_index_or}
 use Rattle.master_rows.specs.Fields.{bytes_of}
 use Rattle.master_rows.proofs.print.row_fields.Given as goal

@@ -1,4 +1,4 @@
-use Rattle.std.proofs.Common.{◌≡◌, ◌<◌, ◌+◌, ◌++◌, ◌∷◌, [], ℕ, List, Bor, suc, map, take, drop, get_or, length, sym, ap, ◌∙◌, refl, arith, add-one, length-append}
+use Rattle.std.proofs.Common.{◌<◌, ◌+◌, ◌++◌, ◌∷◌, [], ℕ, List, suc, drop, get_or, length, sym, ap, ◌∙◌, refl, add-one, length-append}
 use Rattle.master_rows.specs.Fields.{bytes_of}
 use Rattle.master_rows.specs.Row.{cells_fault}
 use Rattle.master_rows.proofs.Records.{drop-texts, take-texts}

@@ -1,4 +1,4 @@
-use Rattle.std.proofs.Common.{◌≡◌, ◌+◌, [], length, map, take, drop}
+use Rattle.std.proofs.Common.{◌≡◌, ◌+◌, length, take, drop}
 use Rattle.master_rows.specs.Fields.{bytes_of}
 use Rattle.master_rows.specs.Row.{cells_fault}
 use Rattle.master_rows.proofs.row.tested_cells.Given as goal

@@ -1,12 +1,11 @@
-use Rattle.std.proofs.Common.{Bor, List, ℕ, ◌≡◌, ◌∙◌, sym, refl, ap, inl, inr, ◌++◌, ◌∷◌, [], append_assoc, rules}
-use Rattle.std.specs.Prelude.{Some, Ok, Err}
-use Rattle.csv.specs.Reading.{Reached, records_from, reader_state, default_config, strip_bom}
+use Rattle.std.proofs.Common.{Bor, List, ℕ, ◌≡◌, ◌∙◌, sym, refl, inl, inr, [], rules}
+use Rattle.std.specs.Prelude.{Some, Err}
+use Rattle.csv.specs.Reading.{Reached, reader_state, default_config, strip_bom}
 use Rattle.csv.specs.Records.{fields_of}
 use Rattle.csv.specs.declared.parser.State.TheVariants as st
 use Rattle.csv.proofs.ReadFacts.{rows-end, rows-more}
-use Rattle.master_rows.specs.Sheet.{read_records, sheet_records}
+use Rattle.master_rows.specs.Sheet.{read_records}
 use Rattle.master_rows.proofs.Sheets.{records-however, records-end}
-use Rattle.master_rows.proofs.draft.Draft.of_sheet.Invariants.{GoesOn}
 use Rattle.master_rows.proofs.draft.Draft.of_sheet.Goals as goal
 
 pub loop-record-init : goal.loop-record-init

@@ -1,8 +1,6 @@
-use Rattle.std.proofs.Common.{◌≡◌, ◌+◌, ◌++◌, ◌∷◌, [], List, ℕ, Bor, map, length, sym, ap, ◌∙◌, rules, arith, false}
-use Rattle.std.specs.Prelude.{IfErr, Err, Some, None, is_none}
-use Rattle.std.proofs.lemmas.Grind.{common_steps}
+use Rattle.std.proofs.Common.{◌≡◌, rules, false}
+use Rattle.std.specs.Prelude.{Err, is_none}
 use Rattle.csv.specs.Records.{fields_of}
-use Rattle.master_rows.specs.Row.{row_fault}
 use Rattle.master_rows.proofs.Faults.{read_records-taken, HasNoFault-row}
 use Rattle.master_rows.proofs.draft.Draft.take.Goals as goal
 

@@ -1,4 +1,4 @@
-use Rattle.std.proofs.Common.{◌≡◌, ◌∙◌, ap}
+use Rattle.std.proofs.Common.{◌∙◌, ap}
 use Rattle.master_rows.specs.Sheet.{read_sheet}
 use Rattle.master_rows.proofs.Written.{read_sheet-sheet_of}
 use Rattle.master_rows.proofs.master.Master.print.Goals as goal

@@ -1,4 +1,4 @@
-use Rattle.std.proofs.Common.{◌≡◌, ◌∙◌, ap}
+use Rattle.std.proofs.Common.{◌∙◌, ap}
 use Rattle.csv.specs.Reading.{strip_bom}
 use Rattle.master_rows.specs.Master.{IsMaster}
 use Rattle.master_rows.specs.Sheet.{read_records}
