@@ -1,0 +1,108 @@
+-- What a call of `run` leaves of the link, by the status that it answers.
+use Rattle.std.specs.Prelude.{◌≡◌, ◌⊎◌, ℕ, ◌<◌, ◌≤◌, List, [], ◌∷◌, length, Option, codes}
+use Rattle.std.specs.Io.KnownBytes.{Appends, Consumes, Keeps, IsAtEnd}
+use Rattle.desk_base.specs.Faults.{AppendsPart, Rose}
+use Rattle.fixdesk_run.specs.declared.case.Case.{Case}
+use Rattle.fixdesk_run.specs.declared.status.Refusal.{Refusal}
+use Rattle.fixdesk_run.specs.declared.status.Refusal.TheVariants.{TooLong, NotJson, NotACase}
+use Rattle.fixdesk_run.specs.declared.status.Status.{Status}
+use Rattle.fixdesk_run.specs.declared.status.Status.TheVariants.{Done, NoCommand, ReadFault, WriteFault, NoMemory, Refused}
+use Rattle.fixdesk_run.specs.Answer.{line, IsAnswer}
+use Rattle.fixdesk_run.specs.Case.{IsCaseIn, IsNoCase, IsNotJson}
+
+-- a link: the bytes that it has left and those that were written, where it tells them, and its counts of faults
+pub record Link : Type 0 where
+  pub left : Option (List ℕ)
+  pub written : Option (List ℕ)
+  pub read_faults : ℕ
+  pub write_faults : ℕ
+
+-- the statuses as the program answers them
+abbrev pub status_code : Status → ℕ
+status_code Done = 0
+status_code NoCommand = 1
+status_code ReadFault = 2
+status_code WriteFault = 3
+status_code NoMemory = 5
+status_code Refused = 7
+
+-- the one command that is built
+abbrev pub IsOnce : List (List ℕ) → Type 0
+IsOnce words = words ≡ codes "once" ∷ []
+
+-- the line that answers words which are no command
+abbrev pub usage_line : List ℕ
+usage_line = line (codes "usage: fixdesk once | pipe [--limit N] | report | make N START")
+
+-- the most bytes that are taken: one more than an input may have
+abbrev pub most : ℕ
+most = 1048577
+
+-- the lines that refuse an input
+abbrev pub refusal_line : Refusal → List ℕ
+refusal_line TooLong = line (codes "too long")
+refusal_line NotJson = line (codes "not json")
+refusal_line NotACase = line (codes "not a case")
+
+-- why these bytes are refused
+abbrev pub IsRefusalOf : List ℕ → Refusal → Type 0
+IsRefusalOf bytes TooLong = length bytes ≡ most
+IsRefusalOf bytes NotJson = (length bytes < most) × IsNotJson bytes
+IsRefusalOf bytes NotACase = (length bytes < most) × IsNoCase bytes
+
+-- the text that these bytes are answered with: an answer to their case, or a line that refuses them
+abbrev pub IsAnswered : List ℕ → List ℕ → Type 0
+IsAnswered bytes text = (length bytes < most) × ((case : Case) × IsCaseIn bytes case × IsAnswer case text)
+
+abbrev pub IsRefused : List ℕ → List ℕ → Type 0
+IsRefused bytes text = (refusal : Refusal) × IsRefusalOf bytes refusal × (text ≡ refusal_line refusal)
+
+-- the bytes were taken from the link, until none was left or there were as many as are taken at most
+pub record Takes (old new : Link) (bytes : List ℕ) : Type 0 where
+  pub taken : Consumes old.left new.left bytes
+  pub bounded : length bytes ≤ most
+  pub whole : length bytes < most → IsAtEnd new.left
+
+-- the text was written, and it is what the bytes that were taken are answered with
+pub record Tells (IsText : List ℕ → List ℕ → Type 0) (old new : Link) : Type 0 where
+  pub bytes : List ℕ
+  pub text : List ℕ
+  pub taken : Takes old new bytes
+  pub answer : IsText bytes text
+  pub written : Appends old.written new.written text
+
+-- nothing was written, and no more bytes were taken than may be
+pub record IsUnanswered (old new : Link) : Type 0 where
+  pub bytes : List ℕ
+  pub taken : Consumes old.left new.left bytes
+  pub bounded : length bytes ≤ most
+  pub unwritten : Keeps old.written new.written
+  pub write_faults : new.write_faults ≡ old.write_faults
+
+-- nothing was read
+pub record IsUnread (old new : Link) : Type 0 where
+  pub left : Keeps old.left new.left
+  pub read_faults : new.read_faults ≡ old.read_faults
+
+-- the text that a call has to say: the usage line to words that are no command, else what the taken bytes are answered with
+abbrev pub IsSaid : List (List ℕ) → Link → Link → List ℕ → Type 0
+IsSaid words old new text =
+    ((¬ IsOnce words) × IsUnread old new × (text ≡ usage_line))
+    ⊎ (IsOnce words × ((bytes : List ℕ) × Takes old new bytes × (IsAnswered bytes text ⊎ IsRefused bytes text)))
+
+-- the call ended with this status, and left what the status says
+abbrev pub EndsWith : List (List ℕ) → Link → Link → Status → Type 0
+EndsWith words old new Done = IsOnce words × Tells IsAnswered old new
+EndsWith words old new NoCommand = (¬ IsOnce words) × IsUnread old new × Appends old.written new.written usage_line
+EndsWith words old new ReadFault = IsOnce words × IsUnanswered old new × Rose old.read_faults new.read_faults
+EndsWith words old new WriteFault = Rose old.write_faults new.write_faults × ((text : List ℕ) × IsSaid words old new text × AppendsPart old.written new.written text)
+EndsWith words old new NoMemory = IsOnce words × IsUnanswered old new
+EndsWith words old new Refused = IsOnce words × Tells IsRefused old new
+
+-- what a call of `run` leaves that answers this number: it is the code of a status, which the call ended with, and no count of faults fell
+pub record Leaves (words : List (List ℕ)) (old new : Link) (code : ℕ) : Type 0 where
+  pub status : Status
+  pub answered : code ≡ status_code status
+  pub ended : EndsWith words old new status
+  pub read_faults : old.read_faults ≤ new.read_faults
+  pub write_faults : old.write_faults ≤ new.write_faults
