@@ -1,6 +1,6 @@
 -- The case of a JSON value: attributes, rules over them with their master data, and a record.
 use Rattle.std.specs.Prelude.{◌≡◌, ◌≢◌, ℕ, ◌-◌, ◌==◌, nat_le, ◌&&◌, ◌||◌, List, [], ◌∷◌, length, map, position, AllPairs, Bool, if◌then◌else◌, Option, Some, None, option_map, codes, IsUtf8}
-use Rattle.std.specs.List.{range_with_len, list_any}
+use Rattle.std.specs.List.{range_with_len, list_any, list_all}
 use Rattle.std.specs.Str.{bytes_eq}
 use Rattle.serde_json.specs.Data.{Data}
 use Rattle.serde_json.specs.Read.{read}
@@ -26,17 +26,11 @@ text_in value = do
 abbrev pub texts_in : Data → Option (List (List ℕ))
 texts_in = list_in text_in
 
--- a word, the form of an attribute's name
-abbrev pub word_in : Data → Option (List ℕ)
-word_in value = do
-  bytes ← as_str value
-  only_if is_word bytes
-
--- 1 to 48 attributes
+-- 1 to 48 words, the names of attributes
 abbrev pub attributes_in : Data → Option (List (List ℕ))
 attributes_in value = do
-  words ← list_in word_in value
-  only_if (λ all. nat_le 1 (length all) && nat_le (length all) 48) words
+  texts ← texts_in value
+  only_if (λ words. list_all is_word words && nat_le 1 (length words) && nat_le (length words) 48) texts
 
 -- the place of the attribute that is named, from 0
 abbrev pub place_in : List (List ℕ) → Data → Option ℕ

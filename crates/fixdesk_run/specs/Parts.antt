@@ -17,12 +17,12 @@ abbrev pub only_if : {A : Type 0} → (A → Bool) → A → Option A
 only_if test part = if test part then Some part else None
 
 -- the items of an array, in their order
-abbrev pub items_of : Items → List Data
-items_of no_items = []
-items_of (item first others) = first ∷ items_of others
+abbrev pub all_items : Items → List Data
+all_items no_items = []
+all_items (item first others) = first ∷ all_items others
 
 abbrev pub items_in : Data → Option (List Data)
-items_in value = option_map items_of (as_array value)
+items_in value = option_map all_items (as_array value)
 
 -- what is read of each item, where something is read of all
 abbrev pub each : {A : Type 0} → (Data → Option A) → List Data → Option (List A)

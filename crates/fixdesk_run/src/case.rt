@@ -1,4 +1,6 @@
 //! The case of one run: the record that is keyed, and the rules and master data that fix it.
+mod parts;
+
 use desk_base::{List, Text};
 use fix_model::{Kit, State};
 

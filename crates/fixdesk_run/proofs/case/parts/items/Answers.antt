@@ -1,0 +1,7 @@
+use Rattle.std.proofs.Common.{◌≡◌, ap, map, Some, sym, ◌∙◌}
+use Rattle.serde_json.specs.View.{view}
+use Rattle.fixdesk_run.proofs.Reading.{all_items-items_of}
+use Rattle.fixdesk_run.proofs.case.parts.items.Goals as goal
+
+pub returns-in-Some : goal.returns-in-Some
+returns-in-Some c = rw (← c.in-Some.ensures, c.as_slice.ensures.value, all_items-items_of)
