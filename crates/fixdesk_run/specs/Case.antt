@@ -36,7 +36,7 @@ attributes_in value = do
 abbrev pub place_in : List (List ℕ) → Data → Option ℕ
 place_in attributes value = do
   word ← as_str value
-  position (bytes_eq word) attributes
+  position (λ attribute. bytes_eq attribute word) attributes
 
 -- a whole number from 1 up to the greatest, as the place from 0 that it stands for
 abbrev pub number_in : ℕ → Data → Option ℕ

@@ -1,5 +1,7 @@
 //! The case of one run: the record that is keyed, and the rules and master data that fix it.
+mod attributes;
 mod parts;
+mod rules;
 
 use desk_base::{List, Text};
 use fix_model::{Kit, State};
