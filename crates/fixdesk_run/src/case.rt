@@ -1,5 +1,6 @@
 //! The case of one run: the record that is keyed, and the rules and master data that fix it.
 mod attributes;
+mod masters;
 mod parts;
 mod rules;
 
