@@ -66,13 +66,6 @@ impl Attributes {
         }
     }
 
-    /// Whether no word stands twice.
-    pub fn are_distinct(&self) -> bool
-        ensures { IsTrue result ↔ AllPairs (λ word later. word ≢ later) self.now }
-    {
-        are_distinct(self.words.as_slice())
-    }
-
     /// The words in their order.
     pub fn into_words(self) -> List<Text>
         ensures { result ≡ self }
@@ -94,7 +87,8 @@ fn place_of(words: &[Text], word: &str) -> Option<usize>
     words.iter().position(|other| other.as_str() == word)
 }
 
-fn are_distinct(words: &[Text]) -> bool
+/// Whether no word stands twice.
+pub fn are_distinct(words: &[Text]) -> bool
     ensures { IsTrue result ↔ AllPairs (λ word later. word ≢ later) words.now }
 {
     'words: for (place, word) in words.iter().enumerate() {
