@@ -1,3 +1,4 @@
 pub mod Distinct
 pub mod Keys
 pub mod Reading
+pub mod Showing

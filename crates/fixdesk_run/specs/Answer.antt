@@ -1,6 +1,6 @@
 -- The text that answers a case.
-use Rattle.std.specs.Prelude.{◌≡◌, ℕ, ◌+◌, List, [], ◌∷◌, ◌++◌, map, codes}
-use Rattle.std.specs.List.{enumerate_from}
+use Rattle.std.specs.Prelude.{◌≡◌, ℕ, ◌+◌, List, [], ◌∷◌, ◌++◌, map, slice_index_or, codes}
+use Rattle.std.specs.List.{range_with_len}
 use Rattle.serde_json.specs.Data.{Data, unsigned, number, string, array, object, member, no_members}
 use Rattle.serde_json.specs.View.{items_of}
 use Rattle.serde_json.specs.Written.{compact_text}
@@ -28,20 +28,25 @@ cell_shown Uncovered name text = list_of (string name ∷ string text ∷ string
 cell_shown Confirmed name text = list_of (string name ∷ string text ∷ string (codes "confirmed") ∷ [])
 cell_shown (Fixed step) name text = list_of (string name ∷ string text ∷ string (codes "fixed") ∷ count_of step.rule ∷ count_of step.row ∷ [])
 
--- the cells of a state, one for each attribute
+-- an attribute at a state
+abbrev pub attribute_shown : List (List ℕ) → Kit → State → ℕ → Data
+attribute_shown attributes kit state attribute = cell_shown (cell_at state attribute) (slice_index_or attributes attribute []) (value_at kit state attribute)
+
+-- all attributes in their order
 abbrev pub cells_shown : List (List ℕ) → Kit → State → List Data
-cells_shown attributes kit state = map (λ named. cell_shown (cell_at state named.0) named.1 (value_at kit state named.0)) (enumerate_from 0 attributes)
+cells_shown attributes kit state = map (attribute_shown attributes kit state) (range_with_len 0 kit.width)
 
 -- a step: `[rule,row]`
 abbrev pub step_shown : Step → Data
 step_shown step = list_of (count_of step.rule ∷ count_of step.row ∷ [])
 
--- the answer to a case: its cells at the end of a run, and the run
+-- an answer: the cells at the end of the first run, and that run
+abbrev pub result_shown : List Data → List Data → Data
+result_shown cells first = object (member (codes "answer") (string (codes "first")) (member (codes "cells") (list_of cells) (member (codes "first") (list_of first) no_members)))
+
+-- the answer to a case by a run
 abbrev pub answer_shown : List (List ℕ) → Kit → State → List Step → Data
-answer_shown attributes kit state run =
-    object (member (codes "answer") (string (codes "first"))
-        (member (codes "cells") (list_of (cells_shown attributes kit (end_of kit state run)))
-        (member (codes "first") (list_of (map step_shown run)) no_members)))
+answer_shown attributes kit state run = result_shown (cells_shown attributes kit (end_of kit state run)) (map step_shown run)
 
 -- a line: the text, and then LF
 abbrev pub line : List ℕ → List ℕ

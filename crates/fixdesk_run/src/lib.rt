@@ -4,5 +4,6 @@
 //! `specs/Once.antt` what a call leaves of the link, by the status that it answers.
 #![tactic(auto)]
 
+mod answer;
 mod case;
 mod status;
