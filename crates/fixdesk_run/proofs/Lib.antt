@@ -1,4 +1,5 @@
 pub mod Distinct
+pub mod Floats
 pub mod Keys
 pub mod Reading
 pub mod Showing

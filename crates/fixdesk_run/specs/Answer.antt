@@ -40,21 +40,18 @@ cells_shown attributes kit state = map (attribute_shown attributes kit state) (r
 abbrev pub step_shown : Step → Data
 step_shown step = list_of (count_of step.rule ∷ count_of step.row ∷ [])
 
--- an answer: the cells at the end of the first run, and that run
+-- the cells at the end of the first run, and that run
 abbrev pub result_shown : List Data → List Data → Data
 result_shown cells first = object (member (codes "answer") (string (codes "first")) (member (codes "cells") (list_of cells) (member (codes "first") (list_of first) no_members)))
-
--- the answer to a case by a run
-abbrev pub answer_shown : List (List ℕ) → Kit → State → List Step → Data
-answer_shown attributes kit state run = result_shown (cells_shown attributes kit (end_of kit state run)) (map step_shown run)
 
 -- a line: the text, and then LF
 abbrev pub line : List ℕ → List ℕ
 line text = text ++ 10 ∷ []
 
-abbrev pub answer_text : List (List ℕ) → Kit → State → List Step → List ℕ
-answer_text attributes kit state run = line (compact_text (answer_shown attributes kit state run))
+-- the line that shows a state, the end of a run, and that run
+abbrev pub answer_line : List (List ℕ) → Kit → State → List Step → List ℕ
+answer_line attributes kit end run = line (compact_text (result_shown (cells_shown attributes kit end) (map step_shown run)))
 
 -- the text answers the case: it shows the first run
 abbrev pub IsAnswer : Case → List ℕ → Type 0
-IsAnswer case text = (run : List Step) × IsFirstRun case.kit case.state run × (text ≡ answer_text case.attributes case.kit case.state run)
+IsAnswer case text = (run : List Step) × IsFirstRun case.kit case.state run × (text ≡ answer_line case.attributes case.kit (end_of case.kit case.state run) run)

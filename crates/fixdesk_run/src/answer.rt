@@ -1,10 +1,9 @@
 //! The text that answers a case.
 ghost use Rattle.std.specs.Prelude.{◌≡◌, ◌+◌, ◌^◌, ◌<◌, length, map, false, IfOk};
-ghost use Rattle.serde_json.specs.Data.{string, object, member, no_members};
 ghost use Rattle.serde_json.specs.View.{view};
 ghost use Rattle.serde_json.specs.Written.{has_float, compact_text};
 ghost use Rattle.fix_model.specs.States.{Fits};
-ghost use Rattle.fixdesk_run.specs.Answer.{cell_shown, cells_shown, step_shown, result_shown, list_of, line};
+ghost use Rattle.fixdesk_run.specs.Answer.{cell_shown, cells_shown, step_shown, result_shown, line, answer_line};
 
 use fix_model::{Book, Cell, State, Step, value};
 use desk_base::Text;
@@ -75,4 +74,32 @@ fn answer_value(alloc: Global, cells: Vec<Value>, first: Vec<Value>) -> Result<V
     let cells = Value::Array(cells);
     let first = Value::Array(first);
     json!(in alloc; {"answer": "first", "cells": cells, "first": first})
+}
+
+/// The line that a value is written as.
+fn line_of(alloc: Global, value: &Value) -> Result<Vec<u8>, AllocError>
+    requires { has_float (view value.now) ≡ false }
+    ensures { IfOk result (λ text. text.items ≡ line (compact_text (view value.now))) }
+{
+    let mut text = value.to_vec(alloc)?;
+    text.push(b'\n')?;
+    Ok(text)
+}
+
+/// The text that shows a state, the end of a run, and that run.
+pub fn answer<L, B: Book<L>>(
+    alloc: Global,
+    attributes: &[Text],
+    book: &B,
+    end: &State,
+    run: &[Step],
+) -> Result<Vec<u8>, AllocError>
+    requires fits { Fits (B.kit book.now) end.now }
+    requires named { length attributes.now ≡ (B.kit book.now).width }
+    ensures { IfOk result (λ text. text.items ≡ answer_line attributes.now (B.kit book.now) end.now run.now) }
+{
+    let cells = cell_values(alloc, attributes, book, end)?;
+    let first = step_values(alloc, run)?;
+    let value = answer_value(alloc, cells, first)?;
+    line_of(alloc, &value)
 }
