@@ -3,3 +3,4 @@ pub mod Floats
 pub mod Keys
 pub mod Reading
 pub mod Showing
+pub mod Taking

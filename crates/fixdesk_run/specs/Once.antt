@@ -57,25 +57,29 @@ IsAnswered bytes text = (length bytes < most) × ((case : Case) × IsCaseIn byte
 abbrev pub IsRefused : List ℕ → List ℕ → Type 0
 IsRefused bytes text = (refusal : Refusal) × IsRefusalOf bytes refusal × (text ≡ refusal_line refusal)
 
--- the bytes were taken from the link, until none was left or there were as many as are taken at most
-pub record Takes (old new : Link) (bytes : List ℕ) : Type 0 where
-  pub taken : Consumes old.left new.left bytes
+-- the bytes were taken, until none was left or there were as many as are taken at most
+pub record Takes (old new : Option (List ℕ)) (bytes : List ℕ) : Type 0 where
+  pub taken : Consumes old new bytes
   pub bounded : length bytes ≤ most
-  pub whole : length bytes < most → IsAtEnd new.left
+  pub whole : length bytes < most → IsAtEnd new
+
+-- some bytes were taken, and no more than are taken at most
+pub record TakesPart (old new : Option (List ℕ)) : Type 0 where
+  pub bytes : List ℕ
+  pub taken : Consumes old new bytes
+  pub bounded : length bytes ≤ most
 
 -- the text was written, and it is what the bytes that were taken are answered with
 pub record Tells (IsText : List ℕ → List ℕ → Type 0) (old new : Link) : Type 0 where
   pub bytes : List ℕ
   pub text : List ℕ
-  pub taken : Takes old new bytes
+  pub taken : Takes old.left new.left bytes
   pub answer : IsText bytes text
   pub written : Appends old.written new.written text
 
 -- nothing was written, and no more bytes were taken than may be
 pub record IsUnanswered (old new : Link) : Type 0 where
-  pub bytes : List ℕ
-  pub taken : Consumes old.left new.left bytes
-  pub bounded : length bytes ≤ most
+  pub taken : TakesPart old.left new.left
   pub unwritten : Keeps old.written new.written
   pub write_faults : new.write_faults ≡ old.write_faults
 
@@ -88,7 +92,7 @@ pub record IsUnread (old new : Link) : Type 0 where
 abbrev pub IsSaid : List (List ℕ) → Link → Link → List ℕ → Type 0
 IsSaid words old new text =
     ((¬ IsOnce words) × IsUnread old new × (text ≡ usage_line))
-    ⊎ (IsOnce words × ((bytes : List ℕ) × Takes old new bytes × (IsAnswered bytes text ⊎ IsRefused bytes text)))
+    ⊎ (IsOnce words × ((bytes : List ℕ) × Takes old.left new.left bytes × (IsAnswered bytes text ⊎ IsRefused bytes text)))
 
 -- the call ended with this status, and left what the status says
 abbrev pub EndsWith : List (List ℕ) → Link → Link → Status → Type 0

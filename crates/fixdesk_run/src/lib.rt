@@ -6,4 +6,5 @@
 
 mod answer;
 mod case;
+mod input;
 mod status;
