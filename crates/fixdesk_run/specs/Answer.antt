@@ -49,7 +49,7 @@ abbrev pub line : List ℕ → List ℕ
 line text = text ++ 10 ∷ []
 
 -- the line that shows a state, the end of a run, and that run
-abbrev pub answer_line : List (List ℕ) → Kit → State → List Step → List ℕ
+unfoldable pub answer_line : List (List ℕ) → Kit → State → List Step → List ℕ
 answer_line attributes kit end run = line (compact_text (result_shown (cells_shown attributes kit end) (map step_shown run)))
 
 -- the text answers the case: it shows the first run

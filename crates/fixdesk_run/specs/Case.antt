@@ -12,7 +12,7 @@ use Rattle.fix_model.specs.declared.pattern.Pat.{Pat}
 use Rattle.fix_model.specs.declared.pattern.Pat.TheVariants.{Is, IsNot, OneOf, NoneOf, Any}
 use Rattle.fix_model.specs.declared.rule.Rule.{Rule}
 use Rattle.fix_model.specs.declared.state.State.{State}
-use Rattle.fix_model.specs.States.{confirmed_cell}
+use Rattle.fix_model.specs.States.{confirmed_cell, Fits}
 use Rattle.fix_model.specs.Valid.{IsValid}
 use Rattle.fixdesk_run.specs.declared.case.Case.{Case}
 use Rattle.fixdesk_run.specs.Parts.{◌>>=◌, only_if, items_in, each, list_in, has_keys, field}
@@ -192,6 +192,11 @@ pub record IsCaseOf (value : Data) (case : Case) : Type 0 where
   pub parts : parts_in value ≡ Some case
   pub distinct : AllPairs (λ word later. word ≢ later) case.attributes
   pub valid : IsValid case.kit
+
+-- the parts fit together: there is a word for each attribute of the kit, and the record is over the kit
+pub record PartsFit (case : Case) : Type 0 where
+  pub named : length case.attributes ≡ case.kit.width
+  pub fits : Fits case.kit case.state
 
 -- the text has a JSON value, and it is this one
 abbrev pub IsValueOf : List ℕ → Data → Type 0

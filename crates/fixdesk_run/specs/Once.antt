@@ -5,6 +5,9 @@ use Rattle.desk_base.specs.Faults.{AppendsPart, Rose}
 use Rattle.fixdesk_run.specs.declared.case.Case.{Case}
 use Rattle.fixdesk_run.specs.declared.status.Refusal.{Refusal}
 use Rattle.fixdesk_run.specs.declared.status.Refusal.TheVariants.{TooLong, NotJson, NotACase}
+use Rattle.fixdesk_run.specs.declared.status.Reply.{Reply}
+use Rattle.fixdesk_run.specs.declared.status.Reply.TheVariants as replies
+use Rattle.fixdesk_run.specs.declared.status.Reply.TheVariants.{Answered}
 use Rattle.fixdesk_run.specs.declared.status.Status.{Status}
 use Rattle.fixdesk_run.specs.declared.status.Status.TheVariants.{Done, NoCommand, ReadFault, WriteFault, NoMemory, Refused}
 use Rattle.fixdesk_run.specs.Answer.{line, IsAnswer}
@@ -56,6 +59,11 @@ IsAnswered bytes text = (length bytes < most) × ((case : Case) × IsCaseIn byte
 
 abbrev pub IsRefused : List ℕ → List ℕ → Type 0
 IsRefused bytes text = (refusal : Refusal) × IsRefusalOf bytes refusal × (text ≡ refusal_line refusal)
+
+-- what these bytes are answered with
+abbrev pub IsReplyTo : List ℕ → Reply → Type 0
+IsReplyTo bytes (Answered text) = IsAnswered bytes text.items
+IsReplyTo bytes (replies.Refused refusal) = IsRefusalOf bytes refusal
 
 -- the bytes were taken, until none was left or there were as many as are taken at most
 pub record Takes (old new : Option (List ℕ)) (bytes : List ℕ) : Type 0 where

@@ -2,7 +2,7 @@
 mod attributes;
 mod masters;
 mod parts;
-mod read;
+pub mod read;
 mod rules;
 
 use desk_base::{List, Text};

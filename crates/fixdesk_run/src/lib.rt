@@ -7,4 +7,5 @@
 mod answer;
 mod case;
 mod input;
+mod once;
 mod status;

@@ -58,3 +58,12 @@ impl Refusal {
         }
     }
 }
+
+/// What an input of `once` is answered with.
+#[derive(Debug, Drop)]
+pub enum Reply {
+    /// The answer to the case that it is.
+    Answered(Vec<u8>),
+    /// It is refused.
+    Refused(Refusal),
+}

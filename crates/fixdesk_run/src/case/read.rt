@@ -1,9 +1,11 @@
 //! Reading a case from its bytes.
 ghost use Rattle.std.specs.Prelude.{◌≡◌, length, map, option_map, unwrap_or, codes, IfOk, IfErr, IfSome, IfNone, IsErrOf};
+ghost use Rattle.fix_model.specs.declared.kit.Kit.{Kit as KitOf};
+ghost use Rattle.fix_model.specs.States.{Fits};
 ghost use Rattle.serde_json.specs.Find.{get};
 ghost use Rattle.serde_json.specs.View.{view};
 ghost use Rattle.fixdesk_run.specs.declared.case.Case.{Case};
-ghost use Rattle.fixdesk_run.specs.Case.{attributes_in, flags, flags_in, folded_of, kit_in, record_in, state_in, has_case_keys, parts_of, parts_in, IsCaseOf, IsCaseIn, IsNotJson, IsNoCase, IsValueOf};
+ghost use Rattle.fixdesk_run.specs.Case.{attributes_in, flags, flags_in, folded_of, kit_in, record_in, state_in, has_case_keys, parts_of, parts_in, IsCaseOf, PartsFit, IsCaseIn, IsNotJson, IsNoCase, IsValueOf};
 ghost use Rattle.fixdesk_run.specs.Parts.{field};
 
 use crate::case::Case;
@@ -66,7 +68,8 @@ fn folded(
 }
 
 fn kit(alloc: Global, attributes: &Attributes, value: &Value) -> Result<Option<Kit>, NoMemory>
-    ensures { IfOk result (λ kit. kit ≡ kit_in attributes.now (view value.now)) }
+    ensures kit { IfOk result (λ kit. kit ≡ kit_in attributes.now (view value.now)) }
+    ensures width { IfOk result (λ kit. IfSome kit (λ kit. kit.width ≡ length attributes.now)) }
 {
     let Some(rules) = read_field(alloc, attributes, "rules", value)? else {
         return Ok(None);
@@ -119,7 +122,9 @@ fn confirmed(
 }
 
 fn state(alloc: Global, attributes: &Attributes, value: &Value) -> Result<Option<State>, NoMemory>
-    ensures { IfOk result (λ state. state ≡ state_in attributes.now (view value.now)) }
+    ensures state { IfOk result (λ state. state ≡ state_in attributes.now (view value.now)) }
+    ensures fits { IfOk result (λ state. IfSome state (λ state. (kit : KitOf)
+        → length attributes.now ≡ kit.width → Fits kit state)) }
 {
     let Some(typed) = typed(alloc, attributes, value)? else {
         return Ok(None);
@@ -132,7 +137,8 @@ fn state(alloc: Global, attributes: &Attributes, value: &Value) -> Result<Option
 
 /// The parts of a case, whose attributes may stand twice and whose kit need not be valid.
 fn parts(alloc: Global, value: &Value) -> Result<Option<Case>, NoMemory>
-    ensures { IfOk result (λ case. case ≡ parts_of (view value.now)) }
+    ensures parts { IfOk result (λ case. case ≡ parts_of (view value.now)) }
+    ensures fits { IfOk result (λ case. IfSome case PartsFit) }
 {
     let Some(attributes) = attributes(alloc, value)? else {
         return Ok(None);
@@ -172,6 +178,7 @@ fn has_case_keys(value: &Value) -> bool
 /// The case that the value is.
 fn case_in(alloc: Global, value: &Value) -> Result<Option<Case>, NoMemory>
     ensures case { IfOk result (λ found. IfSome found (λ case. IsCaseOf (view value.now) case)) }
+    ensures fits { IfOk result (λ found. IfSome found PartsFit) }
     ensures none { IfOk result (λ found. IfNone found ((case : Case) → ¬ IsCaseOf (view value.now) case)) }
 {
     if !has_case_keys(value) {
@@ -200,6 +207,7 @@ fn value_of(alloc: Global, bytes: &[u8]) -> Result<Value, CaseFault>
 /// The case that the bytes are, as JSON.
 pub fn case_of(alloc: Global, bytes: &[u8]) -> Result<Case, CaseFault>
     ensures case { IfOk result (λ case. IsCaseIn bytes.now case) }
+    ensures fits { IfOk result PartsFit }
 
     // Each refusal, only where it comes.
     ensures not_json { IsErrOf result CaseFault.NotJson → IsNotJson bytes.now }
