@@ -1,6 +1,7 @@
 -- What a call of `run` leaves of the link, by the status that it answers.
 use Rattle.std.specs.Prelude.{◌≡◌, ◌⊎◌, ℕ, ◌<◌, ◌≤◌, List, [], ◌∷◌, length, Option, codes}
-use Rattle.std.specs.Io.KnownBytes.{Appends, Consumes, Keeps, IsAtEnd}
+use Rattle.std.specs.Io.KnownBytes.{Appends, Consumes, IsAtEnd}
+use Rattle.desk_base.specs.declared.both.Both.{Both}
 use Rattle.desk_base.specs.Faults.{AppendsPart, Rose}
 use Rattle.fixdesk_run.specs.declared.case.Case.{Case}
 use Rattle.fixdesk_run.specs.declared.status.Refusal.{Refusal}
@@ -65,6 +66,15 @@ abbrev pub IsReplyTo : List ℕ → Reply → Type 0
 IsReplyTo bytes (Answered text) = IsAnswered bytes text.items
 IsReplyTo bytes (replies.Refused refusal) = IsRefusalOf bytes refusal
 
+-- the text of a reply, and the status that it is told with
+abbrev pub reply_text : Reply → List ℕ
+reply_text (Answered text) = text.items
+reply_text (replies.Refused refusal) = refusal_line refusal
+
+abbrev pub reply_status : Reply → Status
+reply_status (Answered text) = Done
+reply_status (replies.Refused refusal) = Refused
+
 -- the bytes were taken, until none was left or there were as many as are taken at most
 pub record Takes (old new : Option (List ℕ)) (bytes : List ℕ) : Type 0 where
   pub taken : Consumes old new bytes
@@ -77,7 +87,7 @@ pub record TakesPart (old new : Option (List ℕ)) : Type 0 where
   pub taken : Consumes old new bytes
   pub bounded : length bytes ≤ most
 
--- the text was written, and it is what the bytes that were taken are answered with
+-- the bytes that were taken are answered with a text, and it was written
 pub record Tells (IsText : List ℕ → List ℕ → Type 0) (old new : Link) : Type 0 where
   pub bytes : List ℕ
   pub text : List ℕ
@@ -85,36 +95,53 @@ pub record Tells (IsText : List ℕ → List ℕ → Type 0) (old new : Link) : 
   pub answer : IsText bytes text
   pub written : Appends old.written new.written text
 
+-- the bytes that were taken are answered with a text, of which a part was written, as the link failed
+pub record TellsPart (old new : Link) : Type 0 where
+  pub bytes : List ℕ
+  pub text : List ℕ
+  pub taken : Takes old.left new.left bytes
+  pub answer : IsAnswered bytes text ⊎ IsRefused bytes text
+  pub written : AppendsPart old.written new.written text
+  pub failed : Rose old.write_faults new.write_faults
+
 -- nothing was written, and no more bytes were taken than may be
 pub record IsUnanswered (old new : Link) : Type 0 where
   pub taken : TakesPart old.left new.left
-  pub unwritten : Keeps old.written new.written
+  pub written : new.written ≡ old.written
   pub write_faults : new.write_faults ≡ old.write_faults
 
 -- nothing was read
 pub record IsUnread (old new : Link) : Type 0 where
-  pub left : Keeps old.left new.left
+  pub left : new.left ≡ old.left
   pub read_faults : new.read_faults ≡ old.read_faults
 
--- the text that a call has to say: the usage line to words that are no command, else what the taken bytes are answered with
-abbrev pub IsSaid : List (List ℕ) → Link → Link → List ℕ → Type 0
-IsSaid words old new text =
-    ((¬ IsOnce words) × IsUnread old new × (text ≡ usage_line))
-    ⊎ (IsOnce words × ((bytes : List ℕ) × Takes old.left new.left bytes × (IsAnswered bytes text ⊎ IsRefused bytes text)))
+-- what `once` leaves, by the status that it ends with
+abbrev pub EndsOnce : Link → Link → Status → Type 0
+EndsOnce old new Done = Tells IsAnswered old new
+EndsOnce old new NoCommand = ⊥
+EndsOnce old new ReadFault = IsUnanswered old new × Rose old.read_faults new.read_faults
+EndsOnce old new WriteFault = TellsPart old new
+EndsOnce old new NoMemory = IsUnanswered old new
+EndsOnce old new Refused = Tells IsRefused old new
 
--- the call ended with this status, and left what the status says
-abbrev pub EndsWith : List (List ℕ) → Link → Link → Status → Type 0
-EndsWith words old new Done = IsOnce words × Tells IsAnswered old new
-EndsWith words old new NoCommand = (¬ IsOnce words) × IsUnread old new × Appends old.written new.written usage_line
-EndsWith words old new ReadFault = IsOnce words × IsUnanswered old new × Rose old.read_faults new.read_faults
-EndsWith words old new WriteFault = Rose old.write_faults new.write_faults × ((text : List ℕ) × IsSaid words old new text × AppendsPart old.written new.written text)
-EndsWith words old new NoMemory = IsOnce words × IsUnanswered old new
-EndsWith words old new Refused = IsOnce words × Tells IsRefused old new
+-- what words that are no command leave
+abbrev pub EndsUsage : Link → Link → Status → Type 0
+EndsUsage old new Done = ⊥
+EndsUsage old new NoCommand = IsUnread old new × Appends old.written new.written usage_line
+EndsUsage old new ReadFault = ⊥
+EndsUsage old new WriteFault = IsUnread old new × AppendsPart old.written new.written usage_line × Rose old.write_faults new.write_faults
+EndsUsage old new NoMemory = ⊥
+EndsUsage old new Refused = ⊥
 
--- what a call of `run` leaves that answers this number: it is the code of a status, which the call ended with, and no count of faults fell
+-- what a call with these words leaves, which answers this number: the code of the status that it ended with
 pub record Leaves (words : List (List ℕ)) (old new : Link) (code : ℕ) : Type 0 where
   pub status : Status
   pub answered : code ≡ status_code status
-  pub ended : EndsWith words old new status
+  pub once : IsOnce words → EndsOnce old new status
+  pub usage : (¬ IsOnce words) → EndsUsage old new status
   pub read_faults : old.read_faults ≤ new.read_faults
   pub write_faults : old.write_faults ≤ new.write_faults
+
+-- a link as its two ends tell it
+abbrev pub seen : {S W : Type 0} → (S → Option (List ℕ)) → (S → ℕ) → (W → Option (List ℕ)) → (W → ℕ) → Both S W → Link
+seen left read_faults written write_faults link = record { left = left link.source; written = written link.sink; read_faults = read_faults link.source; write_faults = write_faults link.sink }

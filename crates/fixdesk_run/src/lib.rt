@@ -6,6 +6,9 @@
 
 mod answer;
 mod case;
+mod command;
 mod input;
 mod once;
 mod status;
+
+pub use command::run;

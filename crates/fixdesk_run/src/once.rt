@@ -4,14 +4,14 @@ ghost use Rattle.fix_model.specs.Valid.{IsValid};
 ghost use Rattle.fixdesk_run.specs.declared.case.Case.{Case as CaseOf};
 ghost use Rattle.fixdesk_run.specs.Answer.{IsAnswer};
 ghost use Rattle.fixdesk_run.specs.Case.{PartsFit};
-ghost use Rattle.fixdesk_run.specs.Once.{IsReplyTo};
+ghost use Rattle.fixdesk_run.specs.Once.{IsReplyTo, EndsOnce, seen};
 
 use crate::answer::answer;
 use crate::case::Case;
 use crate::case::read::{CaseFault, case_of};
-use crate::input::MOST;
-use crate::status::{Refusal, Reply};
-use desk_base::{NoMemory, Steps};
+use crate::input::{InputFault, MOST, input_of};
+use crate::status::{Refusal, Reply, Status};
+use desk_base::{Both, Failed, NoMemory, Sink, Source, Steps, write_all};
 use fix_engine::{Work, apply, least};
 use fix_model::ListBook;
 use std::alloc::Global;
@@ -52,5 +52,27 @@ fn answer_to(alloc: Global, case: Case) -> Result<Vec<u8>, NoMemory>
     match answer::<(), ListBook>(alloc, attributes.as_slice(), &book, &state, run) {
         Ok(text) => Ok(text),
         Err(_) => Err(NoMemory),
+    }
+}
+
+/// Answers the case that the link has left.
+pub fn once<S: Source, W: Sink>(alloc: Global, link: &mut Both<S, W>) -> Status
+    ensures ended { let seen = seen S.left S.read_faults W.written W.write_faults in
+        EndsOnce (seen link.old) (seen link.new) result }
+    ensures read_faults { S.read_faults link.old.source ≤ S.read_faults link.new.source }
+    ensures write_faults { W.write_faults link.old.sink ≤ W.write_faults link.new.sink }
+{
+    let bytes = match input_of(alloc, &mut link.source) {
+        Ok(bytes) => bytes,
+        Err(InputFault::Failed) => return Status::ReadFault,
+        Err(InputFault::NoMemory) => return Status::NoMemory,
+    };
+    let reply = match reply_to(alloc, bytes.as_slice()) {
+        Ok(reply) => reply,
+        Err(NoMemory) => return Status::NoMemory,
+    };
+    match write_all(&mut link.sink, reply.text()) {
+        Ok(()) => reply.status(),
+        Err(Failed) => Status::WriteFault,
     }
 }

@@ -1,6 +1,6 @@
 //! How a call of `run` ends.
 ghost use Rattle.std.specs.Prelude.{◌≡◌};
-ghost use Rattle.fixdesk_run.specs.Once.{status_code, refusal_line};
+ghost use Rattle.fixdesk_run.specs.Once.{status_code, refusal_line, reply_text, reply_status};
 
 /// What became of a command.
 #[derive(Clone, Copy, Debug, PartialEq, Eq)]
@@ -66,4 +66,26 @@ pub enum Reply {
     Answered(Vec<u8>),
     /// It is refused.
     Refused(Refusal),
+}
+
+impl Reply {
+    /// The text, with its LF.
+    pub fn text(&self) -> &[u8]
+        ensures { result.now ≡ reply_text self.now }
+    {
+        match self {
+            Reply::Answered(text) => text.as_slice(),
+            Reply::Refused(refusal) => refusal.line(),
+        }
+    }
+
+    /// The status that it is told with.
+    pub fn status(&self) -> Status
+        ensures { result ≡ reply_status self.now }
+    {
+        match self {
+            Reply::Answered(_) => Status::Done,
+            Reply::Refused(_) => Status::Refused,
+        }
+    }
 }
