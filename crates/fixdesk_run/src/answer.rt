@@ -5,8 +5,8 @@ ghost use Rattle.serde_json.specs.Written.{has_float, compact_text};
 ghost use Rattle.fix_model.specs.States.{Fits};
 ghost use Rattle.fixdesk_run.specs.Answer.{cell_shown, cells_shown, step_shown, result_shown, line, answer_line};
 
-use fix_model::{Book, Cell, State, Step, value};
 use desk_base::Text;
+use fix_model::{Book, Cell, State, Step, value};
 use serde_json::{Value, json};
 use std::alloc::{AllocError, Global};
 

@@ -10,5 +10,7 @@ mod command;
 mod input;
 mod once;
 mod status;
+#[cfg(test)]
+mod tests;
 
 pub use command::run;

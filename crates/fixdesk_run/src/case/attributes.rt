@@ -77,7 +77,10 @@ impl Attributes {
 fn are_words(texts: &List<Text>) -> bool
     ensures { result ≡ list_all is_word texts.now }
 {
-    texts.as_slice().iter().all(|text| is_word(text.as_str().as_bytes()))
+    texts
+        .as_slice()
+        .iter()
+        .all(|text| is_word(text.as_str().as_bytes()))
 }
 
 fn place_of(words: &[Text], word: &str) -> Option<usize>

@@ -168,11 +168,20 @@ fn attributes(alloc: Global, value: &Value) -> Result<Option<Attributes>, NoMemo
 fn has_case_keys(value: &Value) -> bool
     ensures { result ≡ has_case_keys (view value.now) }
 {
-    has_keys(value, &["attributes", "confirmed", "masters", "record", "rules"])
-        || has_keys(
-            value,
-            &["attributes", "confirmed", "folded", "masters", "record", "rules"],
-        )
+    has_keys(
+        value,
+        &["attributes", "confirmed", "masters", "record", "rules"],
+    ) || has_keys(
+        value,
+        &[
+            "attributes",
+            "confirmed",
+            "folded",
+            "masters",
+            "record",
+            "rules",
+        ],
+    )
 }
 
 /// The case that the value is.

@@ -152,11 +152,7 @@ fn master_at(key: &str, value: &Value) -> Option<u16>
     master(value.get(key)?)
 }
 
-fn rule(
-    alloc: Global,
-    attributes: &Attributes,
-    value: &Value,
-) -> Result<Option<Rule>, NoMemory>
+fn rule(alloc: Global, attributes: &Attributes, value: &Value) -> Result<Option<Rule>, NoMemory>
     ensures { IfOk result (λ rule. rule ≡ rule_of attributes.now (view value.now)) }
 {
     let Some(keys) = read_field(alloc, attributes, "keys", value)? else {
