@@ -96,6 +96,7 @@ pub read_records-taken : (columns : Option (List (List ℕ))) (grid : Table) (ce
 read_records-taken None grid cells later fault begun fine is = absurd cc
 read_records-taken (Some columns) grid cells later fault begun fine is = read_records-row columns grid cells later fault fine is
 
+-- and stays without a fault by one that has none
 pub HasNoFault-row : (columns : Option (List (List ℕ))) (grid : Table) (cells : List (List ℕ)) → is_none columns ≡ false → HasNoFault columns grid → row_fault grid.columns (length grid.rows + 1) cells ≡ None → HasNoFault columns (record grid { rows = grid.rows ++ cells ∷ [] })
 HasNoFault-row None grid cells begun fine none = absurd cc
 HasNoFault-row (Some columns) grid cells begun fine none = IsFaultless-row columns grid cells fine none

@@ -29,6 +29,7 @@ pub both : (a b : Bool) → (a && b) ≡ true → (a ≡ true) × (b ≡ true)
 both true b h = (refl, h)
 both false b h = absurd cc
 
+-- a test whose opposite passed
 not-false : (b : Bool) → not b ≡ true → b ≡ false
 not-false false h = refl
 not-false true h = absurd cc
@@ -40,6 +41,7 @@ IsColumn-passed text utf8 passed =
     let first = both _ _ parts.0 in
     record { utf8 = IsUtf8-from_is_utf8 text utf8; some = ltb-true 0 (length text) first.0; short = leb-true (length text) 64 first.1; unmarked = not-false (begins_with_mark text) parts.1 }
 
+-- and is passed by each
 is_column-IsColumn : (text : List ℕ) → IsColumn text → is_column text ≡ true
 is_column-IsColumn text column = rw (lt-ltb 0 (length text) column.some, le-leb (length text) 64 column.short, column.unmarked) refl
 
@@ -50,9 +52,11 @@ bytes_eq-differ one other differ = elim (cases_Bool (bytes_eq one other)) [
   | inr new ↦ new
 ]
 
+-- texts whose test fails differ
 bytes_eq-refused : (one other : List ℕ) → bytes_eq one other ≡ false → other ≢ one
 bytes_eq-refused one other new same = let passed = (bytes_eq-Decides one other).1 (sym same) in absurd (let e = sym passed ∙ new in cc)
 
+-- both parts of a choice of tests that failed
 neither : (a b : Bool) → (a || b) ≡ false → (a ≡ false) × (b ≡ false)
 neither false b h = (refl, h)
 neither true b h = absurd cc
@@ -61,6 +65,7 @@ neither true b h = absurd cc
 stands_among-none : (earlier : List (List ℕ)) (column : List ℕ) → ((k : ℕ) (d : List ℕ) → k < length earlier → get_or earlier k d ≢ column) → stands_among earlier column ≡ false
 stands_among-none earlier column differs = list_any_none (bytes_eq column) earlier (λ k d within. bytes_eq-differ column (get_or earlier k d) (λ same. differs k d within (sym same)))
 
+-- and differs from each, where it does not
 stands_among-differs : (earlier : List (List ℕ)) (column : List ℕ) → stands_among earlier column ≡ false → (k : ℕ) (d : List ℕ) → k < length earlier → get_or earlier k d ≢ column
 stands_among-differs [] column new k d within = absurd (omega arith)
 stands_among-differs (text ∷ earlier) column new zero d within = bytes_eq-refused column text (neither _ _ new).0

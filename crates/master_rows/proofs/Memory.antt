@@ -16,6 +16,7 @@ fault_or : (test : Bool) (fault : SheetFault) (other : Option SheetFault) → fa
 fault_or true fault other apart later = λ (h : Some fault ≡ Some NoMemory). apart cc
 fault_or false fault other apart later = later
 
+-- of columns
 columns_fault-memory : (earlier later : List (List ℕ)) → columns_fault earlier later ≢ Some NoMemory
 columns_fault-memory earlier [] = λ h. cc
 columns_fault-memory earlier (column ∷ later) =
@@ -23,16 +24,19 @@ columns_fault-memory earlier (column ∷ later) =
     (fault_or _ (ColumnTwice (length earlier + 1)) _ (λ (h : ColumnTwice (length earlier + 1) ≡ NoMemory). cc)
     (columns_fault-memory (earlier ++ column ∷ []) later))
 
+-- of a header
 header_fault-memory : (header : List (List ℕ)) → header_fault header ≢ Some NoMemory
 header_fault-memory header =
     fault_or _ (NotUtf8 0) _ (λ (h : NotUtf8 0 ≡ NoMemory). cc)
     (fault_or _ TooManyColumns _ (λ (h : TooManyColumns ≡ NoMemory). cc)
     (columns_fault-memory [] header))
 
+-- of cells
 cells_fault-memory : (row column : ℕ) (cells : List (List ℕ)) → cells_fault row column cells ≢ Some NoMemory
 cells_fault-memory row column [] = λ h. cc
 cells_fault-memory row column (cell ∷ later) = fault_or _ (CellLong row column) _ (λ (h : CellLong row column ≡ NoMemory). cc) (cells_fault-memory row (column + 1) later)
 
+-- of a row
 row_fault-memory : (columns row : ℕ) (cells : List (List ℕ)) → row_fault columns row cells ≢ Some NoMemory
 row_fault-memory columns row cells =
     fault_or _ TooManyRows _ (λ (h : TooManyRows ≡ NoMemory). cc)
@@ -40,18 +44,22 @@ row_fault-memory columns row cells =
     (fault_or _ (NotUtf8 row) _ (λ (h : NotUtf8 row ≡ NoMemory). cc)
     (cells_fault-memory row 1 cells)))
 
+-- the first of two
 first_fault-memory : (first later : Option SheetFault) → first ≢ Some NoMemory → later ≢ Some NoMemory → first_fault first later ≢ Some NoMemory
 first_fault-memory None later one other = other
 first_fault-memory (Some fault) later one other = one
 
+-- of rows
 rows_fault-memory : (columns row : ℕ) (rows : List (List (List ℕ))) → rows_fault columns row rows ≢ Some NoMemory
 rows_fault-memory columns row [] = λ h. cc
 rows_fault-memory columns row (cells ∷ later) = first_fault-memory _ _ (row_fault-memory columns row cells) (rows_fault-memory columns (row + 1) later)
 
+-- what is given in its place
 unless-memory : (fault : Option SheetFault) (master : Master) → fault ≢ Some NoMemory → unless fault master ≢ Err NoMemory
 unless-memory None master apart = λ h. cc
 unless-memory (Some fault) master apart = λ h. apart cc
 
+-- of records
 read_records-memory : (rows : List (List (List ℕ))) → read_records rows ≢ Err NoMemory
 read_records-memory [] = λ h. cc
 read_records-memory (header ∷ rows) = unless-memory _ _ (first_fault-memory _ _ (header_fault-memory header) (rows_fault-memory (length header) 1 rows))

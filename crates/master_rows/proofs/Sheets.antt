@@ -29,9 +29,11 @@ ends_line : (test : Bool) → ends_at_end (if test then st.AfterCr else st.Start
 ends_line true = refl
 ends_line false = refl
 
+-- the step of a byte in a field does
 field_step : (c : ℕ) → LeavesNone (in_field default_config c)
 field_step c = choose (c == 44) _ _ (continues st.StartField act.EndField refl) (choose ((c == 13) || (c == 10)) _ _ (λ _. ends_line (c == 13)) (continues st.InField act.Copy refl))
 
+-- the step of a byte before a record does
 first_step : (c : ℕ) → LeavesNone (start_record default_config c)
 first_step c = choose ((c == 13) || (c == 10)) _ _ (continues st.StartRecord act.Skip refl) (choose (c == 34) _ _ (continues st.InQuoted act.Skip refl) (field_step c))
 
@@ -53,12 +55,14 @@ record IsTaken (s : State) (text : List ℕ) (taken : Read) : Type 0 where
   shorter : ends_at_end s ≡ false → length taken.2 < length text
   between : ends_at_end taken.1 ≡ false
 
+-- the byte that ends a record ends a field
 ends_with_field : (a : Action) (fields : List (List ℕ)) (field : List ℕ) → is_end a ≡ true → 1 ≤ length (fields_after a fields field)
 ends_with_field act.EndRecord fields field ends = omega (arith, length-append fields (field ∷ []))
 ends_with_field act.Skip fields field ends = absurd cc
 ends_with_field act.Copy fields field ends = absurd cc
 ends_with_field act.EndField fields field ends = absurd cc
 
+-- the next record is such a one
 next-taken : (s : State) (fields : List (List ℕ)) (field text : List ℕ) (taken : Read) → next_record default_config s fields field text ≡ Some taken → IsTaken s text taken
 unfolding next_record
 next-taken s fields field [] taken h = elim (cases_Bool (ends_at_end s)) [
@@ -85,6 +89,7 @@ record IsFront (rows all : List (List (List ℕ))) (s : State) (rest : List ℕ)
   between : ends_at_end s ≡ false
   front : all ≡ rows ++ records_from default_config fuel s rest
 
+-- records that were reached stand in front, wherever the machine began between two
 reached_front : (fuel : ℕ) (s s2 : State) (text rest : List ℕ) (rows : List (List (List ℕ))) → ends_at_end s ≡ false → length text < fuel → Reached default_config s text rows s2 rest → IsFront rows (records_from default_config fuel s text) s2 rest
 unfolding Reached records_from
 reached_front zero s s2 text rest rows apart enough h = absurd (omega arith)
@@ -117,15 +122,17 @@ records-end text rest rows s h end =
     let all = records-reached text rest rows s h in
     sym (all.front ∙ ap (λ more. rows ++ more) (records_from-none all.fuel s rest end) ∙ append-nil rows)
 
+-- a record and those behind it have fields where each has
 records_next-some : (next : Option Read) (more : State → List ℕ → List (List (List ℕ))) → ((taken : Read) → next ≡ Some taken → 1 ≤ length taken.0) → ((s : State) (text : List ℕ) → All (λ row. 1 ≤ length row) (more s text)) → All (λ row. 1 ≤ length row) (records_next more next)
 records_next-some None more here later = All-nil (λ row. 1 ≤ length row)
 records_next-some (Some taken) more here later = All-cons (λ row. 1 ≤ length row) taken.0 (more taken.1 taken.2) (here taken refl) (later taken.1 taken.2)
 
--- each record of a text has a field
+-- each record from a state on has a field
 records_from-some : (fuel : ℕ) (s : State) (text : List ℕ) → All (λ row. 1 ≤ length row) (records_from default_config fuel s text)
 unfolding records_from
 records_from-some zero s text = All-nil (λ row. 1 ≤ length row)
 records_from-some (suc fuel) s text = records_next-some (next_record default_config s [] [] text) (records_from default_config fuel) (λ taken is. (next-taken s [] [] text taken is).some) (records_from-some fuel)
 
+-- each record of a text has a field
 pub records-some : (text : List ℕ) → All (λ row. 1 ≤ length row) (records default_config text)
 records-some text = records_from-some (length text + 1) st.StartRecord text

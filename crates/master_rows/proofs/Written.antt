@@ -46,6 +46,7 @@ two_marks-unmarked text plain = elim (cases_Bool (begins_with_two_marks text)) [
   | inr other ↦ other
 ]
 
+-- a test beside one that failed
 and-false : (b : Bool) → (b && false) ≡ false
 and-false true = refl
 and-false false = refl

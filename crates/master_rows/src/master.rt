@@ -13,7 +13,9 @@ use std::alloc::Global;
 /// Master data: columns, and under them rows with a cell in each.
 #[derive(Debug, Drop)]
 pub struct Master {
+    /// The columns, in their order.
     pub columns: List<Text>,
+    /// The rows, in their order.
     pub grid: Grid,
 }
 
