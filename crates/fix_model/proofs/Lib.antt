@@ -6,5 +6,7 @@ pub mod Hits
 pub mod Lengths
 pub mod Pairs
 pub mod Plain
+pub mod Ranges
 pub mod Runs
 pub mod States
+pub mod Twins

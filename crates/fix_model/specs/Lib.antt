@@ -1,5 +1,6 @@
 pub mod Alike
 pub mod Application
+pub mod Entries
 pub mod FirstRun
 pub mod Hit
 pub mod Obeys

@@ -32,7 +32,7 @@ pub fn fires(kit: &Kit, state: &State, step: Step) -> bool
 }
 
 /// Whether the row is usable, and agrees with the values at those keys of the rule that are covered.
-pub(crate) fn row_agrees(kit: &Kit, state: &State, rule: &Rule, row: u32) -> bool
+pub fn row_agrees(kit: &Kit, state: &State, rule: &Rule, row: u32) -> bool
     requires valid { IsValid kit.now }
     requires rule_valid { IsValidRule kit.now rule.now }
     requires fits { Fits kit.now state.now }

@@ -78,7 +78,7 @@ impl Kit {
 
 impl Kit {
     /// The rule at a place, counted from 0.
-    pub(crate) fn rule(&self, place: u16) -> &Rule
+    pub fn rule(&self, place: u16) -> &Rule
         requires { place < length self.now.rules }
         ensures rule { result.now ≡ rule_at self.now place }
         ensures valid { IsValid self.now → IsValidRule self.now result.now }
@@ -87,7 +87,7 @@ impl Kit {
     }
 
     /// The master data of a rule.
-    pub(crate) fn master(&self, rule: &Rule) -> &Grid
+    pub fn master(&self, rule: &Rule) -> &Grid
         requires { rule.now.master < length self.now.masters }
         ensures { result.now ≡ master_of self.now rule.now }
     {
@@ -95,7 +95,7 @@ impl Kit {
     }
 
     /// The text that a step gives to the head of its rule.
-    pub(crate) fn step_text(&self, step: Step) -> &Text
+    pub fn step_text(&self, step: Step) -> &Text
         requires valid { IsValid self.now }
         requires step { IsStepOf self.now step }
         ensures { result.now ≡ step_text self.now step }
@@ -105,7 +105,7 @@ impl Kit {
     }
 
     /// The value of an attribute.
-    pub(crate) fn value<'a>(&'a self, state: &'a State, attr: u16) -> &'a Text
+    pub fn value<'a>(&'a self, state: &'a State, attr: u16) -> &'a Text
         requires valid { IsValid self.now }
         requires fits { Fits self.now state.now }
         requires attr_within { attr < self.now.width }
@@ -127,7 +127,7 @@ impl Kit {
     }
 
     /// Whether keys and conditions compare this attribute without regard to ASCII case.
-    pub(crate) fn folds(&self, attr: u16) -> bool
+    pub fn folds(&self, attr: u16) -> bool
         requires valid { IsValid self.now }
         requires attr_within { attr < self.now.width }
         ensures { result ≡ is_folded self.now attr }

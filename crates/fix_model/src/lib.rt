@@ -9,6 +9,7 @@
 mod application;
 mod book;
 mod comparison;
+mod entries;
 mod kit;
 pub mod laws;
 mod lent_book;
@@ -19,7 +20,7 @@ mod state;
 #[cfg(test)]
 mod tests;
 
-pub use application::fires;
+pub use application::{fires, row_agrees};
 pub use book::{Book, Hit, enabled, value};
 pub use comparison::alike;
 pub use kit::{Kit, MAX_CONDS, MAX_KEYS, MAX_MASTERS, MAX_RULES, MAX_SET, MAX_WIDTH};
