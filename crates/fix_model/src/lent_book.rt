@@ -109,8 +109,8 @@ fn other_row(kit: &Kit, state: &State, rule: &Rule, first: u32) -> Option<u32>
     None
 }
 
-/// Whether the row agrees and gives another text than the first one.
-fn gives_other(kit: &Kit, state: &State, rule: &Rule, first: u32, row: u32) -> bool
+/// Whether the row agrees with the values at all keys, and gives another text than the first one.
+pub fn gives_other(kit: &Kit, state: &State, rule: &Rule, first: u32, row: u32) -> bool
     requires valid { IsValid kit.now }
     requires rule_valid { IsValidRule kit.now rule.now }
     requires fits { Fits kit.now state.now }
@@ -130,7 +130,9 @@ fn gives_other(kit: &Kit, state: &State, rule: &Rule, first: u32, row: u32) -> b
     row_agrees(kit, state, rule, row)
 }
 
-fn some_row_agrees(kit: &Kit, state: &State, rule: &Rule) -> bool
+/// Whether some usable row of the rule agrees with the state at those keys that are covered. It goes
+/// through the rows of the rule's master.
+pub fn some_row_agrees(kit: &Kit, state: &State, rule: &Rule) -> bool
     requires valid { IsValid kit.now }
     requires rule_valid { IsValidRule kit.now rule.now }
     requires fits { Fits kit.now state.now }

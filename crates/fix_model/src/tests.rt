@@ -30,7 +30,12 @@ fn grid(rt: &impl Abort, alloc: Global, rows: &[(&str, &str)]) -> Result<Grid, F
 
 /// The town is fixed by column 1 where the zip agrees with column 0, and the kind is covered.
 fn kit(rt: &impl Abort, alloc: Global, folded: bool) -> Result<Kit, Fail> {
-    let rows = [("", "Ayr"), ("EH7", "Edi"), ("EH7", "Edi"), ("EH7", "Leith")];
+    let rows = [
+        ("", "Ayr"),
+        ("EH7", "Edi"),
+        ("EH7", "Edi"),
+        ("EH7", "Leith"),
+    ];
     let mut masters = List::new(alloc);
     masters.push(grid(rt, alloc, &rows)?)?;
     let mut keys = List::new(alloc);
@@ -69,10 +74,18 @@ fn a_step_fires_where_its_row_agrees(rt: HostRuntime) -> Result<(), Fail> {
         let typed = texts(rt.alloc(), &[zip, "", "x"])?;
         assert!(rt; typed.len() == 3 && kit.width == 3 && kit.rules.len() == 1 && kit.valid());
         let state = State::new(rt.alloc(), typed, &[true, false, true])?.copy()?;
-        assert_eq!(rt; fires(&kit, &state, Step { rule: 0, row }), expected, "{case}");
+        assert_eq!(rt;
+            fires(&kit, &state, Step { rule: 0, row }),
+            expected,
+            "{case}"
+        );
         let book = ListBook::new(kit);
         let mut steps = Steps::new(());
-        assert_eq!(rt; book.agrees(0, &state, &mut steps), zip == "EH7" || folded && zip != "", "{case}");
+        assert_eq!(rt;
+            book.agrees(0, &state, &mut steps),
+            zip == "EH7" || folded && zip != "",
+            "{case}"
+        );
     }
     Ok(())
 }
@@ -83,17 +96,35 @@ fn patterns_match_texts(rt: HostRuntime) -> Result<(), Fail> {
     let set = || texts(alloc, &["x", "Y"]);
     let rows = [
         ("is", Pat::Is(text(alloc, "x")?), "x", false, true),
-        ("is, another case", Pat::Is(text(alloc, "x")?), "X", false, false),
+        (
+            "is, another case",
+            Pat::Is(text(alloc, "x")?),
+            "X",
+            false,
+            false,
+        ),
         ("is, folded", Pat::Is(text(alloc, "x")?), "X", true, true),
         ("not", Pat::IsNot(text(alloc, "x")?), "x", false, false),
-        ("not, another", Pat::IsNot(text(alloc, "x")?), "y", false, true),
+        (
+            "not, another",
+            Pat::IsNot(text(alloc, "x")?),
+            "y",
+            false,
+            true,
+        ),
         ("in", Pat::OneOf(set()?), "Y", false, true),
         ("in, another case", Pat::OneOf(set()?), "y", false, false),
         ("in, folded", Pat::OneOf(set()?), "y", true, true),
         ("not in", Pat::NoneOf(set()?), "x", false, false),
         ("not in, another", Pat::NoneOf(set()?), "z", false, true),
         ("any", Pat::Any, "", false, true),
-        ("no fold past ASCII", Pat::Is(text(alloc, "É")?), "é", true, false),
+        (
+            "no fold past ASCII",
+            Pat::Is(text(alloc, "É")?),
+            "é",
+            true,
+            false,
+        ),
     ];
     for (case, pat, content, folded, expected) in rows {
         let content = text(alloc, content)?;
