@@ -1,0 +1,68 @@
+-- How a rulebook is printed.
+use Rattle.std.specs.Prelude.{codes, ℕ, ◌==◌, if◌then◌else◌, List, [], ◌∷◌, ◌++◌, map, unwrap_or, slice_get}
+use Rattle.std.specs.List.{flat_map}
+use Rattle.desk_base.specs.Words.{is_word}
+use Rattle.fix_model.specs.declared.pattern.Pat.{Pat}
+use Rattle.fix_model.specs.declared.pattern.Pat.TheVariants.{Is, IsNot, OneOf, NoneOf, Any}
+use Rattle.schema_core.specs.declared.schema.Schema.{Schema}
+use Rattle.rule_text.specs.declared.rulebook.RuleLine.{RuleLine}
+use Rattle.rule_text.specs.declared.rulebook.Rulebook.{Rulebook}
+
+-- each quote twice
+abbrev pub doubled : List ℕ → List ℕ
+doubled [] = []
+doubled (byte ∷ rest) = if byte == 34 then 34 ∷ 34 ∷ doubled rest else byte ∷ doubled rest
+
+-- between quotes
+abbrev pub string_text : List ℕ → List ℕ
+string_text text = 34 ∷ (doubled text ++ 34 ∷ [])
+
+-- a column as a word, where it is one, and else as a string
+abbrev pub column_text : List ℕ → List ℕ
+column_text column = if is_word column then column else string_text column
+
+-- an attribute by its word
+abbrev pub attribute_text : Schema → ℕ → List ℕ
+attribute_text schema attribute = unwrap_or (slice_get schema.attributes attribute) []
+
+-- texts with commas between
+abbrev pub listed : List (List ℕ) → List ℕ
+listed [] = []
+listed (first ∷ []) = first
+listed (first ∷ next ∷ rest) = first ++ codes ", " ++ listed (next ∷ rest)
+
+-- an attribute and the column that it is compared with or fixed from
+abbrev pub pair_text : Schema → ℕ × List ℕ → List ℕ
+pair_text schema pair = attribute_text schema pair.0 ++ codes " = " ++ column_text pair.1
+
+-- a set of texts
+abbrev pub set_text : List (List ℕ) → List ℕ
+set_text texts = codes "(" ++ listed (map string_text texts) ++ codes ")"
+
+-- what is asked of an attribute
+abbrev pub pattern_text : Pat → List ℕ
+pattern_text (Is constant) = codes " is " ++ string_text constant
+pattern_text (IsNot constant) = codes " not " ++ string_text constant
+pattern_text (OneOf texts) = codes " in " ++ set_text texts
+pattern_text (NoneOf texts) = codes " not in " ++ set_text texts
+pattern_text Any = codes " any"
+
+-- a condition
+abbrev pub cond_text : Schema → ℕ × Pat → List ℕ
+cond_text schema cond = attribute_text schema cond.0 ++ pattern_text cond.1
+
+-- the conditions, where there are some
+abbrev pub conds_text : Schema → List (ℕ × Pat) → List ℕ
+conds_text schema [] = []
+conds_text schema (first ∷ rest) = codes " when " ++ listed (map (cond_text schema) (first ∷ rest))
+
+-- a rule, on a line of its own
+unfoldable pub line_text : Schema → RuleLine → List ℕ
+line_text schema line =
+    codes "rule " ++ line.name ++ codes " from " ++ line.master ++ codes ": "
+    ++ listed (map (pair_text schema) line.keys) ++ codes " -> "
+    ++ pair_text schema (line.head, line.from) ++ conds_text schema line.conds ++ codes ";\n"
+
+-- all rules, in their order
+abbrev pub printed : Rulebook → Schema → List ℕ
+printed book schema = flat_map (line_text schema) book.lines

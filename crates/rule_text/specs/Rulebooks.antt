@@ -1,0 +1,68 @@
+-- What a rulebook over a schema is.
+use Rattle.std.specs.Prelude.{◌≡◌, ℕ, ◌<◌, ◌≤◌, nat_le, Bool, true, false, List, [], ◌∷◌, length, IsTrue, IsUtf8, ⊤}
+use Rattle.std.specs.List.{list_all, AllByRecursion}
+use Rattle.desk_base.specs.Words.{is_word}
+use Rattle.fix_model.specs.declared.pattern.Pat.{Pat}
+use Rattle.fix_model.specs.declared.pattern.Pat.TheVariants.{Is, IsNot, OneOf, NoneOf, Any}
+use Rattle.schema_core.specs.declared.schema.Schema.{Schema}
+use Rattle.rule_text.specs.declared.rulebook.RuleLine.{RuleLine}
+use Rattle.rule_text.specs.declared.rulebook.Rulebook.{Rulebook}
+use Rattle.rule_text.specs.Reading.{has_name, has_attribute}
+
+-- a byte that a string can hold
+abbrev pub is_plain : ℕ → Bool
+is_plain byte = nat_le 32 byte
+
+-- a text that a string can hold: UTF-8 of at most 200 bytes, none of them below 0x20
+pub record IsPlain (text : List ℕ) : Type 0 where
+  pub fits : length text ≤ 200
+  pub plain : IsTrue (list_all is_plain text)
+  pub utf8 : IsUtf8 text
+
+-- 1 to 64 such texts
+pub record IsSet (texts : List (List ℕ)) : Type 0 where
+  pub some : 1 ≤ length texts
+  pub fits : length texts ≤ 64
+  pub plain : AllByRecursion IsPlain texts
+
+-- a pattern of such texts
+abbrev pub IsPattern : Pat → Type 0
+IsPattern (Is constant) = IsPlain constant
+IsPattern (IsNot constant) = IsPlain constant
+IsPattern (OneOf texts) = IsSet texts
+IsPattern (NoneOf texts) = IsSet texts
+IsPattern Any = ⊤
+
+-- pairs with distinct attributes: none of the first's stands again behind it, and so on
+abbrev pub AreDistinct : {A : Type 0} → List (ℕ × A) → Type 0
+AreDistinct [] = ⊤
+AreDistinct (pair ∷ rest) = (has_attribute rest pair.0 ≡ false) × AreDistinct rest
+
+-- at most 8 distinct attributes of the schema, each with something beside it that is as it should be
+pub record ArePairs {A : Type 0} (IsGood : A → Type 0) (schema : Schema) (pairs : List (ℕ × A)) : Type 0 where
+  pub fits : length pairs ≤ 8
+  pub good : AllByRecursion (λ pair. (pair.0 < length schema.attributes) × IsGood pair.1) pairs
+  pub distinct : AreDistinct pairs
+
+-- the names are words, there is a key, and the head is an attribute that is neither key nor condition
+pub record IsLine (schema : Schema) (line : RuleLine) : Type 0 where
+  pub name : IsTrue (is_word line.name)
+  pub master : IsTrue (is_word line.master)
+  pub some : 1 ≤ length line.keys
+  pub keys : ArePairs IsPlain schema line.keys
+  pub head : line.head < length schema.attributes
+  pub no_key : has_attribute line.keys line.head ≡ false
+  pub from : IsPlain line.from
+  pub conds : ArePairs IsPattern schema line.conds
+  pub no_cond : has_attribute line.conds line.head ≡ false
+
+-- rules with distinct names: none behind the first has its name, and so on
+abbrev pub AreNamedApart : List RuleLine → Type 0
+AreNamedApart [] = ⊤
+AreNamedApart (line ∷ rest) = (has_name rest line.name ≡ false) × AreNamedApart rest
+
+-- at most 200 rules with distinct names
+pub record IsRulebook (schema : Schema) (book : Rulebook) : Type 0 where
+  pub fits : length book.lines ≤ 200
+  pub lines : AllByRecursion (IsLine schema) book.lines
+  pub named_apart : AreNamedApart book.lines
