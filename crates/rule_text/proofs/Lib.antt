@@ -1,2 +1,3 @@
 pub mod Strings
 pub mod Tokens
+pub mod Printed

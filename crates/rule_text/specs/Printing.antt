@@ -1,5 +1,5 @@
 -- How a rulebook is printed.
-use Rattle.std.specs.Prelude.{codes, ℕ, ◌==◌, if◌then◌else◌, List, [], ◌∷◌, ◌++◌, map, unwrap_or, slice_get}
+use Rattle.std.specs.Prelude.{codes, ℕ, zero, suc, ◌==◌, if◌then◌else◌, List, [], ◌∷◌, ◌++◌, map, unwrap_or, slice_get}
 use Rattle.std.specs.List.{flat_map}
 use Rattle.desk_base.specs.Words.{is_word}
 use Rattle.fix_model.specs.declared.pattern.Pat.{Pat}
@@ -25,11 +25,16 @@ column_text column = if is_word column then column else string_text column
 abbrev pub attribute_text : Schema → ℕ → List ℕ
 attribute_text schema attribute = unwrap_or (slice_get schema.attributes attribute) []
 
+-- what stands before the item at a place, counted from 0: a comma behind another item
+abbrev pub separator : ℕ → List ℕ
+separator zero = []
+separator (suc place) = codes ", "
+
 -- texts with commas between
 abbrev pub listed : List (List ℕ) → List ℕ
 listed [] = []
 listed (first ∷ []) = first
-listed (first ∷ next ∷ rest) = first ++ codes ", " ++ listed (next ∷ rest)
+listed (first ∷ next ∷ rest) = first ++ separator 1 ++ listed (next ∷ rest)
 
 -- an attribute and the column that it is compared with or fixed from
 abbrev pub pair_text : Schema → ℕ × List ℕ → List ℕ

@@ -9,15 +9,14 @@
 mod draft;
 mod fault;
 mod grammar;
-
 mod place;
+mod printing;
 mod reading;
-
 mod rulebook;
 mod state;
 mod token;
 
 pub use fault::RuleFault;
+pub use printing::print;
 pub use reading::read;
-
 pub use rulebook::{RuleLine, Rulebook};
