@@ -1,6 +1,7 @@
 //! From bytes to a rulebook.
 ghost use Rattle.std.specs.Prelude.{◌≡◌, ◌≢◌, [], Ok, Err, option_map, IfOk, IfErr};
 ghost use Rattle.schema_core.specs.Schemas.{IsSchema};
+ghost use Rattle.rule_text.specs.Rulebooks.{IsRulebook};
 ghost use Rattle.rule_text.specs.Reading.{read_rules, begins_rule, extra_rule, draft_behind, with_tokens};
 
 use crate::draft::Draft;
@@ -21,6 +22,7 @@ const MAX_RULES: usize = 200;
 pub fn read(alloc: Global, text: &[u8], schema: &Schema) -> Result<Rulebook, RuleFault>
     requires { IsSchema schema.now }
     ensures book { IfOk result (λ book. read_rules text.now schema.now ≡ Ok book) }
+    ensures sound { IfOk result (IsRulebook schema.now) }
 
     // Each refusal but want of memory, exactly where it comes.
     ensures fault { IfErr result (λ fault. fault ≢ RuleFault.NoMemory
