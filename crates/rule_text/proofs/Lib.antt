@@ -4,3 +4,6 @@ pub mod Printed
 pub mod Walk
 pub mod Parts
 pub mod Sound
+pub mod Spelled
+pub mod Steps
+pub mod Again

@@ -20,7 +20,7 @@ AllByRecursion-push P (y ∷ ys) x all last = (all.0, AllByRecursion-push P ys x
 pub nat_eq-other : (x y : ℕ) → (x == y) ≡ false → (y == x) ≡ false
 nat_eq-other x y other = grind (arith, nat_tests)
 
-bytes_eq-other : (xs ys : List ℕ) → bytes_eq xs ys ≡ false → bytes_eq ys xs ≡ false
+pub bytes_eq-other : (xs ys : List ℕ) → bytes_eq xs ys ≡ false → bytes_eq ys xs ≡ false
 bytes_eq-other xs ys other =
     elim (cases_Bool (bytes_eq ys xs)) [
       | inl is ↦ let same : bytes_eq xs ys ≡ true = (bytes_eq-Decides xs ys).1 (sym ((bytes_eq-Decides ys xs).0 is)) in absurd cc

@@ -482,7 +482,7 @@ hold-step schema state.AfterCond after token place draft held spelled goes read 
 
 -- ---- the rules of all tokens
 
-bound : {A B : Type 0} (first : Result A RuleFault) (others : A → Result B RuleFault) (value : B) → and_then first others ≡ Ok value → (x : A) × (first ≡ Ok x) × (others x ≡ Ok value)
+pub bound : {A B : Type 0} (first : Result A RuleFault) (others : A → Result B RuleFault) (value : B) → and_then first others ≡ Ok value → (x : A) × (first ≡ Ok x) × (others x ≡ Ok value)
 bound (Ok x) others value is = (x, refl, is)
 bound (Err fault) others value is = absurd cc
 

@@ -29,11 +29,11 @@ taken_from-passed state place (suc passed) (byte ∷ rest) = taken_from-passed s
 
 module _ (state : State) (place : Place) (byte : ℕ) (rest : List ℕ) (more : ℕ) where
   -- behind a blank or a comment the text goes on
-  taken_from-gap : piece_at (byte ∷ rest) ≡ Gap more → taken_from state place 0 (byte ∷ rest) ≡ taken_from state (place_behind (place_after place byte) (take more rest)) 0 (drop more rest)
+  pub taken_from-gap : piece_at (byte ∷ rest) ≡ Gap more → taken_from state place 0 (byte ∷ rest) ≡ taken_from state (place_behind (place_after place byte) (take more rest)) 0 (drop more rest)
   taken_from-gap piece = rw piece (taken_from-passed state (place_after place byte) more rest)
 
   -- a token that is taken comes first
-  taken_from-token : (token : Token) (after : State) → piece_at (byte ∷ rest) ≡ Spelled token more → next state token ≡ Some after → taken_from state place 0 (byte ∷ rest) ≡ with_first (record { state = state; token = token; place = place }) (taken_from after (place_behind (place_after place byte) (take more rest)) 0 (drop more rest))
+  pub taken_from-token : (token : Token) (after : State) → piece_at (byte ∷ rest) ≡ Spelled token more → next state token ≡ Some after → taken_from state place 0 (byte ∷ rest) ≡ with_first (record { state = state; token = token; place = place }) (taken_from after (place_behind (place_after place byte) (take more rest)) 0 (drop more rest))
   taken_from-token token after piece led = rw (piece, led) (ap (with_first (record { state = state; token = token; place = place })) (taken_from-passed after (place_after place byte) more rest))
 
 -- the loop goes on behind a blank or a comment

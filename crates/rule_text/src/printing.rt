@@ -1,8 +1,9 @@
 //! How a rulebook is printed.
-ghost use Rattle.std.specs.Prelude.{◌≡◌, ◌<◌, ◌++◌, ◌∷◌, [], codes, length, map, OnOk, IfOk};
+ghost use Rattle.std.specs.Prelude.{◌≡◌, ◌<◌, ◌++◌, ◌∷◌, [], codes, length, map, Ok, OnOk, IfOk};
 ghost use Rattle.std.specs.List.{AllByRecursion};
 ghost use Rattle.schema_core.specs.Schemas.{IsSchema};
 ghost use Rattle.rule_text.specs.Rulebooks.{IsRulebook, IsLine, IsPlain, IsPattern};
+ghost use Rattle.rule_text.specs.Reading.{read_rules};
 ghost use Rattle.rule_text.specs.Printing.{doubled, string_text, column_text, attribute_text, separator, listed, pair_text, set_text, pattern_text, cond_text, conds_text, line_text, printed};
 
 use crate::rulebook::{RuleLine, Rulebook};
@@ -11,11 +12,12 @@ use fix_model::Pat;
 use schema_core::Schema;
 use std::alloc::Global;
 
-/// Prints a rulebook: each rule on a line of its own.
+/// Prints a rulebook, each rule on a line of its own. What is printed reads as the same rulebook.
 pub fn print(alloc: Global, book: &Rulebook, schema: &Schema) -> Result<List<u8>, NoMemory>
     requires schema { IsSchema schema.now }
     requires book { IsRulebook schema.now book.now }
     ensures text { IfOk result (λ text. text ≡ printed book.now schema.now) }
+    ensures again { IfOk result (λ text. read_rules text schema.now ≡ Ok book.now) }
 {
     let mut out = Vec::new(alloc);
     'lines: for line in book.lines.as_slice() {
