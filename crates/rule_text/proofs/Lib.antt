@@ -7,3 +7,4 @@ pub mod Sound
 pub mod Spelled
 pub mod Steps
 pub mod Again
+pub mod BindingKits

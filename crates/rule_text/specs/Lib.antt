@@ -3,3 +3,4 @@ pub mod Grammar
 pub mod Reading
 pub mod Rulebooks
 pub mod Printing
+pub mod Binding

@@ -1,11 +1,15 @@
-//! The language in which stewards write editing rules: how a rulebook is read and printed.
+//! The language in which stewards write editing rules: how a rulebook is read, printed and bound to
+//! masters.
 //!
 //! A clause sees a `Rulebook` as its lines, each with names, attributes by their number in the schema,
 //! and texts as bytes. `specs/Tokens.antt` says how tokens are spelled, `specs/Grammar.antt` in which
-//! order they come, `specs/Reading.antt` what a text reads as, and `specs/Printing.antt` how a rulebook
-//! is printed.
+//! order they come, `specs/Reading.antt` what a text reads as, `specs/Printing.antt` how a rulebook is
+//! printed, and `specs/Binding.antt` what it binds to.
 #![tactic(auto)]
 
+mod binding;
+#[cfg(test)]
+mod binding_tests;
 mod draft;
 mod fault;
 mod grammar;
@@ -16,6 +20,7 @@ mod rulebook;
 mod state;
 mod token;
 
+pub use binding::{BindFault, bind};
 pub use fault::RuleFault;
 pub use printing::print;
 pub use reading::read;
