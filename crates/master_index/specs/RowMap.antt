@@ -1,0 +1,27 @@
+-- The rows of a master by the texts of one column.
+use Rattle.std.specs.Prelude.{◌≡◌, ℕ, Bool, List, [], length, filter}
+use Rattle.std.specs.BTreeMap.{get_by}
+use Rattle.std.specs.Cmp.Lexicographic.{slice_cmp}
+use Rattle.std.specs.List.{range_with_len}
+use Rattle.std.specs.Option.{option_map_or}
+use Rattle.std.specs.Ordering.{nat_cmp}
+use Rattle.std.specs.Str.{bytes_eq}
+use Rattle.desk_base.specs.Grid.{Table, cell_text}
+use Rattle.fix_model.specs.Alike.{compared}
+use Rattle.master_index.specs.declared.row_map.RowMap.{RowMap}
+
+-- whether the row's text in this column is compared as this key
+abbrev pub has_key : Table → ℕ → Bool → List ℕ → ℕ → Bool
+has_key table column folded key row = bytes_eq key (compared folded (cell_text table row column))
+
+-- all such rows, in ascending order
+abbrev pub rows_with_key : Table → ℕ → Bool → List ℕ → List ℕ
+rows_with_key table column folded key = filter (has_key table column folded key) (range_with_len 0 (length table.rows))
+
+-- the rows that a map holds at a key, none where it has no entry
+abbrev pub rows_at : RowMap → List ℕ → List ℕ
+rows_at map key = option_map_or (λ rows. rows.items) (get_by (λ held. slice_cmp nat_cmp key held.items) map.rows) []
+
+-- the map holds at each key exactly the rows whose text in this column is compared as it
+abbrev pub IsMapOf : Table → ℕ → Bool → RowMap → Type 0
+IsMapOf table column folded map = (key : List ℕ) → rows_at map key ≡ rows_with_key table column folded key

@@ -1,0 +1,10 @@
+//! Why an index is not built.
+
+/// Why there is no index of a kit.
+#[derive(Clone, Copy, Debug, PartialEq, Eq)]
+pub enum BuildFault {
+    /// The index would hold so many entries, more than `MAX_ENTRIES`.
+    TooWide(u64),
+    /// There was no memory for it.
+    NoMemory,
+}

@@ -1,0 +1,16 @@
+//! A book over a kit with an index of its masters, so that a look goes through few rows.
+//!
+//! A clause sees a `MapBook` as its kit. `specs/RowMap.antt` says what a map of a master holds, and
+//! `specs/Index.antt` that each rule has its map.
+#![tactic(auto)]
+
+mod error;
+mod index;
+mod looks;
+mod map_book;
+mod row_map;
+#[cfg(test)]
+mod tests;
+
+pub use error::BuildFault;
+pub use map_book::{MAX_ENTRIES, MapBook};

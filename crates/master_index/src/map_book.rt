@@ -1,0 +1,91 @@
+//! The book over a kit with an index of its masters.
+ghost use Rattle.std.specs.Prelude.{◌≡◌, ◌<◌, ◌↔◌, ℕ, IfOk, IsErrOf};
+ghost use Rattle.fix_model.specs.Entries.{entries};
+ghost use Rattle.fix_model.specs.Valid.{IsValid};
+
+use crate::error::BuildFault;
+use crate::index::Index;
+use crate::looks::{hit_among, some_among};
+use desk_base::{Steps, Text};
+use fix_model::{Book, Hit, Kit, Rule, State, Step, some_row_agrees};
+use std::alloc::Global;
+use std::marker::Model;
+
+/// The greatest number of entries in an index.
+pub const MAX_ENTRIES: u64 = 2_000_000;
+
+/// A valid kit as a book, with an index of its masters. A look for the rows of a rule whose first key is
+/// covered goes through those rows alone that are alike the value there.
+#[derive(Debug, Drop)]
+pub struct MapBook {
+    inside: Kit,
+    index: Index,
+}
+
+impl Model for MapBook {
+    ghost use Rattle.fix_model.specs.declared.kit.Kit.{Kit};
+    ghost use Rattle.fix_model.specs.Valid.{IsValid};
+    ghost use Rattle.master_index.specs.Index.{IsIndexOf};
+
+    ghost Value = { Kit };
+
+    ghost view = { λ b. b.inside };
+
+    ghost invariant = { λ b. IsValid b.inside × IsIndexOf b.inside b.index };
+}
+
+impl MapBook {
+    /// The book over this kit. Where the index would hold more entries than `MAX_ENTRIES`, it is refused
+    /// with their number.
+    pub fn build(alloc: Global, kit: Kit) -> Result<MapBook, BuildFault>
+        requires { IsValid kit }
+        ensures book { IfOk result (λ book. book ≡ kit) }
+        ensures too_wide { (count : ℕ) → IsErrOf result (BuildFault.TooWide count)
+            ↔ ((count ≡ entries kit) × (2000000 < count)) }
+    {
+        let entries = kit.entries();
+        if entries > MAX_ENTRIES {
+            return Err(BuildFault::TooWide(entries));
+        }
+        match Index::build(alloc, &kit) {
+            Ok(index) => Ok(MapBook { inside: kit, index }),
+            Err(_) => Err(BuildFault::NoMemory),
+        }
+    }
+}
+
+impl<L> Book<L> for MapBook {
+    ghost kit = { λ b. b };
+
+    fn width(&self) -> u16 {
+        self.inside.width
+    }
+
+    fn rules(&self) -> &[Rule] {
+        self.inside.rules.as_slice()
+    }
+
+    fn folds(&self, attr: u16) -> bool {
+        self.inside.folds(attr)
+    }
+
+    fn text(&self, step: Step) -> &Text {
+        self.inside.step_text(step)
+    }
+
+    fn find(&self, rule: u16, state: &State, steps: &mut Steps<L>) -> Option<Hit> {
+        steps.look();
+        let rows = self.index.rows_alike(&self.inside, rule, state);
+        hit_among(&self.inside, state, self.inside.rule(rule), rows)
+    }
+
+    fn agrees(&self, rule: u16, state: &State, steps: &mut Steps<L>) -> bool {
+        steps.look();
+        let this = self.inside.rule(rule);
+        if !state.covers(this.keys.as_slice()[0].0) {
+            return some_row_agrees(&self.inside, state, this);
+        }
+        let rows = self.index.rows_alike(&self.inside, rule, state);
+        some_among(&self.inside, state, this, rows)
+    }
+}
