@@ -4,6 +4,7 @@ pub mod Printed
 pub mod Walk
 pub mod Parts
 pub mod Sound
+pub mod Memory
 pub mod Spelled
 pub mod Steps
 pub mod Again

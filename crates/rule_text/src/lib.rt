@@ -13,6 +13,7 @@ mod binding_tests;
 mod draft;
 mod fault;
 mod grammar;
+pub mod laws;
 mod place;
 mod printing;
 mod reading;
