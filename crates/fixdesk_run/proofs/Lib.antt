@@ -1,3 +1,4 @@
+pub mod Determined
 pub mod Distinct
 pub mod Floats
 pub mod Keys

@@ -8,6 +8,7 @@ mod answer;
 mod case;
 mod command;
 mod input;
+pub mod laws;
 mod once;
 mod status;
 #[cfg(test)]

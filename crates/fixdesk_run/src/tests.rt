@@ -5,41 +5,19 @@ use std::alloc::{AllocError, Global};
 use std::process::Abort;
 use std::test::Fail;
 
-/// The parts of a case, each as JSON.
-#[derive(Clone, Copy)]
-struct Parts<'a> {
-    attributes: &'a str,
-    confirmed: &'a str,
-    /// `"folded":[..],`, or nothing.
-    folded: &'a str,
-    masters: &'a str,
-    record: &'a str,
-    rules: &'a str,
-}
-
 /// A town by its code: the code is confirmed, and one master row has it.
-const TOWN: Parts<'static> = Parts {
-    attributes: r#"["zip","city"]"#,
-    confirmed: r#"["zip"]"#,
-    folded: "",
-    masters: r#"[[["EH7","Edi"]]]"#,
-    record: r#"["EH7","Ldn"]"#,
-    rules: r#"[{"conds":[],"from":2,"head":"city","keys":[["zip",1]],"master":1}]"#,
-};
+const TOWN: &str =
+    r#"{"attributes":["zip","city"],"confirmed":["zip"],"masters":[[["EH7","Edi"]]],"record":["EH7","Ldn"],"rules":[{"conds":[],"from":2,"head":"city","keys":[["zip",1]],"master":1}]}"#;
 
-/// The same with a third attribute, on which a condition is put.
-const KIND: Parts<'static> = Parts {
-    attributes: r#"["zip","city","kind"]"#,
-    confirmed: r#"["zip","kind"]"#,
-    folded: "",
-    masters: r#"[[["EH7","Edi"]]]"#,
-    record: r#"["EH7","","x"]"#,
-    rules: "",
-};
-
+/// What is answered to it.
 const TOWN_FIXED: &str =
     r#"{"answer":"first","cells":[["zip","EH7","confirmed"],["city","Edi","fixed",1,1]],"first":[[1,1]]}"#;
 
+/// The same with a third attribute, which is confirmed, so that conditions can be put on it.
+const KIND: &str =
+    r#"{"attributes":["zip","city","kind"],"confirmed":["zip","kind"],"masters":[[["EH7","Edi"]]],"record":["EH7","","x"],"rules":[{"conds":[],"from":2,"head":"city","keys":[["zip",1]],"master":1}]}"#;
+
+/// What is answered to it where the conditions hold, and where one doesn't.
 const KIND_FIXED: &str =
     r#"{"answer":"first","cells":[["zip","EH7","confirmed"],["city","Edi","fixed",1,1],["kind","x","confirmed"]],"first":[[1,1]]}"#;
 
@@ -71,24 +49,6 @@ fn list_of<T: Copy>(alloc: Global, items: &[T]) -> Result<List<T>, AllocError> {
     Ok(List::from_vec(Vec::from_slice(alloc, items)?))
 }
 
-fn input_of(alloc: Global, parts: Parts<'_>) -> Result<String, AllocError> {
-    format!(in alloc;
-        "{{\"attributes\":{},\"confirmed\":{},{}\"masters\":{},\"record\":{},\"rules\":{}}}",
-        parts.attributes, parts.confirmed, parts.folded, parts.masters, parts.record, parts.rules
-    )
-}
-
-/// One rule over the third attribute, with these conditions.
-fn rules_with(alloc: Global, conds: &str) -> Result<String, AllocError> {
-    format!(in alloc;
-        "[{{\"conds\":{conds},\"from\":2,\"head\":\"city\",\"keys\":[[\"zip\",1]],\"master\":1}}]"
-    )
-}
-
-fn line_of(alloc: Global, text: &str) -> Result<String, AllocError> {
-    format!(in alloc; "{text}\n")
-}
-
 fn call(alloc: Global, words: &[&str], input: &[u8], ends: Ends<'_>) -> Result<Told, Fail> {
     let mut owned = Vec::new(alloc);
     for word in words {
@@ -110,6 +70,14 @@ fn call(alloc: Global, words: &[&str], input: &[u8], ends: Ends<'_>) -> Result<T
     })
 }
 
+/// The text with this part in place of the first that equals `old`.
+fn edited(alloc: Global, text: &str, old: &str, new: &str) -> Result<String, AllocError> {
+    match text.split_once(old) {
+        Some((front, back)) => format!(in alloc; "{front}{new}{back}"),
+        None => String::from_str(alloc, "no such part"),
+    }
+}
+
 /// `once` answers the input with this line and status.
 fn tells(
     rt: &impl Abort,
@@ -120,102 +88,98 @@ fn tells(
     status: u8,
 ) -> Result<(), Fail> {
     let told = call(alloc, &["once"], input.as_bytes(), SOUND)?;
-    let line = line_of(alloc, text)?;
+    let line = format!(in alloc; "{text}\n")?;
     assert_eq!(rt; told.text.as_slice(), line.as_str().as_bytes(), "{case}");
     assert_eq!(rt; told.status, status, "{case}");
     Ok(())
 }
 
+/// `once` answers the edited text with this line and status.
+fn tells_edited(
+    rt: &impl Abort,
+    alloc: Global,
+    case: &str,
+    edit: (&str, &str, &str),
+    text: &str,
+    status: u8,
+) -> Result<(), Fail> {
+    let input = edited(alloc, edit.0, edit.1, edit.2)?;
+    tells(rt, alloc, case, input.as_str(), text, status)
+}
+
 #[test]
 fn answers_towns(rt: HostRuntime) -> Result<(), Fail> {
     let rows = [
-        ("the code is confirmed", TOWN, TOWN_FIXED),
+        ("the code is confirmed", "", "", TOWN_FIXED),
         (
             "nothing is confirmed",
-            Parts {
-                confirmed: "[]",
-                ..TOWN
-            },
+            r#""confirmed":["zip"]"#,
+            r#""confirmed":[]"#,
             r#"{"answer":"first","cells":[["zip","EH7","open"],["city","Ldn","open"]],"first":[]}"#,
         ),
         (
             "all is confirmed",
-            Parts {
-                confirmed: r#"["zip","city"]"#,
-                ..TOWN
-            },
+            r#""confirmed":["zip"]"#,
+            r#""confirmed":["zip","city"]"#,
             r#"{"answer":"first","cells":[["zip","EH7","confirmed"],["city","Ldn","confirmed"]],"first":[]}"#,
         ),
         (
-            "a word is listed twice",
-            Parts {
-                confirmed: r#"["zip","zip"]"#,
-                ..TOWN
-            },
+            "a confirmed word is listed twice",
+            r#""confirmed":["zip"]"#,
+            r#""confirmed":["zip","zip"]"#,
+            TOWN_FIXED,
+        ),
+        (
+            "the parts in another order, with blanks",
+            r#"{"attributes":["zip","city"],"confirmed":["zip"],"#,
+            "{ \"confirmed\" : [ \"zip\" ],\n\"attributes\":[\"zip\",\"city\"],",
             TOWN_FIXED,
         ),
         (
             "two rows hold the code",
-            Parts {
-                masters: r#"[[["EH7","Edi"],["EH7","Leith"]]]"#,
-                ..TOWN
-            },
+            r#"["EH7","Edi"]"#,
+            r#"["EH7","Edi"],["EH7","Leith"]"#,
             TOWN_FIXED,
         ),
         (
             "the second row alone holds the code",
-            Parts {
-                masters: r#"[[["G1","Gla"],["EH7","Edi"]]]"#,
-                ..TOWN
-            },
+            r#"["EH7","Edi"]"#,
+            r#"["G1","Gla"],["EH7","Edi"]"#,
             r#"{"answer":"first","cells":[["zip","EH7","confirmed"],["city","Edi","fixed",1,2]],"first":[[1,2]]}"#,
         ),
         (
             "rows with a blank",
-            Parts {
-                masters: r#"[[["","Edi"],["EH7",""]]]"#,
-                ..TOWN
-            },
+            r#"["EH7","Edi"]"#,
+            r#"["","Edi"],["EH7",""]"#,
             r#"{"answer":"first","cells":[["zip","EH7","confirmed"],["city","Ldn","open"]],"first":[]}"#,
         ),
         (
             "a master without rows",
-            Parts {
-                masters: "[[]]",
-                ..TOWN
-            },
+            r#"[["EH7","Edi"]]"#,
+            "[]",
             r#"{"answer":"first","cells":[["zip","EH7","confirmed"],["city","Ldn","open"]],"first":[]}"#,
         ),
         (
             "texts that are not ASCII, and a quote",
-            Parts {
-                masters: r#"[[["Málaga","29\""]]]"#,
-                record: r#"["M\u00e1laga",""]"#,
-                ..TOWN
-            },
+            r#"[[["EH7","Edi"]]],"record":["EH7","#,
+            r#"[[["Málaga","29\""]]],"record":["M\u00e1laga","#,
             r#"{"answer":"first","cells":[["zip","Málaga","confirmed"],["city","29\"","fixed",1,1]],"first":[[1,1]]}"#,
         ),
         (
             "a code in other letters",
-            Parts {
-                record: r#"["eh7","Ldn"]"#,
-                ..TOWN
-            },
+            r#""record":["EH7""#,
+            r#""record":["eh7""#,
             r#"{"answer":"first","cells":[["zip","eh7","confirmed"],["city","Ldn","open"]],"first":[]}"#,
         ),
         (
             "a code in other letters at a folded attribute",
-            Parts {
-                record: r#"["eh7","Ldn"]"#,
-                folded: r#""folded":["zip","zip"],"#,
-                ..TOWN
-            },
+            r#""masters":[[["EH7","Edi"]]],"record":["EH7""#,
+            r#""folded":["zip","zip"],"masters":[[["EH7","Edi"]]],"record":["eh7""#,
             r#"{"answer":"first","cells":[["zip","eh7","confirmed"],["city","Edi","fixed",1,1]],"first":[[1,1]]}"#,
         ),
     ];
-    for (case, parts, text) in rows {
-        let input = input_of(rt.alloc(), parts)?;
-        tells(&rt, rt.alloc(), case, input.as_str(), text, 0)?;
+    for (case, old, new, text) in rows {
+        tells_edited(&rt, rt.alloc(), case, (TOWN, old, new), text, 0)?;
     }
     Ok(())
 }
@@ -223,31 +187,27 @@ fn answers_towns(rt: HostRuntime) -> Result<(), Fail> {
 #[test]
 fn answers_conditions(rt: HostRuntime) -> Result<(), Fail> {
     let rows = [
+        ("none", "[]", KIND_FIXED),
         ("any", r#"[["kind","any"]]"#, KIND_FIXED),
         ("the text", r#"[["kind","is","x"]]"#, KIND_FIXED),
         ("another text", r#"[["kind","is","y"]]"#, KIND_OPEN),
         ("not the text", r#"[["kind","not","x"]]"#, KIND_OPEN),
         ("not another text", r#"[["kind","not","y"]]"#, KIND_FIXED),
-        ("among texts", r#"[["kind","in",["x","y"]]]"#, KIND_FIXED),
+        ("in a set", r#"[["kind","in",["x","y"]]]"#, KIND_FIXED),
+        ("in another set", r#"[["kind","in",["y"]]]"#, KIND_OPEN),
         (
-            "not among texts",
+            "not in the set",
             r#"[["kind","not_in",["x","y"]]]"#,
             KIND_OPEN,
         ),
         (
-            "not among other texts",
+            "not in another set",
             r#"[["kind","not_in",["y","y"]]]"#,
             KIND_FIXED,
         ),
     ];
     for (case, conds, text) in rows {
-        let rules = rules_with(rt.alloc(), conds)?;
-        let parts = Parts {
-            rules: rules.as_str(),
-            ..KIND
-        };
-        let input = input_of(rt.alloc(), parts)?;
-        tells(&rt, rt.alloc(), case, input.as_str(), text, 0)?;
+        tells_edited(&rt, rt.alloc(), case, (KIND, "[]", conds), text, 0)?;
     }
     Ok(())
 }
@@ -274,21 +234,18 @@ fn answers_chains_by_the_first_run(rt: HostRuntime) -> Result<(), Fail> {
 
 #[test]
 fn refuses_what_is_no_json(rt: HostRuntime) -> Result<(), Fail> {
-    for (case, input) in [
+    let rows = [
         ("nothing", ""),
         ("a blank", " "),
         ("an open object", "{"),
-        ("a case and a comma", "{},"),
+        ("an object and a comma", "{},"),
         ("a lone surrogate", "\"\\ud800\""),
-    ] {
+    ];
+    for (case, input) in rows {
         tells(&rt, rt.alloc(), case, input, "not json", 7)?;
     }
     let told = call(rt.alloc(), &["once"], b"\"\xff\"", SOUND)?;
-    assert_eq!(rt;
-        told.text.as_slice(),
-        b"not json\n".as_slice(),
-        "bytes that are no UTF-8"
-    );
+    assert_eq!(rt; told.text.as_slice(), b"not json\n".as_slice(), "no UTF-8");
     Ok(())
 }
 
@@ -296,105 +253,41 @@ fn refuses_what_is_no_json(rt: HostRuntime) -> Result<(), Fail> {
 fn refuses_parts_that_are_no_case(rt: HostRuntime) -> Result<(), Fail> {
     let rows = [
         (
-            "a confirmed word that names no attribute",
-            Parts {
-                confirmed: r#"["town"]"#,
-                ..TOWN
-            },
+            "an unknown confirmed word",
+            r#""confirmed":["zip"]"#,
+            r#""confirmed":["town"]"#,
         ),
         (
-            "a folded word that names no attribute",
-            Parts {
-                folded: r#""folded":["town"],"#,
-                ..TOWN
-            },
+            "an unknown folded word",
+            r#""masters""#,
+            r#""folded":["town"],"masters""#,
         ),
-        (
-            "a key too many",
-            Parts {
-                folded: r#""hidden":[],"#,
-                ..TOWN
-            },
-        ),
+        ("a key too many", r#""masters""#, r#""hidden":[],"masters""#),
+        ("a key too few", r#""confirmed":["zip"],"#, ""),
         (
             "an attribute twice",
-            Parts {
-                attributes: r#"["zip","zip"]"#,
-                ..TOWN
-            },
+            r#"["zip","city"]"#,
+            r#"["zip","zip"]"#,
         ),
-        (
-            "an attribute that is no word",
-            Parts {
-                attributes: r#"["zip","2city"]"#,
-                ..TOWN
-            },
-        ),
-        (
-            "no attributes",
-            Parts {
-                attributes: "[]",
-                confirmed: "[]",
-                record: "[]",
-                rules: "[]",
-                ..TOWN
-            },
-        ),
-        (
-            "one text too few",
-            Parts {
-                record: r#"["EH7"]"#,
-                ..TOWN
-            },
-        ),
-        (
-            "a number as a text",
-            Parts {
-                record: r#"["EH7",7]"#,
-                ..TOWN
-            },
-        ),
+        ("no word", r#"["zip","city"]"#, r#"["zip","2city"]"#),
+        ("one text too few", r#"["EH7","Ldn"]"#, r#"["EH7"]"#),
+        ("a number as a text", r#""Ldn""#, "7"),
         (
             "rows of unequal length",
-            Parts {
-                masters: r#"[[["EH7","Edi"],["G1"]]]"#,
-                ..TOWN
-            },
+            r#"[["EH7","Edi"]]"#,
+            r#"[["EH7","Edi"],["G1"]]"#,
         ),
-        (
-            "a row without texts",
-            Parts {
-                masters: "[[[]]]",
-                rules: "[]",
-                ..TOWN
-            },
-        ),
-        (
-            "a row that is no list",
-            Parts {
-                masters: r#"[["EH7"]]"#,
-                rules: "[]",
-                ..TOWN
-            },
-        ),
-        (
-            "no master for the rule",
-            Parts {
-                masters: "[]",
-                ..TOWN
-            },
-        ),
+        ("a row without texts", r#"["EH7","Edi"]"#, "[]"),
+        ("a row that is no list", r#"["EH7","Edi"]"#, r#""EH7""#),
+        ("no master for the rule", r#"[[["EH7","Edi"]]]"#, "[]"),
         (
             "a rule that is no object",
-            Parts {
-                rules: "[[]]",
-                ..TOWN
-            },
+            r#""rules":["#,
+            r#""rules":[[],"#,
         ),
     ];
-    for (case, parts) in rows {
-        let input = input_of(rt.alloc(), parts)?;
-        tells(&rt, rt.alloc(), case, input.as_str(), "not a case", 7)?;
+    for (case, old, new) in rows {
+        tells_edited(&rt, rt.alloc(), case, (TOWN, old, new), "not a case", 7)?;
     }
     for input in ["{}", "[]", "null", "7", "\"once\""] {
         tells(&rt, rt.alloc(), input, input, "not a case", 7)?;
@@ -405,114 +298,56 @@ fn refuses_parts_that_are_no_case(rt: HostRuntime) -> Result<(), Fail> {
 #[test]
 fn refuses_rules_that_are_none(rt: HostRuntime) -> Result<(), Fail> {
     let rows = [
-        (
-            "a number with a fraction",
-            r#"[{"conds":[],"from":2.0,"head":"city","keys":[["zip",1]],"master":1}]"#,
-        ),
-        (
-            "a number with an exponent",
-            r#"[{"conds":[],"from":2e0,"head":"city","keys":[["zip",1]],"master":1}]"#,
-        ),
-        (
-            "a number as a text",
-            r#"[{"conds":[],"from":"2","head":"city","keys":[["zip",1]],"master":1}]"#,
-        ),
-        (
-            "column 0",
-            r#"[{"conds":[],"from":0,"head":"city","keys":[["zip",1]],"master":1}]"#,
-        ),
-        (
-            "a column past the last",
-            r#"[{"conds":[],"from":3,"head":"city","keys":[["zip",1]],"master":1}]"#,
-        ),
+        ("a number with a fraction", r#""from":2"#, r#""from":2.0"#),
+        ("a number with an exponent", r#""from":2"#, r#""from":2e0"#),
+        ("a number as a text", r#""from":2"#, r#""from":"2""#),
+        ("column 0", r#""from":2"#, r#""from":0"#),
+        ("a column past the last", r#""from":2"#, r#""from":3"#),
+        ("a negative column", r#""from":2"#, r#""from":-1"#),
+        ("master 0", r#""master":1"#, r#""master":0"#),
+        ("a master past the last", r#""master":1"#, r#""master":2"#),
+        ("an unknown head", r#""head":"city""#, r#""head":"town""#),
+        ("an unknown key", r#"["zip",1]"#, r#"["code",1]"#),
         (
             "a key's column past the last",
-            r#"[{"conds":[],"from":2,"head":"city","keys":[["zip",3]],"master":1}]"#,
+            r#"["zip",1]"#,
+            r#"["zip",3]"#,
         ),
-        (
-            "a negative column",
-            r#"[{"conds":[],"from":-1,"head":"city","keys":[["zip",1]],"master":1}]"#,
-        ),
-        (
-            "master 0",
-            r#"[{"conds":[],"from":2,"head":"city","keys":[["zip",1]],"master":0}]"#,
-        ),
-        (
-            "a master past the last",
-            r#"[{"conds":[],"from":2,"head":"city","keys":[["zip",1]],"master":2}]"#,
-        ),
-        (
-            "an unknown head",
-            r#"[{"conds":[],"from":2,"head":"town","keys":[["zip",1]],"master":1}]"#,
-        ),
-        (
-            "an unknown key",
-            r#"[{"conds":[],"from":2,"head":"city","keys":[["code",1]],"master":1}]"#,
-        ),
-        (
-            "the head among the keys",
-            r#"[{"conds":[],"from":2,"head":"city","keys":[["city",1]],"master":1}]"#,
-        ),
-        (
-            "the head among the conditions",
-            r#"[{"conds":[["city","any"]],"from":2,"head":"city","keys":[["zip",1]],"master":1}]"#,
-        ),
-        (
-            "no keys",
-            r#"[{"conds":[],"from":2,"head":"city","keys":[],"master":1}]"#,
-        ),
-        (
-            "a key twice",
-            r#"[{"conds":[],"from":2,"head":"city","keys":[["zip",1],["zip",2]],"master":1}]"#,
-        ),
-        (
-            "a key of three",
-            r#"[{"conds":[],"from":2,"head":"city","keys":[["zip",1,1]],"master":1}]"#,
-        ),
+        ("the head among the keys", r#"["zip",1]"#, r#"["city",1]"#),
+        ("no keys", r#"["zip",1]"#, ""),
+        ("a key twice", r#"["zip",1]"#, r#"["zip",1],["zip",2]"#),
+        ("a key of three", r#"["zip",1]"#, r#"["zip",1,1]"#),
         (
             "a part too many",
-            r#"[{"conds":[],"from":2,"head":"city","keys":[["zip",1]],"master":1,"name":"r"}]"#,
+            r#""master":1"#,
+            r#""master":1,"name":"r""#,
         ),
-        (
-            "a part too few",
-            r#"[{"from":2,"head":"city","keys":[["zip",1]],"master":1}]"#,
-        ),
-        (
-            "an unknown test",
-            r#"[{"conds":[["zip","like","x"]],"from":2,"head":"city","keys":[["zip",1]],"master":1}]"#,
-        ),
-        (
-            "a test without its text",
-            r#"[{"conds":[["zip","is"]],"from":2,"head":"city","keys":[["zip",1]],"master":1}]"#,
-        ),
-        (
-            "any with a text",
-            r#"[{"conds":[["zip","any","x"]],"from":2,"head":"city","keys":[["zip",1]],"master":1}]"#,
-        ),
-        (
-            "two texts",
-            r#"[{"conds":[["zip","is","x","y"]],"from":2,"head":"city","keys":[["zip",1]],"master":1}]"#,
-        ),
-        (
-            "an empty set",
-            r#"[{"conds":[["zip","in",[]]],"from":2,"head":"city","keys":[["zip",1]],"master":1}]"#,
-        ),
-        (
-            "a condition twice",
-            r#"[{"conds":[["zip","any"],["zip","any"]],"from":2,"head":"city","keys":[["zip",1]],"master":1}]"#,
-        ),
+        ("a part too few", r#""conds":[],"#, ""),
     ];
-    for (case, rules) in rows {
-        let input = input_of(rt.alloc(), Parts { rules, ..TOWN })?;
-        tells(&rt, rt.alloc(), case, input.as_str(), "not a case", 7)?;
+    for (case, old, new) in rows {
+        tells_edited(&rt, rt.alloc(), case, (TOWN, old, new), "not a case", 7)?;
     }
     Ok(())
 }
 
-/// So many of these items, as a JSON array.
-fn array_of(alloc: Global, item: &str, count: u32) -> Result<String, AllocError> {
-    let items = repeated(alloc, item, ",", count)?;
-    format!(in alloc; "[{items}]")
+#[test]
+fn refuses_conditions_that_are_none(rt: HostRuntime) -> Result<(), Fail> {
+    let rows = [
+        ("the head", r#"[["city","any"]]"#),
+        ("an unknown attribute", r#"[["town","any"]]"#),
+        ("an unknown test", r#"[["kind","like","x"]]"#),
+        ("a test without its text", r#"[["kind","is"]]"#),
+        ("any with a text", r#"[["kind","any","x"]]"#),
+        ("two texts", r#"[["kind","is","x","y"]]"#),
+        ("a set in place of a text", r#"[["kind","is",["x"]]]"#),
+        ("a text in place of a set", r#"[["kind","in","x"]]"#),
+        ("an empty set", r#"[["kind","in",[]]]"#),
+        ("a condition twice", r#"[["kind","any"],["kind","is","x"]]"#),
+    ];
+    for (case, conds) in rows {
+        tells_edited(&rt, rt.alloc(), case, (KIND, "[]", conds), "not a case", 7)?;
+    }
+    Ok(())
 }
 
 /// So many of these items, with this text between them.
@@ -527,86 +362,66 @@ fn repeated(alloc: Global, item: &str, between: &str, count: u32) -> Result<Stri
     Ok(text)
 }
 
-/// So many items, each with its number between the front and the back, as a JSON array.
+/// So many items, each with its number between the front and the back, parted by commas.
 fn numbered(alloc: Global, front: &str, back: &str, count: u32) -> Result<String, AllocError> {
-    let mut text = String::from_str(alloc, "[")?;
+    let mut text = String::new(alloc);
     for place in 0..count {
         let comma = if place > 0 { "," } else { "" };
         let item = format!(in alloc; "{comma}{front}{place}{back}")?;
         text.push_str(item.as_str())?;
     }
-    text.push_str("]")?;
     Ok(text)
 }
 
-fn status_of(alloc: Global, parts: Parts<'_>) -> Result<u8, Fail> {
-    let input = input_of(alloc, parts)?;
+fn status_of(alloc: Global, text: &str, old: &str, new: &str) -> Result<u8, Fail> {
+    let input = edited(alloc, text, old, new)?;
     Ok(call(alloc, &["once"], input.as_str().as_bytes(), SOUND)?.status)
 }
 
 #[test]
-fn counts_rules_and_masters(rt: HostRuntime) -> Result<(), Fail> {
+fn counts_up_to_the_limits(rt: HostRuntime) -> Result<(), Fail> {
+    let rule = r#"{"conds":[],"from":2,"head":"city","keys":[["zip",1]],"master":1}"#;
     let rows = [
-        ("200 rules", 200, 1, 0),
-        ("201 rules", 201, 1, 7),
-        ("8 masters", 1, 8, 0),
-        ("9 masters", 1, 9, 7),
+        ("200 rules", rule, ",", 200, 0),
+        ("201 rules", rule, ",", 201, 7),
+        ("8 masters", r#"[["EH7","Edi"]]"#, ",", 8, 0),
+        ("9 masters", r#"[["EH7","Edi"]]"#, ",", 9, 7),
+        ("20,000 rows", r#"["EH7","Edi"]"#, ",", 20_000, 0),
+        ("20,001 rows", r#"["EH7","Edi"]"#, ",", 20_001, 7),
+        ("48 columns", r#""Edi""#, ",", 47, 0),
+        ("49 columns", r#""Edi""#, ",", 48, 7),
+        ("a text of 198 bytes", "Ldn", "", 66, 0),
+        ("a text of 201 bytes", "Ldn", "", 67, 7),
     ];
-    for (case, rules, masters, status) in rows {
-        let rule = r#"{"conds":[],"from":2,"head":"city","keys":[["zip",1]],"master":1}"#;
-        let rules = array_of(rt.alloc(), rule, rules)?;
-        let masters = array_of(rt.alloc(), r#"[["EH7","Edi"]]"#, masters)?;
-        let parts = Parts {
-            rules: rules.as_str(),
-            masters: masters.as_str(),
-            ..TOWN
-        };
-        assert_eq!(rt; status_of(rt.alloc(), parts)?, status, "{case}");
+    for (case, item, between, count, status) in rows {
+        let items = repeated(rt.alloc(), item, between, count)?;
+        assert_eq!(rt;
+            status_of(rt.alloc(), TOWN, item, items.as_str())?,
+            status,
+            "{case}"
+        );
     }
     Ok(())
 }
 
 #[test]
-fn counts_rows_and_columns(rt: HostRuntime) -> Result<(), Fail> {
+fn counts_the_texts_of_a_set_and_their_bytes(rt: HostRuntime) -> Result<(), Fail> {
     let rows = [
-        ("20,000 rows", 20_000, 2, 0),
-        ("20,001 rows", 20_001, 2, 7),
-        ("48 columns", 1, 48, 0),
-        ("49 columns", 1, 49, 7),
-    ];
-    for (case, rows, columns, status) in rows {
-        let row = array_of(rt.alloc(), "\"x\"", columns)?;
-        let table = array_of(rt.alloc(), row.as_str(), rows)?;
-        let masters = format!(in rt.alloc(); "[{table}]")?;
-        let parts = Parts {
-            masters: masters.as_str(),
-            ..TOWN
-        };
-        assert_eq!(rt; status_of(rt.alloc(), parts)?, status, "{case}");
-    }
-    Ok(())
-}
-
-#[test]
-fn counts_texts_and_their_bytes(rt: HostRuntime) -> Result<(), Fail> {
-    let rows = [
-        ("a set of one", 1, 1, 0),
         ("a set of 64", 64, 1, 0),
         ("a set of 65", 65, 1, 7),
         ("a text of 200 bytes", 1, 200, 0),
         ("a text of 201 bytes", 1, 201, 7),
     ];
     for (case, texts, bytes, status) in rows {
-        let text = repeated(rt.alloc(), "x", "", bytes)?;
-        let text = format!(in rt.alloc(); "\"{text}\"")?;
-        let set = array_of(rt.alloc(), text.as_str(), texts)?;
-        let conds = format!(in rt.alloc(); "[[\"kind\",\"in\",{set}]]")?;
-        let rules = rules_with(rt.alloc(), conds.as_str())?;
-        let parts = Parts {
-            rules: rules.as_str(),
-            ..KIND
-        };
-        assert_eq!(rt; status_of(rt.alloc(), parts)?, status, "{case}");
+        let content = repeated(rt.alloc(), "x", "", bytes)?;
+        let text = format!(in rt.alloc(); "\"{content}\"")?;
+        let set = repeated(rt.alloc(), text.as_str(), ",", texts)?;
+        let conds = format!(in rt.alloc(); "[[\"kind\",\"in\",[{set}]]]")?;
+        assert_eq!(rt;
+            status_of(rt.alloc(), KIND, "[]", conds.as_str())?,
+            status,
+            "{case}"
+        );
     }
     Ok(())
 }
@@ -624,20 +439,14 @@ fn counts_attributes_keys_and_conditions(rt: HostRuntime) -> Result<(), Fail> {
     for (case, attributes, keys, conds, status) in rows {
         let alloc = rt.alloc();
         let words = numbered(alloc, "\"a", "\"", attributes)?;
-        let texts = array_of(alloc, "\"\"", attributes)?;
+        let texts = repeated(alloc, "\"\"", ",", attributes)?;
         let keys = numbered(alloc, "[\"a", "\",1]", keys)?;
         let conds = numbered(alloc, "[\"a", "\",\"any\"]", conds)?;
-        let rules = format!(in alloc;
-            "[{{\"conds\":{conds},\"from\":2,\"head\":\"a47\",\"keys\":{keys},\"master\":1}}]"
+        let input = format!(in alloc;
+            "{{\"attributes\":[{words}],\"confirmed\":[],\"masters\":[[]],\"record\":[{texts}],\"rules\":[{{\"conds\":[{conds}],\"from\":2,\"head\":\"a47\",\"keys\":[{keys}],\"master\":1}}]}}"
         )?;
-        let parts = Parts {
-            attributes: words.as_str(),
-            confirmed: "[]",
-            record: texts.as_str(),
-            rules: rules.as_str(),
-            ..TOWN
-        };
-        assert_eq!(rt; status_of(alloc, parts)?, status, "{case}");
+        let told = call(alloc, &["once"], input.as_str().as_bytes(), SOUND)?;
+        assert_eq!(rt; told.status, status, "{case}");
     }
     Ok(())
 }
@@ -671,9 +480,8 @@ fn answers_other_words_with_the_usage_line(rt: HostRuntime) -> Result<(), Fail> 
         ("a third", &["make", "1", "0"]),
     ];
     let usage = "usage: fixdesk once | pipe [--limit N] | report | make N START\n";
-    let input = input_of(rt.alloc(), TOWN)?;
     for (case, words) in rows {
-        let told = call(rt.alloc(), words, input.as_str().as_bytes(), SOUND)?;
+        let told = call(rt.alloc(), words, TOWN.as_bytes(), SOUND)?;
         assert_eq!(rt; told.text.as_slice(), usage.as_bytes(), "{case}");
         assert_eq!(rt; told.status, 1, "{case}");
     }
@@ -682,11 +490,10 @@ fn answers_other_words_with_the_usage_line(rt: HostRuntime) -> Result<(), Fail> 
 
 #[test]
 fn answers_alike_however_the_link_is_cut(rt: HostRuntime) -> Result<(), Fail> {
-    let input = input_of(rt.alloc(), TOWN)?;
-    let line = line_of(rt.alloc(), TOWN_FIXED)?;
+    let line = format!(in rt.alloc(); "{TOWN_FIXED}\n")?;
     for cut in [1, 2, 7, 65_536] {
         let ends = Ends { cut, ..SOUND };
-        let told = call(rt.alloc(), &["once"], input.as_str().as_bytes(), ends)?;
+        let told = call(rt.alloc(), &["once"], TOWN.as_bytes(), ends)?;
         assert_eq!(rt; told.text.as_slice(), line.as_str().as_bytes(), "{cut}");
         assert_eq!(rt; told.status, 0, "{cut}");
     }
@@ -695,8 +502,7 @@ fn answers_alike_however_the_link_is_cut(rt: HostRuntime) -> Result<(), Fail> {
 
 #[test]
 fn writes_nothing_where_a_read_fails(rt: HostRuntime) -> Result<(), Fail> {
-    let input = input_of(rt.alloc(), TOWN)?;
-    let bytes = input.as_str().as_bytes();
+    let bytes = TOWN.as_bytes();
     let calls = bytes.len() as u64 / 7 + 2;
     for call_number in 1..=calls {
         let ends = Ends {
@@ -713,8 +519,7 @@ fn writes_nothing_where_a_read_fails(rt: HostRuntime) -> Result<(), Fail> {
 
 #[test]
 fn writes_a_part_where_a_write_fails(rt: HostRuntime) -> Result<(), Fail> {
-    let input = input_of(rt.alloc(), TOWN)?;
-    let line = line_of(rt.alloc(), TOWN_FIXED)?;
+    let line = format!(in rt.alloc(); "{TOWN_FIXED}\n")?;
     let whole = line.as_str().as_bytes();
     for (place, _) in whole.iter().enumerate() {
         let ends = Ends {
@@ -722,7 +527,7 @@ fn writes_a_part_where_a_write_fails(rt: HostRuntime) -> Result<(), Fail> {
             read_fails: &[],
             write_fails: &[place as u64 + 1],
         };
-        let told = call(rt.alloc(), &["once"], input.as_str().as_bytes(), ends)?;
+        let told = call(rt.alloc(), &["once"], TOWN.as_bytes(), ends)?;
         assert_eq!(rt; told.status, 3, "after {place} bytes");
         assert_eq!(rt;
             told.text.as_slice(),
