@@ -1,6 +1,5 @@
 -- The bytes of an input determine what they are answered with.
-use Rattle.std.proofs.Common.{◌≡◌, ◌<◌, ◌∙◌, ◌⊎◌, ℕ, List, [], ◌∷◌, inl, inr, sym, ap, refl, arith}
-use Rattle.std.specs.Prelude.{Some}
+use Rattle.std.proofs.Common.{◌≡◌, ◌∙◌, ℕ, List, [], ◌∷◌, inl, inr, sym, ap, refl, arith}
 use Rattle.serde_json.specs.Data.{Data}
 use Rattle.fix_model.specs.declared.kit.Kit.{Kit}
 use Rattle.fix_model.specs.declared.state.State.{State}
@@ -10,7 +9,7 @@ use Rattle.fix_model.specs.Order.{IsBefore, IsRunBefore}
 use Rattle.fixdesk_run.specs.declared.case.Case.{Case}
 use Rattle.fixdesk_run.specs.declared.status.Refusal.{Refusal}
 use Rattle.fixdesk_run.specs.declared.status.Refusal.TheVariants.{TooLong, NotJson, NotACase}
-use Rattle.fixdesk_run.specs.Case.{IsCaseIn, IsCaseOf, IsNoCase, IsNotJson, IsValueOf}
+use Rattle.fixdesk_run.specs.Case.{IsCaseIn, IsValueOf}
 use Rattle.fixdesk_run.specs.Once.{IsAnswered, IsRefusalOf, IsRefused, refusal_line}
 
 -- no two steps are each before the other

@@ -1,4 +1,4 @@
-use Rattle.std.proofs.Common.{◌++◌, ◌≤◌, ◌-◌, rules, take, length, ℕ, arith, length-append, length-take}
+use Rattle.std.proofs.Common.{◌++◌, ◌≤◌, ◌-◌, rules, take, length, arith, length-append, length-take}
 use Rattle.fixdesk_run.proofs.Taking.{Consumes-then}
 use Rattle.fixdesk_run.proofs.input.take_pieces.Goals as goal
 

@@ -1,5 +1,3 @@
-use Rattle.std.proofs.Common.{◌≡◌, ap, map, Some, sym, ◌∙◌}
-use Rattle.serde_json.specs.View.{view}
 use Rattle.fixdesk_run.proofs.Reading.{all_items-items_of}
 use Rattle.fixdesk_run.proofs.case.parts.items.Goals as goal
 
