@@ -6,12 +6,11 @@ ghost use Rattle.fixdesk_run.specs.Parts.{each};
 
 use crate::case::parts::{Part, items};
 use desk_base::{Grid, List, MAX_ROWS, NoMemory, Text};
-use fix_model::MAX_WIDTH;
 use serde_json::Value;
 use std::alloc::Global;
 
-/// The greatest number of columns, and that of a master without rows.
-const MAX_COLUMNS: u16 = 48;
+/// The greatest number of columns, which is also that of a master without rows.
+pub const MAX_COLUMNS: u16 = 48;
 
 impl<C> Part<C> for Grid {
     ghost part_in = { λ _. table_in };

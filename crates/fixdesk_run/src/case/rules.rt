@@ -5,9 +5,10 @@ ghost use Rattle.fixdesk_run.specs.Case.{place_in, number_in, column_in, master_
 ghost use Rattle.fixdesk_run.specs.Parts.{field};
 
 use crate::case::attributes::Attributes;
+use crate::case::masters::MAX_COLUMNS;
 use crate::case::parts::{Part, has_keys, items, read_field};
 use desk_base::{List, NoMemory, Text};
-use fix_model::{MAX_MASTERS, MAX_WIDTH, Pat, Rule};
+use fix_model::{MAX_MASTERS, Pat, Rule};
 use serde_json::Value;
 use std::alloc::Global;
 
@@ -46,13 +47,13 @@ fn number(greatest: u16, value: &Value) -> Option<u16>
 fn column(value: &Value) -> Option<u16>
     ensures { result ≡ column_in (view value.now) }
 {
-    number(48, value)
+    number(MAX_COLUMNS, value)
 }
 
 fn master(value: &Value) -> Option<u16>
     ensures { result ≡ master_in (view value.now) }
 {
-    number(8, value)
+    number(MAX_MASTERS as u16, value)
 }
 
 fn key(attributes: &Attributes, items: &[Value]) -> Option<(u16, u16)>
