@@ -19,6 +19,8 @@ mod printing;
 mod reading;
 mod rulebook;
 mod state;
+#[cfg(test)]
+mod tests;
 mod token;
 
 pub use binding::{BindFault, bind};
