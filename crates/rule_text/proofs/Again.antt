@@ -1,8 +1,8 @@
 -- What is printed is read again.
-use Rattle.std.proofs.Common.{◌≡◌, ◌∙◌, ℕ, zero, suc, ◌+◌, ◌<◌, ◌≤◌, ◌==◌, nat_lt, nat_le, Bool, true, false, not, ◌||◌, List, [], ◌∷◌, ◌++◌, length, get_or, map, filter, Result, Ok, Err, Option, Some, None, refl, sym, ap, subst, append_assoc, append-nil, arith, inl, inr}
-use Rattle.std.specs.Prelude.{codes, position, if◌then◌else◌, IsTrue}
+use Rattle.std.proofs.Common.{◌≡◌, ◌∙◌, ℕ, zero, suc, ◌+◌, ◌<◌, ◌≤◌, ◌==◌, nat_lt, nat_le, Bool, true, false, not, ◌||◌, List, [], ◌∷◌, ◌++◌, length, get_or, map, filter, Ok, Some, None, refl, sym, ap, subst, append_assoc, append-nil, arith, inl, inr}
+use Rattle.std.specs.Prelude.{codes}
 use Rattle.std.specs.Str.{bytes_eq}
-use Rattle.std.specs.List.{flat_map, list_any, prefix_len, AllByRecursion}
+use Rattle.std.specs.List.{flat_map, prefix_len, AllByRecursion}
 use Rattle.std.proofs.lemmas.Bool.{cases_Bool, or_parts}
 use Rattle.std.proofs.lemmas.Bool.Decides.{nat_tests}
 use Rattle.std.proofs.lemmas.List.{length-append}
@@ -15,12 +15,11 @@ use Rattle.fix_model.specs.declared.pattern.Pat.{Pat}
 use Rattle.fix_model.specs.declared.pattern.Pat.TheVariants.{Is, IsNot, OneOf, NoneOf, Any}
 use Rattle.schema_core.specs.declared.schema.Schema.{Schema}
 use Rattle.schema_core.specs.Schemas.{IsSchema}
-use Rattle.rule_text.specs.declared.place.Place.{Place}
 use Rattle.rule_text.specs.declared.state.State.{State}
 use Rattle.rule_text.specs.declared.state.State.TheVariants as state
 use Rattle.rule_text.specs.declared.state.Taken.{Taken}
 use Rattle.rule_text.specs.declared.token.Mark.TheVariants as mark
-use Rattle.rule_text.specs.declared.token.Token.TheVariants.{Word, Quoted, Sign}
+use Rattle.rule_text.specs.declared.token.Token.TheVariants.{Sign}
 use Rattle.rule_text.specs.declared.rulebook.RuleLine.{RuleLine}
 use Rattle.rule_text.specs.declared.rulebook.Rulebook.{Rulebook}
 use Rattle.rule_text.specs.declared.draft.Draft.{Draft}
@@ -28,7 +27,7 @@ use Rattle.rule_text.specs.Tokens.{piece_at}
 use Rattle.rule_text.specs.Grammar.{next, taken_from, tokens_of}
 use Rattle.rule_text.specs.Reading.{attribute_of, is_long, draft_behind, has_name, has_attribute, set_of, with_token, begins_rule, extra_rule, read_rules}
 use Rattle.rule_text.specs.Rulebooks.{IsPlain, IsSet, IsPattern, AreDistinct, ArePairs, IsLine, AreNamedApart, IsRulebook}
-use Rattle.rule_text.specs.Printing.{string_text, column_text, attribute_text, separator, listed, pair_text, set_text, pattern_text, cond_text, conds_text, line_text, printed}
+use Rattle.rule_text.specs.Printing.{string_text, column_text, attribute_text, listed, pair_text, set_text, pattern_text, cond_text, conds_text, line_text, printed}
 use Rattle.rule_text.proofs.Parts.{nat_eq-other, bytes_eq-other}
 use Rattle.rule_text.proofs.Spelled.{Stops}
 use Rattle.rule_text.proofs.Steps.{Reads, ◌▸◌, reads-of, reads-gap, reads-token, reads-word, reads-string, reads-column, with_front-none}
@@ -54,10 +53,10 @@ module _ (schema : Schema) (is : IsSchema schema) (attribute : ℕ) (known : att
       let word = get_or schema.attributes attribute [] in
       let here : bytes_eq word word ≡ true = (bytes_eq-Decides word word).1 refl in
       let before : (k : ℕ) → k < attribute → bytes_eq word (get_or schema.attributes k []) ≡ false = λ k below.
-          elim (cases_Bool (bytes_eq word (get_or schema.attributes k []))) [
-            | inl same ↦ absurd (is.distinct k attribute [] below known (sym ((bytes_eq-Decides word (get_or schema.attributes k [])).0 same)))
-            | inr other ↦ other
-          ] in
+      elim (cases_Bool (bytes_eq word (get_or schema.attributes k []))) [
+        | inl same ↦ absurd (is.distinct k attribute [] below known (sym ((bytes_eq-Decides word (get_or schema.attributes k [])).0 same)))
+        | inr other ↦ other
+      ] in
       let first = prefix_len-first (bytes_eq word) schema.attributes attribute known here before in
       let within : nat_lt attribute (length schema.attributes) ≡ true = grind (arith, nat_tests) in
       rw (unwrap_or-slice_get schema.attributes attribute [], first, within) refl
@@ -150,18 +149,22 @@ module _ (schema : Schema) (is : IsSchema schema) (lines : List RuleLine) (name 
   reads-keys : (front : List (ℕ × List ℕ)) (key : ℕ × List ℕ) (others : List (ℕ × List ℕ)) (attribute : ℕ) (negated : Bool) (rest : List ℕ) → front ++ key ∷ others ≡ keys → AllByRecursion (λ k. (k.0 < length schema.attributes) × IsPlain k.1) (key ∷ others) → Stops rest
       → (last : ℕ) × Reads schema state.Key (drafted lines (ruled name master front 0 [] []) attribute negated []) (listed (map (pair_text schema) (key ∷ others)) ++ rest) state.AfterKey (drafted lines (ruled name master keys 0 [] []) last negated []) rest 0
   unfolding next with_token piece_at
-  reads-keys front key [] attribute negated rest whole good stops =
-      (key.0, subst (λ (all : List (ℕ × List ℕ)). Reads schema state.Key (drafted lines (ruled name master front 0 [] []) attribute negated []) (pair_text schema key ++ rest) state.AfterKey (drafted lines (ruled name master all 0 [] []) key.0 negated []) rest 0) whole
-        (reads-key front key [] attribute negated rest whole good.0 stops))
+  reads-keys front key [] attribute negated rest whole good stops = (
+    key.0,
+    subst (λ (all : List (ℕ × List ℕ)). Reads schema state.Key (drafted lines (ruled name master front 0 [] []) attribute negated []) (pair_text schema key ++ rest) state.AfterKey (drafted lines (ruled name master all 0 [] []) key.0 negated []) rest 0) whole
+        (reads-key front key [] attribute negated rest whole good.0 stops),
+  )
   reads-keys front key (second ∷ others) attribute negated rest whole good stops =
       let tail = listed (map (pair_text schema) (second ∷ others)) ++ rest in
       let (last, further) = reads-keys (front ++ key ∷ []) second others key.0 negated rest (moved front key (second ∷ others) keys whole) good.1 stops in
-      let between = drafted lines (ruled name master (front ++ key ∷ []) 0 [] []) key.0 negated [] in
-      (last, reads-of (listed (map (pair_text schema) (key ∷ second ∷ others)) ++ rest) (pair_text schema key ++ (codes ", " ++ tail)) (simp append_assoc)
-        (reads-key front key (second ∷ others) attribute negated (codes ", " ++ tail) whole good.0 (stops-comma _)
-        ▸ reads-token schema state.AfterKey state.Key between between 44 (32 ∷ tail) (32 ∷ tail) (Sign mark.Comma) 0 0 refl refl refl (λ place. refl) refl
-        ▸ space schema state.Key between tail
-        ▸ further))
+      let between = drafted lines (ruled name master (front ++ key ∷ []) 0 [] []) key.0 negated [] in (
+        last,
+        reads-of (listed (map (pair_text schema) (key ∷ second ∷ others)) ++ rest) (pair_text schema key ++ (codes ", " ++ tail)) (simp append_assoc)
+            (reads-key front key (second ∷ others) attribute negated (codes ", " ++ tail) whole good.0 (stops-comma _)
+            ▸ reads-token schema state.AfterKey state.Key between between 44 (32 ∷ tail) (32 ∷ tail) (Sign mark.Comma) 0 0 refl refl refl (λ place. refl) refl
+            ▸ space schema state.Key between tail
+            ▸ further),
+      )
 
 -- ---- conditions
 
@@ -212,45 +215,55 @@ reads-pattern schema lines line attribute negated (Is constant) rest good stops 
     let start = drafted lines line attribute negated [] in
     let open' = drafted lines line attribute false [] in
     let tail = string_text constant ++ rest in
-    let below = short constant good.fits in
-    (false, space schema state.Test start (codes "is " ++ tail)
-      ▸ reads-word schema state.Test state.Const start open' (codes "is") (32 ∷ tail) 0 refl (stops-space tail) refl (λ place. refl) refl
-      ▸ space schema state.Const open' tail
-      ▸ reads-string schema state.Const state.AfterCond open' (drafted lines (record line { conds = line.conds ++ (attribute, Is constant) ∷ [] }) attribute false []) constant rest 0 good stops refl (λ place. rw below refl) refl)
+    let below = short constant good.fits in (
+      false,
+      space schema state.Test start (codes "is " ++ tail)
+          ▸ reads-word schema state.Test state.Const start open' (codes "is") (32 ∷ tail) 0 refl (stops-space tail) refl (λ place. refl) refl
+          ▸ space schema state.Const open' tail
+          ▸ reads-string schema state.Const state.AfterCond open' (drafted lines (record line { conds = line.conds ++ (attribute, Is constant) ∷ [] }) attribute false []) constant rest 0 good stops refl (λ place. rw below refl) refl,
+    )
 reads-pattern schema lines line attribute negated (IsNot constant) rest good stops =
     let start = drafted lines line attribute negated [] in
     let open' = drafted lines line attribute false [] in
     let tail = string_text constant ++ rest in
-    let below = short constant good.fits in
-    (false, space schema state.Test start (codes "not " ++ tail)
-      ▸ reads-word schema state.Test state.Negated start open' (codes "not") (32 ∷ tail) 0 refl (stops-space tail) refl (λ place. refl) refl
-      ▸ space schema state.Negated open' tail
-      ▸ reads-string schema state.Negated state.AfterCond open' (drafted lines (record line { conds = line.conds ++ (attribute, IsNot constant) ∷ [] }) attribute false []) constant rest 0 good stops refl (λ place. rw below refl) refl)
+    let below = short constant good.fits in (
+      false,
+      space schema state.Test start (codes "not " ++ tail)
+          ▸ reads-word schema state.Test state.Negated start open' (codes "not") (32 ∷ tail) 0 refl (stops-space tail) refl (λ place. refl) refl
+          ▸ space schema state.Negated open' tail
+          ▸ reads-string schema state.Negated state.AfterCond open' (drafted lines (record line { conds = line.conds ++ (attribute, IsNot constant) ∷ [] }) attribute false []) constant rest 0 good stops refl (λ place. rw below refl) refl,
+    )
 reads-pattern schema lines line attribute negated (OneOf texts) rest good stops =
     let start = drafted lines line attribute negated [] in
     let open' = drafted lines line attribute false [] in
-    let tail = set_text texts ++ rest in
-    (false, reads-of (pattern_text (OneOf texts) ++ rest) (codes " in " ++ tail) (simp append_assoc)
-      (space schema state.Test start (codes "in " ++ tail)
-      ▸ reads-word schema state.Test state.Open start open' (codes "in") (32 ∷ tail) 0 refl (stops-space tail) refl (λ place. refl) refl
-      ▸ space schema state.Open open' tail
-      ▸ reads-set schema lines line attribute false texts (OneOf texts) rest good refl))
+    let tail = set_text texts ++ rest in (
+      false,
+      reads-of (pattern_text (OneOf texts) ++ rest) (codes " in " ++ tail) (simp append_assoc)
+          (space schema state.Test start (codes "in " ++ tail)
+          ▸ reads-word schema state.Test state.Open start open' (codes "in") (32 ∷ tail) 0 refl (stops-space tail) refl (λ place. refl) refl
+          ▸ space schema state.Open open' tail
+          ▸ reads-set schema lines line attribute false texts (OneOf texts) rest good refl),
+    )
 reads-pattern schema lines line attribute negated (NoneOf texts) rest good stops =
     let start = drafted lines line attribute negated [] in
     let open' = drafted lines line attribute false [] in
     let turned = drafted lines line attribute true [] in
-    let tail = set_text texts ++ rest in
-    (true, reads-of (pattern_text (NoneOf texts) ++ rest) (codes " not in " ++ tail) (simp append_assoc)
-      (space schema state.Test start (codes "not in " ++ tail)
-      ▸ reads-word schema state.Test state.Negated start open' (codes "not") (codes " in " ++ tail) 0 refl (stops-space _) refl (λ place. refl) refl
-      ▸ space schema state.Negated open' (codes "in " ++ tail)
-      ▸ reads-word schema state.Negated state.Open open' turned (codes "in") (32 ∷ tail) 0 refl (stops-space tail) refl (λ place. refl) refl
-      ▸ space schema state.Open turned tail
-      ▸ reads-set schema lines line attribute true texts (NoneOf texts) rest good refl))
+    let tail = set_text texts ++ rest in (
+      true,
+      reads-of (pattern_text (NoneOf texts) ++ rest) (codes " not in " ++ tail) (simp append_assoc)
+          (space schema state.Test start (codes "not in " ++ tail)
+          ▸ reads-word schema state.Test state.Negated start open' (codes "not") (codes " in " ++ tail) 0 refl (stops-space _) refl (λ place. refl) refl
+          ▸ space schema state.Negated open' (codes "in " ++ tail)
+          ▸ reads-word schema state.Negated state.Open open' turned (codes "in") (32 ∷ tail) 0 refl (stops-space tail) refl (λ place. refl) refl
+          ▸ space schema state.Open turned tail
+          ▸ reads-set schema lines line attribute true texts (NoneOf texts) rest good refl),
+    )
 reads-pattern schema lines line attribute negated Any rest good stops =
-    let start = drafted lines line attribute negated [] in
-    (negated, space schema state.Test start (codes "any" ++ rest)
-      ▸ reads-word schema state.Test state.AfterCond start (drafted lines (record line { conds = line.conds ++ (attribute, Any) ∷ [] }) attribute negated []) (codes "any") rest 0 refl stops refl (λ place. refl) refl)
+    let start = drafted lines line attribute negated [] in (
+      negated,
+      space schema state.Test start (codes "any" ++ rest)
+          ▸ reads-word schema state.Test state.AfterCond start (drafted lines (record line { conds = line.conds ++ (attribute, Any) ∷ [] }) attribute negated []) (codes "any") rest 0 refl stops refl (λ place. refl) refl,
+    )
 
 -- a condition's attribute is not the head, where no condition has it
 other-head : (head : ℕ) (front : List (ℕ × Pat)) (cond : ℕ × Pat) (others : List (ℕ × Pat)) → has_attribute (front ++ cond ∷ others) head ≡ false → (cond.0 == head) ≡ false
@@ -279,10 +292,12 @@ module _ (schema : Schema) (is : IsSchema schema) (lines : List RuleLine) (name 
       let begun = drafted lines (ruled name master keys head column front) attribute negated [] in
       let asked = drafted lines (ruled name master keys head column front) cond.0 negated [] in
       let (now, further) = reads-pattern schema lines (ruled name master keys head column front) cond.0 negated cond.1 rest good.1 stops in
-      let after = pattern_text cond.1 ++ rest in
-      (now, reads-of (cond_text schema cond ++ rest) (attribute_text schema cond.0 ++ after) (simp append_assoc)
-        (reads-word schema state.Cond state.Test begun asked (attribute_text schema cond.0) after 0 word (stops-pattern cond.1 rest) (rw word refl) (λ place. rw (room, found, free, other) refl) refl
-        ▸ further))
+      let after = pattern_text cond.1 ++ rest in (
+        now,
+        reads-of (cond_text schema cond ++ rest) (attribute_text schema cond.0 ++ after) (simp append_assoc)
+            (reads-word schema state.Cond state.Test begun asked (attribute_text schema cond.0) after 0 word (stops-pattern cond.1 rest) (rw word refl) (λ place. rw (room, found, free, other) refl) refl
+            ▸ further),
+      )
 
   -- the conditions
   reads-conds : (front : List (ℕ × Pat)) (cond : ℕ × Pat) (others : List (ℕ × Pat)) (attribute : ℕ) (negated : Bool) (rest : List ℕ) → front ++ cond ∷ others ≡ conds → AllByRecursion (λ q. (q.0 < length schema.attributes) × IsPattern q.1) (cond ∷ others) → Stops rest
@@ -295,12 +310,17 @@ module _ (schema : Schema) (is : IsSchema schema) (lines : List RuleLine) (name 
       let tail = listed (map (cond_text schema) (second ∷ others)) ++ rest in
       let (now, one) = reads-cond front cond (second ∷ others) attribute negated (codes ", " ++ tail) whole good.0 (stops-comma _) in
       let between = drafted lines (ruled name master keys head column (front ++ cond ∷ [])) cond.0 now [] in
-      let (last, (then', further)) = reads-conds (front ++ cond ∷ []) second others cond.0 now rest (moved front cond (second ∷ others) conds whole) good.1 stops in
-      (last, (then', reads-of (listed (map (cond_text schema) (cond ∷ second ∷ others)) ++ rest) (cond_text schema cond ++ (codes ", " ++ tail)) (simp append_assoc)
-        (one
-        ▸ reads-token schema state.AfterCond state.Cond between between 44 (32 ∷ tail) (32 ∷ tail) (Sign mark.Comma) 0 0 refl refl refl (λ place. refl) refl
-        ▸ space schema state.Cond between tail
-        ▸ further)))
+      let (last, (then', further)) = reads-conds (front ++ cond ∷ []) second others cond.0 now rest (moved front cond (second ∷ others) conds whole) good.1 stops in (
+        last,
+        (
+          then',
+          reads-of (listed (map (cond_text schema) (cond ∷ second ∷ others)) ++ rest) (cond_text schema cond ++ (codes ", " ++ tail)) (simp append_assoc)
+              (one
+              ▸ reads-token schema state.AfterCond state.Cond between between 44 (32 ∷ tail) (32 ∷ tail) (Sign mark.Comma) 0 0 refl refl refl (λ place. refl) refl
+              ▸ space schema state.Cond between tail
+              ▸ further),
+        ),
+      )
 
 -- ---- rules
 

@@ -1,6 +1,6 @@
 -- What is read of a text is a rulebook.
-use Rattle.std.proofs.Common.{◌≡◌, ◌∙◌, ℕ, zero, suc, ◌+◌, ◌<◌, ◌≤◌, ◌==◌, nat_lt, nat_le, Bool, true, false, List, [], ◌∷◌, ◌++◌, length, get_or, Option, Some, None, Result, Ok, Err, refl, sym, ap, subst, arith, inl, inr, eqb-true}
-use Rattle.std.specs.Prelude.{codes, IsTrue, IsUtf8, position, ◌⊎◌, filter, slice_get, if◌then◌else◌}
+use Rattle.std.proofs.Common.{◌≡◌, ◌∙◌, ℕ, zero, suc, ◌+◌, ◌<◌, ◌≤◌, ◌==◌, nat_le, Bool, true, false, List, [], ◌∷◌, ◌++◌, length, Option, Some, None, Result, Ok, Err, refl, sym, ap, subst, arith, inl, inr, eqb-true}
+use Rattle.std.specs.Prelude.{codes, IsTrue, ◌⊎◌, filter, slice_get, if◌then◌else◌}
 use Rattle.std.specs.Str.{bytes_eq, IsAscii}
 use Rattle.std.specs.List.{list_all, AllByRecursion}
 use Rattle.std.proofs.lemmas.Bool.{cases_Bool, and_parts}
@@ -12,7 +12,7 @@ use Rattle.std.proofs.lemmas.Slice.Eq.{bytes_eq-Decides}
 use Rattle.std.proofs.lemmas.Str.{IsUtf8-from_ascii}
 use Rattle.desk_base.specs.Words.{is_word, is_word_byte}
 use Rattle.fix_model.specs.declared.pattern.Pat.{Pat}
-use Rattle.fix_model.specs.declared.pattern.Pat.TheVariants.{Is, IsNot, OneOf, NoneOf, Any}
+use Rattle.fix_model.specs.declared.pattern.Pat.TheVariants.{Is, IsNot, Any}
 use Rattle.schema_core.specs.declared.schema.Schema.{Schema}
 use Rattle.rule_text.specs.declared.fault.RuleFault.{RuleFault}
 use Rattle.rule_text.specs.declared.fault.RuleFault.TheVariants.{AttrTwice, HeadInWhen, TooMany, ConstantLong}
@@ -24,11 +24,10 @@ use Rattle.rule_text.specs.declared.token.Token.TheVariants.{Word, Quoted, Sign}
 use Rattle.rule_text.specs.declared.state.State.{State}
 use Rattle.rule_text.specs.declared.state.State.TheVariants as state
 use Rattle.rule_text.specs.declared.state.Taken.{Taken}
-use Rattle.rule_text.specs.declared.rulebook.RuleLine.{RuleLine}
 use Rattle.rule_text.specs.declared.rulebook.Rulebook.{Rulebook}
 use Rattle.rule_text.specs.declared.draft.Draft.{Draft}
 use Rattle.rule_text.specs.Grammar.{is_keyword, is_name, is_quoted, is_column, is_sign, mark_number, leads, next, is_book, tokens_of}
-use Rattle.rule_text.specs.Reading.{content, attribute_of, is_long, draft_behind, has_name, has_attribute, with_name, with_master, with_key_of, with_key, with_key_column, with_head_of, with_head, with_head_column, with_asked_of, with_asked, with_cond, with_test, with_constant, with_negated, with_text, set_of, with_set, with_line, with_token, and_then, with_tokens, begins_rule, extra_rule, book_of, book_unless, read_rules}
+use Rattle.rule_text.specs.Reading.{content, attribute_of, is_long, draft_behind, has_name, has_attribute, with_name, with_key_of, with_key_column, with_head_of, with_head_column, with_asked_of, with_cond, with_test, with_constant, with_negated, with_text, set_of, with_set, with_line, with_token, and_then, with_tokens, begins_rule, extra_rule, book_of, book_unless, read_rules}
 use Rattle.rule_text.specs.Rulebooks.{is_plain, IsPlain, IsSet, IsPattern, ArePairs, IsLine, AreNamedApart, IsRulebook}
 use Rattle.rule_text.proofs.Parts.{AllByRecursion-push, has_attribute-push, ArePairs-push, ArePairs-none, AreNamedApart-push, nat_eq-other}
 use Rattle.rule_text.proofs.Walk.{IsSpelled, IsChain, IsChain-from_text}
@@ -245,8 +244,15 @@ module _ (schema : Schema) (place : Place) (draft after : Draft) where
           closed = record { lines = key.closed.lines; apart = key.closed.apart };
           named = record { name = key.named.name; free = key.named.free };
           line = record {
-            name = key.named.name; master = key.master; some = at.keyed.some; keys = key.keys; head = at.headed.head; no_key = at.headed.no_key; from = plain short;
-            conds = ArePairs-none IsPattern schema draft.line.conds key.no_conds; no_cond = no_cond;
+            name = key.named.name;
+            master = key.master;
+            some = at.keyed.some;
+            keys = key.keys;
+            head = at.headed.head;
+            no_key = at.headed.no_key;
+            from = plain short;
+            conds = ArePairs-none IsPattern schema draft.line.conds key.no_conds;
+            no_cond = no_cond;
           };
         };
         no_texts = key.no_texts;
@@ -288,7 +294,13 @@ hold-cond schema pat draft good at =
       closed = record { lines = at.whole.closed.lines; apart = at.whole.closed.apart };
       named = record { name = at.whole.named.name; free = at.whole.named.free };
       line = record {
-        name = line.name; master = line.master; some = line.some; keys = line.keys; head = line.head; no_key = line.no_key; from = line.from;
+        name = line.name;
+        master = line.master;
+        some = line.some;
+        keys = line.keys;
+        head = line.head;
+        no_key = line.no_key;
+        from = line.from;
         conds = ArePairs-push IsPattern schema draft.line.conds draft.attribute pat line.conds at.room.room at.room.known at.room.free good;
         no_cond = has_attribute-push draft.line.conds (draft.attribute, pat) draft.line.head line.no_cond (nat_eq-other draft.attribute draft.line.head at.other);
       };

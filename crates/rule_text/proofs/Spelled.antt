@@ -1,19 +1,16 @@
 -- What is spelled is read as the token that it spells.
-use Rattle.std.proofs.Common.{◌≡◌, ◌∙◌, ℕ, suc, ◌+◌, ◌<◌, ◌==◌, nat_lt, nat_le, Bool, true, false, ◌&&◌, ◌||◌, List, [], ◌∷◌, ◌++◌, length, take, drop, Option, Some, None, refl, sym, ap, arith, inl, inr, eqb-true, append_assoc}
-use Rattle.std.specs.Prelude.{if◌then◌else◌}
+use Rattle.std.proofs.Common.{◌≡◌, ◌∙◌, ℕ, suc, ◌+◌, ◌<◌, ◌==◌, nat_lt, nat_le, Bool, true, false, ◌&&◌, List, [], ◌∷◌, ◌++◌, length, Some, refl, sym, ap, arith, inl, inr, eqb-true}
 use Rattle.std.specs.List.{list_all, prefix_len}
 use Rattle.std.specs.Str.{is_utf8}
 use Rattle.std.proofs.lemmas.Bool.{cases_Bool, and_parts}
 use Rattle.std.proofs.lemmas.Bool.Decides.{nat_tests}
-use Rattle.std.proofs.lemmas.List.{take_at, drop_at, length-append}
+use Rattle.std.proofs.lemmas.List.{take_at, length-append}
 use Rattle.desk_base.specs.Words.{begins_with, is_word_byte, starts_word, is_word}
-use Rattle.rule_text.specs.declared.token.Piece.{Piece}
-use Rattle.rule_text.specs.declared.token.Piece.TheVariants.{Gap, Spelled, Stray}
-use Rattle.rule_text.specs.declared.token.Token.{Token}
-use Rattle.rule_text.specs.declared.token.Token.TheVariants.{Word, Quoted, Sign}
-use Rattle.rule_text.specs.Tokens.{is_blank, word_length, word_at, with_byte, quoted, string_of, piece_at}
+use Rattle.rule_text.specs.declared.token.Piece.TheVariants.{Spelled}
+use Rattle.rule_text.specs.declared.token.Token.TheVariants.{Word, Quoted}
+use Rattle.rule_text.specs.Tokens.{is_blank, word_length, with_byte, quoted, piece_at}
 use Rattle.rule_text.specs.Rulebooks.{is_plain}
-use Rattle.rule_text.specs.Printing.{doubled, string_text}
+use Rattle.rule_text.specs.Printing.{doubled}
 
 -- what goes on neither a word nor a string
 pub record Stops (rest : List ℕ) : Type 0 where

@@ -1,7 +1,6 @@
 -- Reading goes on from one place of a text to another, token by token.
-use Rattle.std.proofs.Common.{◌≡◌, ◌∙◌, ℕ, suc, ◌+◌, ◌<◌, Bool, true, false, List, [], ◌∷◌, ◌++◌, length, take, drop, filter, Result, Ok, Err, Some, refl, sym, ap, subst, append_assoc, arith, inl, inr}
+use Rattle.std.proofs.Common.{◌≡◌, ◌∙◌, ℕ, ◌+◌, true, List, [], ◌∷◌, ◌++◌, length, take, drop, filter, Result, Ok, Err, Some, refl, sym, ap, subst, append_assoc, inl, inr}
 use Rattle.std.specs.Prelude.{if◌then◌else◌}
-use Rattle.std.specs.Str.{is_utf8}
 use Rattle.std.proofs.lemmas.Bool.{cases_Bool}
 use Rattle.std.proofs.lemmas.List.{drop_at, length-append}
 use Rattle.std.proofs.lemmas.List.Elements.{filter-append}
@@ -14,7 +13,7 @@ use Rattle.rule_text.specs.declared.state.State.{State}
 use Rattle.rule_text.specs.declared.state.Taken.{Taken}
 use Rattle.rule_text.specs.declared.token.Piece.TheVariants.{Gap, Spelled}
 use Rattle.rule_text.specs.declared.token.Token.{Token}
-use Rattle.rule_text.specs.declared.token.Token.TheVariants.{Word, Quoted, Sign}
+use Rattle.rule_text.specs.declared.token.Token.TheVariants.{Word, Quoted}
 use Rattle.rule_text.specs.declared.draft.Draft.{Draft}
 use Rattle.rule_text.specs.Tokens.{place_after, place_behind, piece_at}
 use Rattle.rule_text.specs.Grammar.{next, with_first, is_book, taken_from}
@@ -57,9 +56,16 @@ pub ◌▸◌ : {schema : Schema} {before middle after : State} {draft between h
 ◌▸◌ {schema} {before} {middle} {after} {draft} {between} {held} {bytes} {more} {rest} {one} {two} first second = record {
   walk = λ place.
       let (tokens, (behind, (to, (made, counted)))) = first.walk place in
-      let (tokens', (behind', (to', (made', counted')))) = second.walk behind in
-      (tokens ++ tokens', (behind', (to ∙ ap (with_front tokens) to' ∙ with_front-append tokens tokens' (taken_from after behind' 0 rest),
-        (with_tokens-then schema tokens tokens' draft between held made made', rw (filter-append begins_rule tokens tokens', length-append, counted, counted') refl))));
+      let (tokens', (behind', (to', (made', counted')))) = second.walk behind in (
+        tokens ++ tokens',
+        (
+          behind',
+          (
+            to ∙ ap (with_front tokens) to' ∙ with_front-append tokens tokens' (taken_from after behind' 0 rest),
+            (with_tokens-then schema tokens tokens' draft between held made made', rw (filter-append begins_rule tokens tokens', length-append, counted, counted') refl),
+          ),
+        ),
+      );
 }
 
 -- the same, where the bytes are written in another way

@@ -1,14 +1,13 @@
 -- The tokens of bytes, one after the other.
-use Rattle.std.proofs.Common.{◌≡◌, ◌∙◌, ℕ, zero, suc, ◌+◌, ◌<◌, add-one, List, [], ◌∷◌, ◌++◌, length, take, drop, Option, Some, None, Result, Ok, Err, refl, sym, ap, append_assoc, arith}
+use Rattle.std.proofs.Common.{◌≡◌, ◌∙◌, ℕ, zero, suc, ◌+◌, ◌<◌, add-one, List, [], ◌∷◌, ◌++◌, length, take, drop, Some, None, Result, Ok, Err, refl, ap, append_assoc, arith}
 use Rattle.rule_text.specs.declared.fault.RuleFault.{RuleFault}
 use Rattle.rule_text.specs.declared.place.Place.{Place}
 use Rattle.rule_text.specs.declared.state.State.{State}
 use Rattle.rule_text.specs.declared.state.Taken.{Taken}
-use Rattle.rule_text.specs.declared.token.Piece.{Piece}
 use Rattle.rule_text.specs.declared.token.Piece.TheVariants.{Gap, Spelled, Stray}
 use Rattle.rule_text.specs.declared.token.Token.{Token}
 use Rattle.rule_text.specs.Tokens.{place_after, place_behind, piece_at}
-use Rattle.rule_text.specs.Grammar.{taken_from, taken_with, with_first, syntax_at, next}
+use Rattle.rule_text.specs.Grammar.{taken_from, with_first, syntax_at, next}
 
 -- what was taken before, and what is still taken
 abbrev pub with_front : List Taken → Result (List Taken) RuleFault → Result (List Taken) RuleFault

@@ -1,8 +1,8 @@
 -- What the tokens of a text are: each is taken by the state that the one before it leads to.
-use Rattle.std.proofs.Common.{◌≡◌, ◌∙◌, ℕ, zero, suc, ◌+◌, ◌<◌, ◌≤◌, ◌==◌, nat_lt, nat_le, Bool, true, false, ◌&&◌, ◌||◌, List, [], ◌∷◌, ◌++◌, length, take, Option, Some, None, Result, Ok, Err, refl, sym, ap, subst, arith, inl, inr}
-use Rattle.std.specs.Prelude.{IsTrue, IsUtf8, IfSome, if◌then◌else◌}
+use Rattle.std.proofs.Common.{◌≡◌, ℕ, zero, suc, ◌+◌, ◌==◌, nat_lt, Bool, true, false, ◌&&◌, ◌||◌, List, [], ◌∷◌, take, Option, Some, None, Result, Ok, Err, refl, subst, arith, inl, inr}
+use Rattle.std.specs.Prelude.{IsUtf8, IfSome, if◌then◌else◌}
 use Rattle.std.specs.List.{list_all, prefix_len}
-use Rattle.std.proofs.lemmas.Bool.{cases_Bool, and_parts}
+use Rattle.std.proofs.lemmas.Bool.{cases_Bool}
 use Rattle.std.proofs.lemmas.Bool.Decides.{nat_tests}
 use Rattle.std.proofs.lemmas.Str.{IsUtf8-from_is_utf8}
 use Rattle.std.specs.Str.{is_utf8}
@@ -18,7 +18,7 @@ use Rattle.rule_text.specs.declared.token.Piece.{Piece}
 use Rattle.rule_text.specs.declared.token.Piece.TheVariants.{Gap, Spelled, Stray}
 use Rattle.rule_text.specs.declared.token.Token.{Token}
 use Rattle.rule_text.specs.declared.token.Token.TheVariants.{Word, Quoted, Sign}
-use Rattle.rule_text.specs.Tokens.{is_blank, comment_length, word_length, word_at, mark_at, with_byte, quoted, string_of, piece_at, place_after}
+use Rattle.rule_text.specs.Tokens.{is_blank, comment_length, word_at, mark_at, with_byte, quoted, string_of, piece_at, place_after}
 use Rattle.rule_text.specs.Grammar.{next, with_first, taken_with, taken_at, is_book, taken_from, syntax_at}
 use Rattle.rule_text.specs.Rulebooks.{is_plain}
 

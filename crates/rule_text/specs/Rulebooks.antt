@@ -1,5 +1,5 @@
 -- What a rulebook over a schema is.
-use Rattle.std.specs.Prelude.{◌≡◌, ℕ, ◌<◌, ◌≤◌, nat_le, Bool, true, false, List, [], ◌∷◌, length, IsTrue, IsUtf8, ⊤}
+use Rattle.std.specs.Prelude.{◌≡◌, ℕ, ◌<◌, ◌≤◌, nat_le, Bool, false, List, [], ◌∷◌, length, IsTrue, IsUtf8, ⊤}
 use Rattle.std.specs.List.{list_all, AllByRecursion}
 use Rattle.desk_base.specs.Words.{is_word}
 use Rattle.fix_model.specs.declared.pattern.Pat.{Pat}

@@ -1,12 +1,10 @@
 -- How the tokens of a text are spelled, and the places at which they stand.
-use Rattle.std.specs.Prelude.{ℕ, zero, suc, ◌+◌, ◌==◌, nat_lt, Bool, true, false, ◌&&◌, ◌||◌, not, if◌then◌else◌, List, [], ◌∷◌, take, Option, Some, None, option_map}
+use Rattle.std.specs.Prelude.{ℕ, ◌+◌, ◌==◌, nat_lt, Bool, ◌&&◌, ◌||◌, not, if◌then◌else◌, List, [], ◌∷◌, take, Option, Some, None, option_map}
 use Rattle.std.specs.List.{prefix_len}
 use Rattle.std.specs.Str.{is_utf8}
 use Rattle.desk_base.specs.Words.{begins_with, is_word_byte, starts_word}
 use Rattle.rule_text.specs.declared.place.Place.{Place}
-use Rattle.rule_text.specs.declared.token.Mark.{Mark}
 use Rattle.rule_text.specs.declared.token.Mark.TheVariants as mark
-use Rattle.rule_text.specs.declared.token.Token.{Token}
 use Rattle.rule_text.specs.declared.token.Token.TheVariants.{Word, Quoted, Sign}
 use Rattle.rule_text.specs.declared.token.Piece.{Piece}
 use Rattle.rule_text.specs.declared.token.Piece.TheVariants.{Gap, Spelled, Stray}

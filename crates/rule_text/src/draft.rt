@@ -16,7 +16,9 @@ use schema_core::Schema;
 use std::alloc::Global;
 
 const MAX_KEYS: usize = 8;
+
 const MAX_CONDS: usize = 8;
+
 const MAX_TEXTS: usize = 64;
 
 /// What is read of a rulebook so far.
@@ -83,7 +85,9 @@ fn place_of(words: &[Text], word: &[u8]) -> Option<usize>
 fn has_name(lines: &[RuleLine], name: &[u8]) -> bool
     ensures { result ≡ has_name lines.now name.now }
 {
-    lines.iter().any(|line| name == line.name.as_str().as_bytes())
+    lines
+        .iter()
+        .any(|line| name == line.name.as_str().as_bytes())
 }
 
 fn has_key(keys: &[(u16, Text)], attribute: u16) -> bool
@@ -171,7 +175,12 @@ impl Draft {
     }
 
     /// Takes the column of a key.
-    fn take_key_column(&mut self, alloc: Global, column: &[u8], place: Place) -> Result<(), RuleFault>
+    fn take_key_column(
+        &mut self,
+        alloc: Global,
+        column: &[u8],
+        place: Place,
+    ) -> Result<(), RuleFault>
         ensures read { OnOk result (with_key_column column.now place self.old ≡ Ok self.new) }
         ensures fault { IfErr result (λ fault. fault ≢ RuleFault.NoMemory
             → with_key_column column.now place self.old ≡ Err fault) }
@@ -202,7 +211,12 @@ impl Draft {
     }
 
     /// Takes the column of the head.
-    fn take_head_column(&mut self, alloc: Global, column: &[u8], place: Place) -> Result<(), RuleFault>
+    fn take_head_column(
+        &mut self,
+        alloc: Global,
+        column: &[u8],
+        place: Place,
+    ) -> Result<(), RuleFault>
         ensures read { OnOk result (with_head_column column.now place self.old ≡ Ok self.new) }
         ensures fault { IfErr result (λ fault. fault ≢ RuleFault.NoMemory
             → with_head_column column.now place self.old ≡ Err fault) }
@@ -259,7 +273,12 @@ impl Draft {
     }
 
     /// Takes the constant that a text is to be.
-    fn take_constant(&mut self, alloc: Global, constant: &[u8], place: Place) -> Result<(), RuleFault>
+    fn take_constant(
+        &mut self,
+        alloc: Global,
+        constant: &[u8],
+        place: Place,
+    ) -> Result<(), RuleFault>
         ensures read { OnOk result (with_constant pat.Is constant.now place self.old ≡ Ok self.new) }
         ensures fault { IfErr result (λ fault. fault ≢ RuleFault.NoMemory
             → with_constant pat.Is constant.now place self.old ≡ Err fault) }
@@ -314,7 +333,11 @@ impl Draft {
             return Ok(());
         }
         let texts = std::mem::replace(&mut self.texts, List::new(alloc));
-        let pat = if self.negated { Pat::NoneOf(texts) } else { Pat::OneOf(texts) };
+        let pat = if self.negated {
+            Pat::NoneOf(texts)
+        } else {
+            Pat::OneOf(texts)
+        };
         self.add_cond(pat)
     }
 

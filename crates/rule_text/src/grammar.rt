@@ -25,7 +25,14 @@ pub fn tokens_of(alloc: Global, text: &[u8]) -> Result<Vec<Taken>, RuleFault>
                 let Some(after) = next(state, &token) else {
                     return Err(RuleFault::Syntax(place.line, place.column));
                 };
-                if tokens.push(Taken { state, token, place }).is_err() {
+                if tokens
+                    .push(Taken {
+                        state,
+                        token,
+                        place,
+                    })
+                    .is_err()
+                {
                     return Err(RuleFault::NoMemory);
                 }
                 state = after;

@@ -98,18 +98,32 @@ fn put_column(out: &mut Vec<u8>, column: &Text) -> Result<(), NoMemory>
     ensures { OnOk result (out.new.items ≡ out.old.items ++ column_text column.now) }
 {
     let bytes = column.as_str().as_bytes();
-    if is_word(bytes) { put(out, bytes) } else { put_string(out, column) }
+    if is_word(bytes) {
+        put(out, bytes)
+    } else {
+        put_string(out, column)
+    }
 }
 
 fn put_attribute(out: &mut Vec<u8>, schema: &Schema, attribute: u16) -> Result<(), NoMemory>
     requires { attribute < length schema.now.attributes }
     ensures { OnOk result (out.new.items ≡ out.old.items ++ attribute_text schema.now attribute) }
 {
-    put(out, schema.attributes.as_slice()[attribute as usize].as_str().as_bytes())
+    put(
+        out,
+        schema.attributes.as_slice()[attribute as usize]
+            .as_str()
+            .as_bytes(),
+    )
 }
 
 /// An attribute and the column that it is compared with or fixed from.
-fn put_pair(out: &mut Vec<u8>, schema: &Schema, attribute: u16, column: &Text) -> Result<(), NoMemory>
+fn put_pair(
+    out: &mut Vec<u8>,
+    schema: &Schema,
+    attribute: u16,
+    column: &Text,
+) -> Result<(), NoMemory>
     requires { attribute < length schema.now.attributes }
     ensures { OnOk result (out.new.items ≡ out.old.items ++ pair_text schema.now (attribute, column.now)) }
 {
@@ -151,7 +165,12 @@ fn put_asked(out: &mut Vec<u8>, schema: &Schema, conds: &[(u16, Pat)]) -> Result
     Ok(())
 }
 
-fn put_cond(out: &mut Vec<u8>, schema: &Schema, attribute: u16, pattern: &Pat) -> Result<(), NoMemory>
+fn put_cond(
+    out: &mut Vec<u8>,
+    schema: &Schema,
+    attribute: u16,
+    pattern: &Pat,
+) -> Result<(), NoMemory>
     requires { attribute < length schema.now.attributes }
     ensures { OnOk result (out.new.items ≡ out.old.items ++ cond_text schema.now (attribute, pattern.now)) }
 {

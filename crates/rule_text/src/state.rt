@@ -120,18 +120,46 @@ pub fn next(state: State, token: &Token) -> Option<State>
         State::Key => leads(token.is_name(), State::KeyEquals),
         State::KeyEquals => leads(token.is_sign(Mark::Equals), State::KeyColumn),
         State::KeyColumn => leads(token.is_column(), State::AfterKey),
-        State::AfterKey => if token.is_sign(Mark::Comma) { Some(State::Key) } else { leads(token.is_sign(Mark::Arrow), State::Head) },
+        State::AfterKey => if token.is_sign(Mark::Comma) {
+            Some(State::Key)
+        } else {
+            leads(token.is_sign(Mark::Arrow), State::Head)
+        },
         State::Head => leads(token.is_name(), State::HeadEquals),
         State::HeadEquals => leads(token.is_sign(Mark::Equals), State::HeadColumn),
         State::HeadColumn => leads(token.is_column(), State::AfterHead),
-        State::AfterHead => if token.is_keyword(b"when") { Some(State::Cond) } else { leads(token.is_sign(Mark::Semicolon), State::Book) },
+        State::AfterHead => if token.is_keyword(b"when") {
+            Some(State::Cond)
+        } else {
+            leads(token.is_sign(Mark::Semicolon), State::Book)
+        },
         State::Cond => leads(token.is_name(), State::Test),
-        State::Test => if token.is_keyword(b"is") { Some(State::Const) } else if token.is_keyword(b"not") { Some(State::Negated) } else if token.is_keyword(b"in") { Some(State::Open) } else { leads(token.is_keyword(b"any"), State::AfterCond) },
-        State::Negated => if token.is_quoted() { Some(State::AfterCond) } else { leads(token.is_keyword(b"in"), State::Open) },
+        State::Test => if token.is_keyword(b"is") {
+            Some(State::Const)
+        } else if token.is_keyword(b"not") {
+            Some(State::Negated)
+        } else if token.is_keyword(b"in") {
+            Some(State::Open)
+        } else {
+            leads(token.is_keyword(b"any"), State::AfterCond)
+        },
+        State::Negated => if token.is_quoted() {
+            Some(State::AfterCond)
+        } else {
+            leads(token.is_keyword(b"in"), State::Open)
+        },
         State::Open => leads(token.is_sign(Mark::Opening), State::Item),
         State::Item => leads(token.is_quoted(), State::AfterItem),
-        State::AfterItem => if token.is_sign(Mark::Comma) { Some(State::Item) } else { leads(token.is_sign(Mark::Closing), State::AfterCond) },
+        State::AfterItem => if token.is_sign(Mark::Comma) {
+            Some(State::Item)
+        } else {
+            leads(token.is_sign(Mark::Closing), State::AfterCond)
+        },
         State::Const => leads(token.is_quoted(), State::AfterCond),
-        State::AfterCond => if token.is_sign(Mark::Comma) { Some(State::Cond) } else { leads(token.is_sign(Mark::Semicolon), State::Book) },
+        State::AfterCond => if token.is_sign(Mark::Comma) {
+            Some(State::Cond)
+        } else {
+            leads(token.is_sign(Mark::Semicolon), State::Book)
+        },
     }
 }

@@ -1,6 +1,4 @@
-use Rattle.std.proofs.Common.{◌≡◌, ◌+◌, ◌<◌, ◌≤◌, ◌∙◌, sym, length, arith, false-eqb, rules}
-use Rattle.rule_text.specs.declared.token.Piece.TheVariants.{Gap, Spelled}
-use Rattle.rule_text.specs.Tokens.{piece_at}
+use Rattle.std.proofs.Common.{◌<◌, ◌∙◌, sym, length, rules}
 use Rattle.rule_text.proofs.Strings.{gap-within, token-within}
 use Rattle.rule_text.proofs.Tokens.{goes_on-gap, goes_on-token, stops-stray, stops-token}
 use Rattle.rule_text.proofs.grammar.tokens_of.Goals as goal
@@ -15,7 +13,7 @@ split_at-requires c =
     ]
 
 pub overflow_add-more : goal.overflow_add-more
-overflow_add-more c = 
+overflow_add-more c =
     let some : 0 < length c.loop-rest.rest.now = search rules in
     elim c.match-branch-2.branch [
       | in-Gap w ↦ let within = gap-within _ _ some (sym c.in_ok-more.ensures ∙ w.in-Gap.is) in search rules

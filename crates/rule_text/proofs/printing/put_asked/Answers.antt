@@ -1,5 +1,4 @@
-use Rattle.std.proofs.Common.{map, take}
-use Rattle.rule_text.specs.Printing.{cond_text, listed}
+use Rattle.rule_text.specs.Printing.{cond_text}
 use Rattle.rule_text.proofs.Printed.{listed-take, grown}
 use Rattle.rule_text.proofs.printing.put_asked.Goals as goal
 

@@ -1,5 +1,4 @@
-use Rattle.std.proofs.Common.{map, take}
-use Rattle.rule_text.specs.Printing.{pair_text, listed}
+use Rattle.rule_text.specs.Printing.{pair_text}
 use Rattle.rule_text.proofs.Printed.{listed-take, grown}
 use Rattle.rule_text.proofs.printing.put_keys.Goals as goal
 

@@ -1,4 +1,4 @@
-use Rattle.std.proofs.Common.{◌≡◌, ◌+◌, ◌≤◌, length, take, drop}
+use Rattle.std.proofs.Common.{◌≡◌, ◌+◌, ◌≤◌, drop}
 use Rattle.rule_text.specs.Tokens.{place_behind}
 use Rattle.rule_text.proofs.place.Place.behind.Given as goal
 
