@@ -24,10 +24,9 @@ fn add_row(rt: &impl Abort, grid: &mut Grid, row: List<Text>) -> Result<(), Fail
 }
 
 /// A rule that fixes a head by a column, with two keys: the attributes 0 and 1.
-fn rule(alloc: Global, columns: [u16; 2], from: u16, head: u16) -> Result<Rule, Fail> {
-    let keys = List::from_vec(vec![in alloc; (0, columns[0]), (1, columns[1])]?);
+fn rule(alloc: Global, first: u16, second: u16, from: u16, head: u16) -> Result<Rule, Fail> {
     Ok(Rule {
-        keys,
+        keys: List::from_vec(vec![in alloc; (0, first), (1, second)]?),
         head,
         from,
         master: 0,
@@ -35,177 +34,136 @@ fn rule(alloc: Global, columns: [u16; 2], from: u16, head: u16) -> Result<Rule, 
     })
 }
 
-fn kit(alloc: Global, grid: Grid, rules: List<Rule>, folded: [bool; 2]) -> Result<Kit, Fail> {
+/// A kit over one master, whose keys are folded or not.
+fn kit(
+    alloc: Global,
+    grid: &Grid,
+    rules: List<Rule>,
+    first: bool,
+    second: bool,
+) -> Result<Kit, Fail> {
     let mut masters = List::new(alloc);
-    masters.push(grid)?;
+    masters.push(grid.copy()?)?;
     Ok(Kit {
         width: 4,
         rules,
         masters,
-        folded: List::from_vec(vec![in alloc; folded[0], folded[1], false, false]?),
+        folded: List::from_vec(vec![in alloc; first, second, false, false]?),
     })
+}
+
+/// So many triples, one of them twice.
+fn rules_of_triples(alloc: Global, triples: u16) -> Result<List<Rule>, Fail> {
+    let mut rules = List::new(alloc);
+    rules.push(rule(alloc, 0, 0, 0, 3)?)?;
+    for triple in 0..triples {
+        rules.push(rule(alloc, triple / 25, triple / 5 % 5, triple % 5, 2)?)?;
+    }
+    Ok(rules)
+}
+
+fn fault_at(
+    rt: &impl Abort,
+    alloc: Global,
+    grid: &Grid,
+    triples: u16,
+) -> Result<Option<BuildFault>, Fail> {
+    let kit = kit(alloc, grid, rules_of_triples(alloc, triples)?, false, false)?;
+    assert!(rt; kit.valid());
+    Ok(MapBook::build(alloc, kit).err())
 }
 
 #[test]
 fn an_index_has_two_million_entries_at_most(rt: HostRuntime) -> Result<(), Fail> {
-    let alloc = rt.alloc();
-    let row = texts(alloc, &["a", "b", "c", "d", "e"])?;
-    let mut grid = Grid::new(alloc, 5);
+    let row = texts(rt.alloc(), &["a", "b", "c", "d", "e"])?;
+    let mut grid = Grid::new(rt.alloc(), 5);
     for _ in 0..20_000 {
         add_row(&rt, &mut grid, row.copy()?)?;
     }
-    for (triples, fault) in [(100, None), (101, Some(BuildFault::TooWide(2_020_000)))] {
-        let mut rules = List::new(alloc);
-        // The first triple again, with another head.
-        rules.push(rule(alloc, [0, 0], 0, 3)?)?;
-        for triple in 0..triples {
-            rules.push(rule(alloc, [triple / 25, triple / 5 % 5], triple % 5, 2)?)?;
-        }
-        let kit = kit(alloc, grid.copy()?, rules, [false, false])?;
-        assert!(rt; kit.valid());
-        assert_eq!(rt; MapBook::build(alloc, kit).err(), fault, "{triples}");
-    }
+    assert_eq!(rt; fault_at(&rt, rt.alloc(), &grid, 100)?, None);
+    assert_eq!(rt;
+        fault_at(&rt, rt.alloc(), &grid, 101)?,
+        Some(BuildFault::TooWide(2_020_000))
+    );
     Ok(())
 }
 
-/// What a rule finds, if its keys are covered, and whether it agrees.
-fn answers<B: Book<()>>(book: &B, rule: u16, state: &State) -> (Option<Hit>, bool)
-    requires rule_within { rule < length (B.kit book.now).rules }
+/// What the first rule finds, if its keys are covered, and whether it agrees.
+fn answers<B: Book<()>>(book: &B, state: &State) -> (Option<Hit>, bool)
+    requires some { 0 < length (B.kit book.now).rules }
     requires fits { Fits (B.kit book.now) state.now }
 {
     let mut steps = Steps::new(());
-    let agrees = book.agrees(rule, state, &mut steps);
-    if enabled::<(), B>(book, state, &book.rules()[usize::from(rule)]) {
-        (book.find(rule, state, &mut steps), agrees)
+    let agrees = book.agrees(0, state, &mut steps);
+    if enabled::<(), B>(book, state, &book.rules()[0]) {
+        (book.find(0, state, &mut steps), agrees)
     } else {
         (None, agrees)
     }
 }
 
+fn towns(rt: &impl Abort, alloc: Global) -> Result<Grid, Fail> {
+    let mut grid = Grid::new(alloc, 3);
+    add_row(rt, &mut grid, texts(alloc, &["EH7", "Main", "Edi"])?)?;
+    add_row(rt, &mut grid, texts(alloc, &["eh7", "MAIN", "Edi"])?)?;
+    add_row(rt, &mut grid, texts(alloc, &["EH7", "Main", "EDI"])?)?;
+    add_row(rt, &mut grid, texts(alloc, &["", "Main", "Ayr"])?)?;
+    add_row(rt, &mut grid, texts(alloc, &["KY1", "Low", ""])?)?;
+    Ok(grid)
+}
+
+/// What both books answer for a zip, which is covered, and a street, which may be.
+fn looked_up(
+    rt: &impl Abort,
+    alloc: Global,
+    zip: &str,
+    street: &str,
+    covered: bool,
+    folded: bool,
+) -> Result<(Option<Hit>, bool), Fail> {
+    let mut rules = List::new(alloc);
+    rules.push(rule(alloc, 0, 1, 2, 2)?)?;
+    let kit = kit(alloc, &towns(rt, alloc)?, rules, folded, folded)?;
+    let typed = texts(alloc, &[zip, street, "", ""])?;
+    assert!(rt; typed.len() == 4 && kit.width == 4 && kit.rules.len() == 1 && kit.valid());
+    let state = State::new(alloc, typed, &[true, covered, false, false])?;
+    let plain = ListBook::new(kit.copy()?);
+    let book = MapBook::build(alloc, kit)?;
+    let answer = answers(&book, &state);
+    assert_eq!(rt; answer, answers(&plain, &state));
+    Ok(answer)
+}
+
 #[test]
 fn it_answers_as_the_plain_book(rt: HostRuntime) -> Result<(), Fail> {
     let alloc = rt.alloc();
-    let mut grid = Grid::new(alloc, 3);
-    for row in [
-        ["EH7", "Main", "Edi"],
-        ["eh7", "MAIN", "Edi"],
-        ["EH7", "Main", "EDI"],
-        ["", "Main", "Ayr"],
-        ["KY1", "Low", ""],
-        ["KY1", "High", "Fife"],
-    ] {
-        add_row(&rt, &mut grid, texts(alloc, &row)?)?;
-    }
-    let hit = |first, other| Some(Hit { first, other });
-    let rows = [
-        (
-            "as it is written",
-            [false, false],
-            ["EH7", "Main"],
-            [true, true],
-            hit(0, Some(2)),
-            true,
-        ),
-        (
-            "folded keys",
-            [true, true],
-            ["Eh7", "maiN"],
-            [true, true],
-            hit(0, Some(2)),
-            true,
-        ),
-        (
-            "the first folded",
-            [true, false],
-            ["eH7", "MAIN"],
-            [true, true],
-            hit(1, None),
-            true,
-        ),
-        (
-            "the second folded",
-            [false, true],
-            ["eh7", "main"],
-            [true, true],
-            hit(1, None),
-            true,
-        ),
-        (
-            "no fold",
-            [false, false],
-            ["eh7", "main"],
-            [true, true],
-            None,
-            false,
-        ),
-        (
-            "a blank",
-            [true, true],
-            ["", "Main"],
-            [true, true],
-            None,
-            false,
-        ),
-        (
-            "no text to copy",
-            [true, true],
-            ["KY1", "Low"],
-            [true, true],
-            None,
-            false,
-        ),
-        (
-            "no such key",
-            [true, true],
-            ["KY2", "High"],
-            [true, true],
-            None,
-            false,
-        ),
-        (
-            "the first key alone",
-            [false, false],
-            ["KY1", "?"],
-            [true, false],
-            None,
-            true,
-        ),
-        (
-            "the second key alone",
-            [false, true],
-            ["?", "high"],
-            [false, true],
-            None,
-            true,
-        ),
-        (
-            "the second key alone, no row",
-            [false, false],
-            ["?", "Low"],
-            [false, true],
-            None,
-            false,
-        ),
-    ];
-    for (case, folded, typed, confirmed, found, agrees) in rows {
-        let mut rules = List::new(alloc);
-        rules.push(rule(alloc, [0, 1], 2, 2)?)?;
-        rules.push(rule(alloc, [1, 0], 2, 2)?)?;
-        rules.push(rule(alloc, [0, 1], 2, 3)?)?;
-        let kit = kit(alloc, grid.copy()?, rules, folded)?;
-        let typed = texts(alloc, &[typed[0], typed[1], "", ""])?;
-        assert!(rt; typed.len() == 4 && kit.width == 4 && kit.rules.len() == 3 && kit.valid());
-        let state = State::new(alloc, typed, &[confirmed[0], confirmed[1], false, false])?;
-        let plain = ListBook::new(kit.copy()?);
-        let book = MapBook::build(alloc, kit)?;
-        for rule in 0..3 {
-            assert_eq!(rt;
-                answers(&book, rule, &state),
-                answers(&plain, rule, &state),
-                "{case}"
-            );
-        }
-        assert_eq!(rt; answers(&book, 2, &state), (found, agrees), "{case}");
-    }
+    let both = Some(Hit {
+        first: 0,
+        other: Some(2),
+    });
+    assert_eq!(rt;
+        looked_up(&rt, alloc, "EH7", "Main", true, false)?,
+        (both, true)
+    );
+    assert_eq!(rt;
+        looked_up(&rt, alloc, "Eh7", "maiN", true, true)?,
+        (both, true)
+    );
+    assert_eq!(rt;
+        looked_up(&rt, alloc, "eh7", "Main", true, false)?,
+        (None, false)
+    );
+    assert_eq!(rt;
+        looked_up(&rt, alloc, "", "Main", true, true)?,
+        (None, false)
+    );
+    assert_eq!(rt;
+        looked_up(&rt, alloc, "KY1", "Low", true, true)?,
+        (None, false)
+    );
+    assert_eq!(rt;
+        looked_up(&rt, alloc, "eh7", "?", false, false)?,
+        (None, true)
+    );
     Ok(())
 }
