@@ -1,5 +1,5 @@
 -- The rows of a master by the texts of one column.
-use Rattle.std.specs.Prelude.{◌≡◌, ℕ, Bool, List, [], length, filter}
+use Rattle.std.specs.Prelude.{◌≡◌, ℕ, Bool, true, false, not, ◌&&◌, List, [], ◌∷◌, length, filter}
 use Rattle.std.specs.BTreeMap.{get_by}
 use Rattle.std.specs.Cmp.Lexicographic.{slice_cmp}
 use Rattle.std.specs.List.{range_with_len}
@@ -10,9 +10,14 @@ use Rattle.desk_base.specs.Grid.{Table, cell_text}
 use Rattle.fix_model.specs.Alike.{compared}
 use Rattle.master_index.specs.declared.row_map.RowMap.{RowMap}
 
--- whether the row's text in this column is compared as this key
+-- the text has no byte
+abbrev pub is_blank : List ℕ → Bool
+is_blank [] = true
+is_blank (byte ∷ rest) = false
+
+-- whether the row's text in this column is compared as this key, and is no blank: no row agrees by a blank
 abbrev pub has_key : Table → ℕ → Bool → List ℕ → ℕ → Bool
-has_key table column folded key row = bytes_eq key (compared folded (cell_text table row column))
+has_key table column folded key row = let text = cell_text table row column in not (is_blank text) && bytes_eq key (compared folded text)
 
 -- all such rows, in ascending order
 abbrev pub rows_with_key : Table → ℕ → Bool → List ℕ → List ℕ
@@ -22,6 +27,6 @@ rows_with_key table column folded key = filter (has_key table column folded key)
 abbrev pub rows_at : RowMap → List ℕ → List ℕ
 rows_at map key = option_map_or (λ rows. rows.items) (get_by (λ held. slice_cmp nat_cmp key held.items) map.rows) []
 
--- the map holds at each key exactly the rows whose text in this column is compared as it
+-- the map holds at each key exactly the rows whose text in this column is no blank and is compared as it
 abbrev pub IsMapOf : Table → ℕ → Bool → RowMap → Type 0
 IsMapOf table column folded map = (key : List ℕ) → rows_at map key ≡ rows_with_key table column folded key

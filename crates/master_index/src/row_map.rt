@@ -15,7 +15,8 @@ pub(crate) struct RowMap {
 }
 
 impl RowMap {
-    /// The map of a column, whose texts are compared with their ASCII case or without.
+    /// The map of a column, whose texts are compared with their ASCII case or without. Rows with a blank
+    /// there are left out.
     pub(crate) fn build(
         alloc: Global,
         grid: &Grid,
@@ -29,8 +30,10 @@ impl RowMap {
             rows: BTreeMap::new(alloc),
         };
         'rows: for row in 0..grid.rows() {
-            let key = key_of(alloc, grid.cell(row, column), folded)?;
-            map.add(key, row)?;
+            let text = grid.cell(row, column);
+            if !text.is_blank() {
+                map.add(key_of(alloc, text, folded)?, row)?;
+            }
         }
         Ok(map)
     }
