@@ -2,7 +2,9 @@
 #![tactic(auto)]
 
 use desk_base::{Both, StdSink, StdSource};
+use std::alloc::AllocError;
 use std::env;
+use std::io::ErrorKind;
 use std::process::ExitCode;
 
 /// The status where memory is wanted for the words.
@@ -13,12 +15,14 @@ fn main(rt: HostRuntime) -> ExitCode {
         source: StdSource::new(rt.stdin()),
         sink: StdSink::new(rt.stdout()),
     };
-    // Words that are not UTF-8 are no command, like no words at all.
-    let Ok(words) = env::args(&rt) else {
-        return ExitCode::from(fixdesk_run::run(rt.alloc(), &[], &mut link));
+    let words = match env::args(&rt) {
+        Ok(words) => words.skip(1).collect::<Vec<_>>(rt.alloc()),
+        Err(error) if error.kind() == ErrorKind::OutOfMemory => Err(AllocError),
+        // Words that are not UTF-8 are no command, like no words at all.
+        Err(_) => Ok(Vec::new(rt.alloc())),
     };
-    match words.skip(1).collect::<Vec<_>>(rt.alloc()) {
+    match words {
         Ok(words) => ExitCode::from(fixdesk_run::run(rt.alloc(), &words, &mut link)),
-        Err(_) => ExitCode::from(NO_MEMORY),
+        Err(AllocError) => ExitCode::from(NO_MEMORY),
     }
 }

@@ -1,9 +1,8 @@
 -- The rows that are alike the values at the first key of a rule.
-use Rattle.std.proofs.Common.{◌≡◌, ◌≢◌, ◌<◌, ◌∙◌, ℕ, List, [], ◌∷◌, not, length, get_or, filter, ap, sym, arith, refl, true, Bool}
+use Rattle.std.proofs.Common.{◌≡◌, ◌≢◌, ◌<◌, ℕ, List, [], ◌∷◌, not, length, arith, refl, true, Bool}
 use Rattle.std.specs.Prelude.{All, AllPairs}
 use Rattle.std.specs.List.{Contains, range_with_len}
 use Rattle.std.specs.Cmp.Lexicographic.{bytes_decides}
-use Rattle.std.specs.Str.{bytes_eq}
 use Rattle.std.proofs.lemmas.List.Elements.{All-filter}
 use Rattle.std.proofs.lemmas.List.FromFn.{length-range_with_len, get_or-range_with_len}
 use Rattle.fix_model.specs.declared.kit.Kit.{Kit}

@@ -1,6 +1,7 @@
 //! The limit of an index from both sides, and that the book answers as the plain book does.
 ghost use Rattle.std.specs.Prelude.{◌<◌, length};
 ghost use Rattle.fix_model.specs.States.{Fits};
+ghost use Rattle.fix_model.specs.Valid.{IsValid};
 
 use crate::{BuildFault, MapBook};
 use desk_base::{Duplicate, Grid, List, Steps, Text};
@@ -112,6 +113,24 @@ fn towns(rt: &impl Abort, alloc: Global) -> Result<Grid, Fail> {
     Ok(grid)
 }
 
+/// What both books answer over a kit.
+fn answers_of_both(
+    rt: &impl Abort,
+    alloc: Global,
+    kit: Kit,
+    state: &State,
+) -> Result<(Option<Hit>, bool), Fail>
+    requires valid { IsValid kit }
+    requires some { 0 < length kit.rules }
+    requires fits { Fits kit state.now }
+{
+    let plain = ListBook::new(kit.copy()?);
+    let book = MapBook::build(alloc, kit)?;
+    let answer = answers(&book, state);
+    assert_eq!(rt; answer, answers(&plain, state));
+    Ok(answer)
+}
+
 /// What both books answer for a zip, which is covered, and a street, which may be.
 fn looked_up(
     rt: &impl Abort,
@@ -127,11 +146,7 @@ fn looked_up(
     let typed = texts(alloc, &[zip, street, "", ""])?;
     assert!(rt; typed.len() == 4 && kit.width == 4 && kit.rules.len() == 1 && kit.valid());
     let state = State::new(alloc, typed, &[true, covered, false, false])?;
-    let plain = ListBook::new(kit.copy()?);
-    let book = MapBook::build(alloc, kit)?;
-    let answer = answers(&book, &state);
-    assert_eq!(rt; answer, answers(&plain, &state));
-    Ok(answer)
+    answers_of_both(rt, alloc, kit, &state)
 }
 
 #[test]

@@ -1,5 +1,5 @@
 -- What is bound is a valid kit.
-use Rattle.std.proofs.Common.{◌≡◌, ◌≢◌, ℕ, suc, ◌+◌, ◌<◌, ◌≤◌, ◌==◌, Bool, false, List, [], ◌∷◌, length, map, position, Option, Some, None, refl, sym, arith}
+use Rattle.std.proofs.Common.{◌≡◌, ◌≢◌, ℕ, zero, suc, ◌+◌, ◌<◌, ◌≤◌, ◌==◌, Bool, false, List, [], ◌∷◌, length, get_or, map, position, Option, Some, None, refl, sym, arith}
 use Rattle.std.specs.Prelude.{All, AllPairs, slice_index_or, unwrap_or}
 use Rattle.std.specs.List.{AllByRecursion}
 use Rattle.std.specs.Option.{option_or, option_map_or}
@@ -22,7 +22,7 @@ use Rattle.rule_text.specs.declared.rulebook.RuleLine.{RuleLine}
 use Rattle.rule_text.specs.declared.rulebook.Rulebook.{Rulebook}
 use Rattle.rule_text.specs.Reading.{has_attribute}
 use Rattle.rule_text.specs.Rulebooks.{IsPlain, IsPattern, AreDistinct, ArePairs, IsLine, IsRulebook}
-use Rattle.rule_text.specs.Binding.{AreMasters, master_of, master_at, column_of, column_fault, keys_fault, columns_fault, line_fault, first_fault, bound_key, rule_of, kit_of}
+use Rattle.rule_text.specs.Binding.{AreMasters, AreFolded, master_of, master_at, column_of, column_fault, keys_fault, columns_fault, line_fault, first_fault, bound_key, rule_of, kit_of}
 
 -- where the first of two faults is none, neither is one
 None-from_option_or : {A : Type 0} (first second : Option A) → option_or first second ≡ None → (first ≡ None) × (second ≡ None)
@@ -131,3 +131,18 @@ module _ (book : Rulebook) (schema : Schema) (masters : List (List ℕ × Master
     folded = length-map-range_with_len _ 0 _;
     rules = All-map (IsValidRule (kit_of book schema masters folded)) (rule_of masters) book.lines (All-from_recursion _ book.lines (All-rule_of 1 book.lines is_book.lines none));
   }
+
+-- the first and the third of three attributes ascend
+ends-ascend : (k : ℕ) → k + 1 < 2 → get_or (0 ∷ 2 ∷ []) k 0 < get_or (0 ∷ 2 ∷ []) (k + 1) 0
+ends-ascend zero below = omega arith
+ends-ascend (suc k) below = absurd (omega arith)
+
+-- and are attributes
+ends-within : (count : ℕ) → count ≡ 3 → (k d : ℕ) → k < 2 → get_or (0 ∷ 2 ∷ []) k d < count
+ends-within count three zero d below = omega arith
+ends-within count three (suc zero) d below = omega arith
+ends-within count three (suc (suc k)) d below = absurd (omega arith)
+
+-- so they can be folded
+pub AreFolded_ends : (schema : Schema) → length schema.attributes ≡ 3 → AreFolded schema (0 ∷ 2 ∷ [])
+AreFolded_ends schema three = record { ascending = ends-ascend; within = ends-within (length schema.attributes) three }

@@ -1,11 +1,11 @@
 -- Want of memory is nothing that a text reads as.
-use Rattle.std.proofs.Common.{◌≡◌, ◌≢◌, ℕ, zero, suc, List, [], ◌∷◌, ◌++◌, Bool, true, false, length, refl}
-use Rattle.std.specs.Prelude.{Option, Some, None, Result, Ok, Err, nat_le, if◌then◌else◌}
+use Rattle.std.proofs.Common.{◌≡◌, ◌≢◌, ℕ, zero, suc, List, [], ◌∷◌, Bool, true, false}
+use Rattle.std.specs.Prelude.{Option, Some, None, Result, Ok, Err, if◌then◌else◌}
 use Rattle.fix_model.specs.declared.pattern.Pat.{Pat}
 use Rattle.fix_model.specs.declared.pattern.Pat.TheVariants.{Is, IsNot}
 use Rattle.schema_core.specs.declared.schema.Schema.{Schema}
 use Rattle.rule_text.specs.declared.fault.RuleFault.{RuleFault}
-use Rattle.rule_text.specs.declared.fault.RuleFault.TheVariants.{Syntax, UnknownAttr, HeadInKeys, HeadInWhen, AttrTwice, NameTwice, TooMany, ConstantLong, NoMemory}
+use Rattle.rule_text.specs.declared.fault.RuleFault.TheVariants.{Syntax, HeadInKeys, HeadInWhen, AttrTwice, NameTwice, TooMany, ConstantLong, NoMemory}
 use Rattle.rule_text.specs.declared.place.Place.{Place}
 use Rattle.rule_text.specs.declared.token.Token.{Token}
 use Rattle.rule_text.specs.declared.token.Piece.{Piece}
@@ -13,11 +13,10 @@ use Rattle.rule_text.specs.declared.token.Piece.TheVariants.{Gap, Spelled, Stray
 use Rattle.rule_text.specs.declared.state.State.{State}
 use Rattle.rule_text.specs.declared.state.State.TheVariants as state
 use Rattle.rule_text.specs.declared.state.Taken.{Taken}
-use Rattle.rule_text.specs.declared.rulebook.Rulebook.{Rulebook}
 use Rattle.rule_text.specs.declared.draft.Draft.{Draft}
 use Rattle.rule_text.specs.Tokens.{piece_at, place_after}
 use Rattle.rule_text.specs.Grammar.{is_quoted, is_book, next, with_first, taken_with, taken_at, taken_from, tokens_of}
-use Rattle.rule_text.specs.Reading.{content, attribute_of, is_long, has_name, has_attribute, with_name, with_key_of, with_key, with_key_column, with_head_of, with_head, with_head_column, with_asked_of, with_asked, with_cond, with_constant, with_negated, with_text, with_token, and_then, with_tokens, draft_behind, extra_rule, book_of, book_unless, read_rules}
+use Rattle.rule_text.specs.Reading.{content, attribute_of, with_name, with_key_of, with_key, with_key_column, with_head_of, with_head_column, with_asked_of, with_asked, with_constant, with_text, with_token, and_then, with_tokens, draft_behind, extra_rule, book_of, book_unless, read_rules}
 
 -- another fault, where the test holds, or else what is none either
 unless-memory : {A : Type 0} (test : Bool) (fault : RuleFault) (other : Result A RuleFault) → fault ≢ NoMemory → other ≢ Err NoMemory → (if test then Err fault else other) ≢ Err NoMemory

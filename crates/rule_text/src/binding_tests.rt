@@ -16,12 +16,14 @@ const STREETS: &[u8] = b"\"the zip code\",\"say \"\"so\"\"\",code\n1,2,3\n4,5,6\
 
 /// What the rules bind to, over the masters `towns` and `streets`, with the first and the last of three
 /// attributes folded.
+#[tactic(auto, using(crate::proofs::BindingKits::AreFolded_ends))]
 fn bound(rt: &impl Abort, alloc: Global, rules: &str) -> Result<Result<Kit, BindFault>, Fail> {
     let schema = Schema::read(alloc, SCHEMA)?;
     let book = read(alloc, rules.as_bytes(), &schema)?;
     let towns = Text::new(alloc, b"towns")?;
     let streets = Text::new(alloc, b"streets")?;
-    assert!(rt; towns.as_str() != streets.as_str() && schema.attributes.len() == 3);
+    assert!(rt; towns.as_str() != streets.as_str());
+    assert!(rt; schema.attributes.len() == 3);
     let masters = [
         (towns, Master::read(alloc, TOWNS)?),
         (streets, Master::read(alloc, STREETS)?),

@@ -1,9 +1,8 @@
-use Rattle.std.proofs.Common.{◌≡◌, ◌<◌, ℕ, length, get_or, arith}
+use Rattle.std.proofs.Common.{ℕ, get_or, arith}
 use borrow.Author.Count.{below_more}
 use Rattle.fix_model.specs.Application.{RowAgrees}
 use Rattle.fix_model.specs.States.{value_at}
 use Rattle.fix_model.proofs.Hits.{covered_keys-all}
-use Rattle.master_index.specs.Index.{rows_alike}
 use Rattle.master_index.proofs.Ascending.{least_from_first, none_from_listed}
 use Rattle.master_index.proofs.Rows.{AllPairs-rows_alike, Contains-agreeing}
 use Rattle.master_index.proofs.looks.first_among.Goals as goal

@@ -1,4 +1,4 @@
-use Rattle.std.proofs.Common.{◌≡◌, ◌≢◌, ◌<◌, ℕ, length, get_or, arith}
+use Rattle.std.proofs.Common.{◌≡◌, ◌≢◌, ℕ, arith}
 use Rattle.fix_model.specs.Application.{RowAgrees}
 use Rattle.fix_model.specs.Rules.{from_text}
 use Rattle.fix_model.specs.States.{value_at}

@@ -1,4 +1,4 @@
-use Rattle.std.proofs.Common.{◌<◌, length, arith}
+use Rattle.std.proofs.Common.{arith}
 use Rattle.fix_model.specs.Application.{RowAgreesAt}
 use Rattle.fix_model.specs.Hit.{covered_keys}
 use Rattle.fix_model.specs.States.{value_at}
