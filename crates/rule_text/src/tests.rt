@@ -1,4 +1,5 @@
 //! Texts by hand, after the rules of the language.
+ghost use Rattle.schema_core.specs.Schemas.{IsSchema};
 
 use crate::{RuleFault, print, read};
 use desk_base::Duplicate;
@@ -10,6 +11,10 @@ const PERSON: &[u8] = b"name = \"person\"\nattributes = [\"zip\", \"city\", \"ki
 
 const WIDE: &[u8] =
     b"name = \"wide\"\nattributes = [\"a1\", \"a2\", \"a3\", \"a4\", \"a5\", \"a6\", \"a7\", \"a8\", \"a9\", \"a10\"]";
+
+/// Its third attribute has 32 bytes.
+const LONG: &[u8] =
+    b"name = \"long\"\nattributes = [\"a\", \"b\", \"xxxxxxxxxxxxxxxxxxxxxxxxxxxxxxxx\"]";
 
 #[test]
 fn reads_and_prints(rt: HostRuntime) -> Result<(), Fail> {
@@ -127,21 +132,6 @@ fn refuses_at_the_place(rt: HostRuntime) -> Result<(), Fail> {
         (
             "a string for an attribute",
             b"rule r from m: \"zip\" = a -> city = b;".as_slice(),
-            RuleFault::Syntax(1, 16),
-        ),
-        (
-            "a name of 33 bytes",
-            b"rule abcdefghijklmnopqrstuvwxyz0123456 from m".as_slice(),
-            RuleFault::Syntax(1, 6),
-        ),
-        (
-            "a master of 33 bytes",
-            b"rule r from abcdefghijklmnopqrstuvwxyz0123456:".as_slice(),
-            RuleFault::Syntax(1, 13),
-        ),
-        (
-            "an attribute of 33 bytes",
-            b"rule r from m: abcdefghijklmnopqrstuvwxyz0123456 = a".as_slice(),
             RuleFault::Syntax(1, 16),
         ),
         (
@@ -266,38 +256,6 @@ fn takes_up_to_the_limits(rt: HostRuntime) -> Result<(), Fail> {
             Some(RuleFault::TooMany(201, 1)),
         ),
         (
-            "a word of 200 bytes for a key's column",
-            "rule r from m: a1 = ",
-            "x",
-            200,
-            " -> a2 = c;",
-            None,
-        ),
-        (
-            "a word of 200 bytes for the head's column",
-            "rule r from m: a1 = c -> a2 = ",
-            "x",
-            200,
-            ";",
-            None,
-        ),
-        (
-            "a word of 201 bytes for a key's column",
-            "rule r from m: a1 = ",
-            "x",
-            201,
-            " -> a2 = c;",
-            Some(RuleFault::ConstantLong(1, 21)),
-        ),
-        (
-            "a word of 201 bytes for the head's column",
-            "rule r from m: a1 = c -> a2 = ",
-            "x",
-            201,
-            ";",
-            Some(RuleFault::ConstantLong(1, 31)),
-        ),
-        (
             "a string of 201 bytes for a column",
             "rule r from m: a1 = \"",
             "x",
@@ -340,11 +298,94 @@ fn takes_up_to_the_limits(rt: HostRuntime) -> Result<(), Fail> {
     ];
     let schema = Schema::read(rt.alloc(), WIDE)?;
     for (case, front, piece, count, back, fault) in rows {
-        let text = repeated(rt.alloc(), front, piece, count, back)?;
-        let answer = read(rt.alloc(), text.as_bytes(), &schema).err();
-        assert_eq!(rt; answer, fault, "{case}");
+        let found = fault_of(rt.alloc(), &schema, (front, piece, count, back))?;
+        assert_eq!(rt; found, fault, "{case}");
     }
     Ok(())
+}
+
+#[test]
+fn takes_words_as_long_as_their_place_allows(rt: HostRuntime) -> Result<(), Fail> {
+    let rows = [
+        (
+            "the rule's name",
+            "rule ",
+            " from m: a = c -> b = c;",
+            name_at(6),
+        ),
+        (
+            "the master",
+            "rule r from ",
+            ": a = c -> b = c;",
+            name_at(13),
+        ),
+        ("a key", "rule r from m: ", " = c -> b = c;", name_at(16)),
+        (
+            "a key's column",
+            "rule r from m: a = ",
+            " -> b = c;",
+            column_at(20),
+        ),
+        ("the head", "rule r from m: a = c -> ", " = c;", name_at(25)),
+        (
+            "the head's column",
+            "rule r from m: a = c -> b = ",
+            ";",
+            column_at(29),
+        ),
+        (
+            "a condition",
+            "rule r from m: a = c -> b = c when ",
+            " any;",
+            name_at(36),
+        ),
+    ];
+    let schema = Schema::read(rt.alloc(), LONG)?;
+    for (case, front, back, faults) in rows {
+        let found = faults_by_length(rt.alloc(), &schema, front, back)?;
+        assert_eq!(rt; found, faults, "{case}");
+    }
+    Ok(())
+}
+
+/// What is answered to words of 32, 33, 200 and 201 bytes in a name's place.
+fn name_at(column: u64) -> [Option<RuleFault>; 4] {
+    let syntax = Some(RuleFault::Syntax(1, column));
+    [None, syntax, syntax, syntax]
+}
+
+/// What is answered to words of 32, 33, 200 and 201 bytes in a column's place.
+fn column_at(column: u64) -> [Option<RuleFault>; 4] {
+    [None, None, None, Some(RuleFault::ConstantLong(1, column))]
+}
+
+/// The faults of four texts with words of 32, 33, 200 and 201 bytes between a front and a back.
+fn faults_by_length(
+    alloc: Global,
+    schema: &Schema,
+    front: &str,
+    back: &str,
+) -> Result<[Option<RuleFault>; 4], Fail>
+    requires { IsSchema schema.now }
+{
+    Ok([
+        fault_of(alloc, schema, (front, "x", 32, back))?,
+        fault_of(alloc, schema, (front, "x", 33, back))?,
+        fault_of(alloc, schema, (front, "x", 200, back))?,
+        fault_of(alloc, schema, (front, "x", 201, back))?,
+    ])
+}
+
+/// The fault of a text: a front, a piece so many times, and a back.
+fn fault_of(
+    alloc: Global,
+    schema: &Schema,
+    parts: (&str, &str, u32, &str),
+) -> Result<Option<RuleFault>, Fail>
+    requires { IsSchema schema.now }
+{
+    let text = repeated(alloc, parts.0, parts.1, parts.2, parts.3)?;
+    Ok(read(alloc, text.as_bytes(), schema).err())
 }
 
 fn repeated(
