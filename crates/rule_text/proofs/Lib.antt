@@ -1,5 +1,6 @@
 pub mod Strings
 pub mod Tokens
+pub mod Sentences
 pub mod Printed
 pub mod Walk
 pub mod Parts

@@ -1,5 +1,6 @@
 pub mod Tokens
 pub mod Grammar
+pub mod Sentences
 pub mod Reading
 pub mod Rulebooks
 pub mod Printing

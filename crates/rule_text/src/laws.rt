@@ -1,7 +1,11 @@
 //! What holds of the definitions, for callers that reason with them. What a text reads as is a function of
 //! the text and the schema, so each text has exactly one result.
-ghost use Rattle.std.specs.Prelude.{◌≡◌, ◌≢◌, Ok, Err};
+ghost use Rattle.std.specs.Prelude.{◌≡◌, ◌≢◌, List, Ok, Err};
 ghost use Rattle.schema_core.specs.Schemas.{IsSchema};
+ghost use Rattle.rule_text.specs.declared.state.Taken.{Taken as TakenOf};
+ghost use Rattle.rule_text.specs.declared.token.Token.{Token as TokenOf};
+ghost use Rattle.rule_text.specs.Grammar.{tokens_of};
+ghost use Rattle.rule_text.specs.Sentences.{Spells, IsSentence, tokens_alone};
 ghost use Rattle.rule_text.specs.Rulebooks.{IsRulebook};
 ghost use Rattle.rule_text.specs.Reading.{read_rules};
 ghost use Rattle.rule_text.specs.Printing.{printed};
@@ -9,6 +13,25 @@ ghost use Rattle.rule_text.specs.Printing.{printed};
 use crate::fault::RuleFault;
 use crate::rulebook::Rulebook;
 use schema_core::Schema;
+
+/// What is read of a text are tokens that it spells, and they are a sentence of the grammar.
+pub fn only_sentences(text: &[u8])
+    ensures { (taken : List TakenOf) → tokens_of text.now ≡ Ok taken
+        → Spells text.now (tokens_alone taken) × IsSentence (tokens_alone taken) }
+{}
+
+/// Where a text spells a sentence of the grammar, this is what is read of it. So a text is refused as no
+/// sentence only where it spells none.
+pub fn every_sentence(text: &[u8])
+    ensures { (tokens : List TokenOf) → Spells text.now tokens → IsSentence tokens
+        → (taken : List TakenOf) × (tokens_of text.now ≡ Ok taken) × (tokens_alone taken ≡ tokens) }
+{}
+
+/// A text spells at most one sequence of tokens.
+pub fn one_spelling(text: &[u8])
+    ensures { (tokens others : List TokenOf) → Spells text.now tokens → Spells text.now others
+        → tokens ≡ others }
+{}
 
 /// A text reads as nothing but rulebooks.
 pub fn only_rulebooks(text: &[u8], schema: &Schema, book: &Rulebook)
