@@ -1,5 +1,6 @@
 //! The command `once`, which answers the case that it is given.
 ghost use Rattle.std.specs.Prelude.{◌≡◌, ◌≤◌, length, IfOk};
+ghost use Rattle.fix_model.specs.States.{Fits};
 ghost use Rattle.fix_model.specs.Valid.{IsValid};
 ghost use Rattle.fixdesk_run.specs.declared.case.Case.{Case as CaseOf};
 ghost use Rattle.fixdesk_run.specs.Answer.{IsAnswer};
@@ -11,9 +12,9 @@ use crate::case::Case;
 use crate::case::read::{CaseFault, case_of};
 use crate::input::{InputFault, MOST, input_of};
 use crate::status::{Refusal, Reply, Status};
-use desk_base::{Both, Failed, NoMemory, Sink, Source, Steps, write_all};
+use desk_base::{Both, Failed, NoMemory, Sink, Source, Steps, Text, write_all};
 use fix_engine::{Work, apply, least};
-use fix_model::ListBook;
+use fix_model::{Book, ListBook, State};
 use std::alloc::Global;
 
 /// What the bytes that were taken are answered with.
@@ -41,15 +42,30 @@ fn answer_to(alloc: Global, case: Case) -> Result<Vec<u8>, NoMemory>
     let Case {
         attributes,
         kit,
-        mut state,
+        state,
     } = case;
-    let mut work = Work::new(alloc, kit.width, kit.rules.len() as u16)?;
-    let mut steps = Steps::new(());
     let book = ListBook::new(kit);
-    least(&mut work, &book, &mut state, &mut steps);
+    answer_over::<ListBook>(alloc, attributes.as_slice(), &book, state)
+}
+
+/// The text that answers the case of these attributes, the book's kit and this state, by its first run.
+pub fn answer_over<B: Book<()>>(
+    alloc: Global,
+    attributes: &[Text],
+    book: &B,
+    mut state: State,
+) -> Result<Vec<u8>, NoMemory>
+    requires named { length attributes.now ≡ (B.kit book.now).width }
+    requires fits { Fits (B.kit book.now) state }
+    ensures { IfOk result (λ text.
+        IsAnswer (record { attributes = attributes.now; kit = B.kit book.now; state = state }) text.items) }
+{
+    let mut work = Work::new(alloc, book.width(), book.rules().len() as u16)?;
+    let mut steps = Steps::new(());
+    least(&mut work, book, &mut state, &mut steps);
     let run = work.first();
-    apply::<(), ListBook>(&book, &mut state, run);
-    match answer::<(), ListBook>(alloc, attributes.as_slice(), &book, &state, run) {
+    apply::<(), B>(book, &mut state, run);
+    match answer::<(), B>(alloc, attributes, book, &state, run) {
         Ok(text) => Ok(text),
         Err(_) => Err(NoMemory),
     }

@@ -1,6 +1,11 @@
-//! Cases by hand, with answers that follow from what a rule, a run and a case are.
+//! Cases by hand, with answers that follow from what a rule, a run and a case are. Each that is answered is
+//! answered over the plain book and over an index of its masters.
+use crate::case::Case;
+use crate::case::read::case_of;
+use crate::once::answer_over;
 use crate::run;
 use desk_base::{Both, List, MemSink, MemSource};
+use master_index::MapBook;
 use std::alloc::{AllocError, Global};
 use std::process::Abort;
 use std::test::Fail;
@@ -78,7 +83,19 @@ fn edited(alloc: Global, text: &str, old: &str, new: &str) -> Result<String, All
     }
 }
 
-/// `once` answers the input with this line and status.
+/// The line that answers a case over an index of its masters.
+fn line_over_index(alloc: Global, input: &str) -> Result<Vec<u8>, Fail> {
+    let Case {
+        attributes,
+        kit,
+        state,
+    } = case_of(alloc, input.as_bytes())?;
+    let book = MapBook::build(alloc, kit)?;
+    let line = answer_over::<MapBook>(alloc, attributes.as_slice(), &book, state)?;
+    Ok(line)
+}
+
+/// `once` answers the input with this line and status, and an index leads to the same line.
 fn tells(
     rt: &impl Abort,
     alloc: Global,
@@ -91,6 +108,14 @@ fn tells(
     let line = format!(in alloc; "{text}\n")?;
     assert_eq!(rt; told.text.as_slice(), line.as_str().as_bytes(), "{case}");
     assert_eq!(rt; told.status, status, "{case}");
+    if status == 0 {
+        let indexed = line_over_index(alloc, input)?;
+        assert_eq!(rt;
+            indexed.as_slice(),
+            line.as_str().as_bytes(),
+            "{case}, over an index"
+        );
+    }
     Ok(())
 }
 
