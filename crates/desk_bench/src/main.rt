@@ -1,0 +1,77 @@
+//! Times the work of the desk that grows with rules and with master rows.
+//!
+//! The words are how many rules, master rows and records, as in `desk_bench 48 20000 1000`; for each record 100
+//! looks are made. What was done is told on standard output, and how much processor time each part took on
+//! standard error.
+#![tactic(auto)]
+
+ghost use Rattle.fix_model.specs.Valid.{IsValid};
+
+mod desk;
+mod looks;
+mod sizes;
+mod texts;
+
+use crate::desk::{clock, kit_of, tell};
+use crate::looks::{LOOKS, rows_found};
+use crate::sizes::Sizes;
+use desk_base::Duplicate;
+use fix_model::{Book, Kit, ListBook};
+use master_index::MapBook;
+use std::alloc::Global;
+use std::env;
+use std::test::Fail;
+use std::time::CpuClock;
+
+/// How many records are looked up in the index for each in the plain book, which goes through all rows.
+const PLAIN_SHARE: u32 = 1_000;
+
+fn main(rt: HostRuntime) -> Result<(), Fail> {
+    let words = env::args(&rt)?.skip(1).collect::<Vec<_>>(rt.alloc())?;
+    match Sizes::of_words(&words) {
+        Some(sizes) => measure(&rt, rt.alloc(), sizes),
+        None => Err(Fail::new("usage: desk_bench RULES ROWS RECORDS")),
+    }
+}
+
+/// Makes the kit, and looks into both books over it.
+fn measure<R: Print + Eprint + CpuClock>(rt: &R, alloc: Global, sizes: Sizes) -> Result<(), Fail> {
+    let kit = kit_of(rt, alloc, sizes)?;
+    let plain = ListBook::new(kit.copy()?);
+    look_up(
+        rt,
+        alloc,
+        "plain",
+        &plain,
+        sizes.rows,
+        sizes.records / PLAIN_SHARE,
+    )?;
+    let index = index_of(rt, alloc, kit)?;
+    look_up(rt, alloc, "index", &index, sizes.rows, sizes.records)
+}
+
+/// The book over an index of the kit's masters.
+fn index_of<R: Eprint + CpuClock>(rt: &R, alloc: Global, kit: Kit) -> Result<MapBook, Fail>
+    requires { IsValid kit }
+{
+    let start = clock(rt)?;
+    let index = MapBook::build(alloc, kit)?;
+    tell(rt, "building the index", start)?;
+    Ok(index)
+}
+
+/// Looks so many records up, and tells how many looks found a row.
+fn look_up<R: Print + Eprint + CpuClock, B: Book<()>>(
+    rt: &R,
+    alloc: Global,
+    name: &str,
+    book: &B,
+    rows: u32,
+    records: u32,
+) -> Result<(), Fail> {
+    let start = clock(rt)?;
+    let found = rows_found(alloc, book, rows, records)?;
+    tell(rt, name, start)?;
+    let looks = u64::from(records) * LOOKS;
+    Ok(println!(rt; "{name}: {found} of {looks} looks found a row")?)
+}
