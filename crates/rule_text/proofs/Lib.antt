@@ -9,4 +9,7 @@ pub mod Memory
 pub mod Spelled
 pub mod Steps
 pub mod Again
+pub mod DraftTokens
+pub mod BookTokens
+pub mod SameTokens
 pub mod BindingKits

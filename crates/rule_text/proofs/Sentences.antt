@@ -1,5 +1,5 @@
 -- What is read of a text is a sentence that it spells, and each such sentence is read.
-use Rattle.std.proofs.Common.{◌≡◌, ◌∙◌, ℕ, zero, suc, List, [], ◌∷◌, take, drop, map, Option, Some, None, Result, Ok, Err, refl, sym, ap, subst}
+use Rattle.std.proofs.Common.{◌≡◌, ◌∙◌, ℕ, zero, suc, List, [], ◌∷◌, take, drop, Option, Some, None, Result, Ok, Err, refl, sym, ap, subst}
 use Rattle.std.specs.Prelude.{if◌then◌else◌, Bool, true, false}
 use Rattle.std.proofs.Math.Seq.{drop-nil}
 use Rattle.rule_text.specs.declared.fault.RuleFault.{RuleFault}
@@ -22,10 +22,8 @@ record IsReading (state : State) (bytes : List ℕ) (taken : List Taken) : Type 
   pub spelled : Spells bytes (tokens_alone taken)
   pub sentence : IsSentenceFrom state (tokens_alone taken)
 
-same-list : (taken other : List Taken) → (let read : Result (List Taken) RuleFault = Ok taken in read) ≡ Ok other → taken ≡ other
-same-list taken other is = cc
-
-book-only : (before : State) → is_book before ≡ true → before ≡ state.Book
+-- the one state at which no rule has begun
+pub book-only : (before : State) → is_book before ≡ true → before ≡ state.Book
 book-only state.Book is = refl
 book-only before is = absurd cc
 

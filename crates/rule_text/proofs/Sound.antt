@@ -143,11 +143,11 @@ Holds schema state.AfterCond draft = AtEnd schema draft
 
 -- ---- tests that were passed
 
-passed : {A : Type 0} (test : Bool) (fault : RuleFault) (others : Result A RuleFault) (value : A) → (if test then Err fault else others) ≡ Ok value → (test ≡ false) × (others ≡ Ok value)
+pub passed : {A : Type 0} (test : Bool) (fault : RuleFault) (others : Result A RuleFault) (value : A) → (if test then Err fault else others) ≡ Ok value → (test ≡ false) × (others ≡ Ok value)
 passed true fault others value is = absurd cc
 passed false fault others value is = (refl, is)
 
-same-draft : (draft after : Draft) → (let read : Result Draft RuleFault = Ok draft in read) ≡ Ok after → draft ≡ after
+pub same-draft : (draft after : Draft) → (let read : Result Draft RuleFault = Ok draft in read) ≡ Ok after → draft ≡ after
 same-draft draft after is = cc
 
 not_long : (text : List ℕ) → is_long text ≡ false → length text ≤ 200
@@ -336,15 +336,15 @@ below_eight n room = grind (arith, nat_tests)
 
 -- ---- what the grammar tells of a token
 
-led : (test : Bool) (to after : State) → leads test to ≡ Some after → (test ≡ true) × (to ≡ after)
+pub led : (test : Bool) (to after : State) → leads test to ≡ Some after → (test ≡ true) × (to ≡ after)
 led true to after is = (refl, cc)
 led false to after is = absurd cc
 
-led_either : (test : Bool) (to after : State) (others : Option State) → (if test then Some to else others) ≡ Some after → ((test ≡ true) × (to ≡ after)) ⊎ ((test ≡ false) × (others ≡ Some after))
+pub led_either : (test : Bool) (to after : State) (others : Option State) → (if test then Some to else others) ≡ Some after → ((test ≡ true) × (to ≡ after)) ⊎ ((test ≡ false) × (others ≡ Some after))
 led_either true to after others is = inl (refl, cc)
 led_either false to after others is = inr (refl, is)
 
-keyword-word : (word : List ℕ) (token : Token) → is_keyword word token ≡ true → token ≡ Word word
+pub keyword-word : (word : List ℕ) (token : Token) → is_keyword word token ≡ true → token ≡ Word word
 keyword-word word (Word bytes) is = ap Word ((bytes_eq-Decides bytes word).0 is)
 keyword-word word (Quoted bytes) is = absurd cc
 keyword-word word (Sign own) is = absurd cc
@@ -361,7 +361,7 @@ mark_of-number mark.Semicolon = refl
 mark_of-number mark.Opening = refl
 mark_of-number mark.Closing = refl
 
-sign-mark : (wanted : Mark) (token : Token) → is_sign wanted token ≡ true → token ≡ Sign wanted
+pub sign-mark : (wanted : Mark) (token : Token) → is_sign wanted token ≡ true → token ≡ Sign wanted
 sign-mark wanted (Word bytes) is = absurd cc
 sign-mark wanted (Quoted bytes) is = absurd cc
 sign-mark wanted (Sign own) is = ap Sign (sym (mark_of-number own) ∙ ap mark_of (eqb-true _ _ is) ∙ mark_of-number wanted)
@@ -380,7 +380,7 @@ hold-negated schema negated draft at = record {
 hold-open : (schema : Schema) (draft : Draft) → AtTest schema draft → AtItem schema draft
 hold-open schema draft at = record { asked = at.asked; fits = rw at.no_texts (omega arith); plain = rw at.no_texts tt }
 
-test-other : (word : List ℕ) (token : Token) (draft : Draft) → bytes_eq word (codes "any") ≡ false → token ≡ Word word → record draft { negated = false } ≡ with_test token draft
+pub test-other : (word : List ℕ) (token : Token) (draft : Draft) → bytes_eq word (codes "any") ≡ false → token ≡ Word word → record draft { negated = false } ≡ with_test token draft
 test-other word token draft other is = rw (is, other) refl
 
 hold-closed : (schema : Schema) (draft : Draft) → AtClose schema draft → AtEnd schema (record (with_cond (set_of draft) draft) { texts = [] })
@@ -656,7 +656,7 @@ count-tokens schema present (first ∷ rest) draft held (is, spelled, (after, go
 few : {A : Type 0} (xs : List A) → slice_get xs 200 ≡ None → length xs ≤ 200
 few xs none = elim (slice_get_cases xs 200).1 [ inl (x, within, is, at) ↦ absurd cc | inr (past, is) ↦ past ]
 
-extra-none : (schema : Schema) (tokens : List Taken) (extra : Option Taken) (book : Rulebook) → extra_rule tokens ≡ extra → book_unless extra schema tokens ≡ Ok book → (length (filter begins_rule tokens) ≤ 200) × ((draft : Draft) × (with_tokens schema tokens (draft_behind []) ≡ Ok draft) × (book_of draft ≡ book))
+pub extra-none : (schema : Schema) (tokens : List Taken) (extra : Option Taken) (book : Rulebook) → extra_rule tokens ≡ extra → book_unless extra schema tokens ≡ Ok book → (length (filter begins_rule tokens) ≤ 200) × ((draft : Draft) × (with_tokens schema tokens (draft_behind []) ≡ Ok draft) × (book_of draft ≡ book))
 extra-none schema tokens (Some extra) book is read = absurd cc
 extra-none schema tokens None book is read =
     let (draft, walked, whole) = bound (with_tokens schema tokens (draft_behind [])) (λ draft. Ok (book_of draft)) book read in

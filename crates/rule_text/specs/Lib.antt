@@ -4,4 +4,5 @@ pub mod Sentences
 pub mod Reading
 pub mod Rulebooks
 pub mod Printing
+pub mod BookTokens
 pub mod Binding

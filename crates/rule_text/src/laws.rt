@@ -1,9 +1,10 @@
 //! What holds of the definitions, for callers that reason with them. What a text reads as is a function of
 //! the text and the schema, so each text has exactly one result.
-ghost use Rattle.std.specs.Prelude.{◌≡◌, ◌≢◌, List, Ok, Err};
+ghost use Rattle.std.specs.Prelude.{◌≡◌, ◌≢◌, ◌↔◌, List, Ok, Err};
 ghost use Rattle.schema_core.specs.Schemas.{IsSchema};
 ghost use Rattle.rule_text.specs.declared.state.Taken.{Taken as TakenOf};
 ghost use Rattle.rule_text.specs.declared.token.Token.{Token as TokenOf};
+ghost use Rattle.rule_text.specs.BookTokens.{IsTextOf};
 ghost use Rattle.rule_text.specs.Grammar.{tokens_of};
 ghost use Rattle.rule_text.specs.Sentences.{Spells, IsSentence, tokens_alone};
 ghost use Rattle.rule_text.specs.Rulebooks.{IsRulebook};
@@ -37,6 +38,14 @@ pub fn one_spelling(text: &[u8])
 pub fn only_rulebooks(text: &[u8], schema: &Schema, book: &Rulebook)
     requires { read_rules text.now schema.now ≡ Ok book.now }
     ensures { IsRulebook schema.now book.now }
+{}
+
+/// A text reads as a rulebook exactly where that is a rulebook over the schema and the tokens of the text are
+/// the rulebook's, each column taken as a string however it is written.
+pub fn read_by_its_tokens(text: &[u8], schema: &Schema, book: &Rulebook)
+    requires { IsSchema schema.now }
+    ensures { (read_rules text.now schema.now ≡ Ok book.now)
+        ↔ (IsRulebook schema.now book.now × IsTextOf schema.now book.now text.now) }
 {}
 
 /// Every rulebook is read from a text: from the one that it is printed as.
