@@ -77,7 +77,7 @@ decide_below P decide (suc bound) = elim (decide bound) [
 ]
 
 -- whether two texts are equal
-decide_equal : (one other : List ℕ) → Decided (one ≡ other)
+pub decide_equal : (one other : List ℕ) → Decided (one ≡ other)
 decide_equal one other = elim (cases_Bool (pointwise nat_eq one other)) [
   | inl same ↦ inl (same_text one other (sym same))
   | inr differ ↦ inr (other_text one other (sym differ))
@@ -97,7 +97,7 @@ decide_match folded (OneOf texts) text = decide_any (λ one. AreAlike folded one
 decide_match folded (NoneOf texts) text = opposite (decide_any (λ one. AreAlike folded one text) (λ one. decide_alike folded one text) texts)
 decide_match folded Any text = inl tt
 
-decide_less : (m n : ℕ) → Decided (m < n)
+pub decide_less : (m n : ℕ) → Decided (m < n)
 decide_less m n = elim (cases_Bool (leb n m)) [
   | inl past ↦ inr (λ h. absurd (let e = leb-true n m past in omega arith))
   | inr under ↦ inl (leb-false n m under)

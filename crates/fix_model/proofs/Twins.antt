@@ -1,5 +1,5 @@
 -- Lists that are compared item by item, and the first item that passes.
-use Rattle.std.proofs.Common.{◌≡◌, ◌<◌, ◌≤◌, ◌&&◌, ℕ, zero, suc, Bool, true, false, not, List, [], ◌∷◌, length, take, get_or, refl, arith, ◌∙◌, sym, ap, length-take}
+use Rattle.std.proofs.Common.{◌≡◌, ◌<◌, ◌≤◌, ◌&&◌, ℕ, zero, suc, Bool, true, false, not, List, [], ◌∷◌, length, take, get_or, refl, arith, length-take}
 use Rattle.std.specs.Prelude.{Option, Some, None, is_some, is_none, position, nat_lt}
 use Rattle.std.specs.List.{position_or_len}
 use Rattle.std.specs.Cmp.Lexicographic.{pointwise}

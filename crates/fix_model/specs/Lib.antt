@@ -2,6 +2,7 @@ pub mod Alike
 pub mod Application
 pub mod Entries
 pub mod FirstRun
+pub mod Fix
 pub mod Hit
 pub mod Obeys
 pub mod Order

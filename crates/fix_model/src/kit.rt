@@ -42,9 +42,9 @@ pub struct Kit {
 
 impl Kit {
     /// Whether the kit is one that rules can be applied with: 1 to 48 attributes, at most 200 rules and 8
-    /// masters, a flag for each attribute, and in each rule 1 to 8 keys and at most 8 conditions that
-    /// name attributes and columns which are there, none of them twice, and not the head; a finite set
-    /// has 1 to 64 texts.
+    /// masters, a flag for each attribute, and in each rule 1 to 8 keys and at most 8 conditions, over
+    /// attributes and columns that are there. Neither the keys nor the conditions name an attribute twice
+    /// or the head. A finite set has 1 to 64 texts.
     pub fn valid(&self) -> bool
         ensures { IsTrue result ↔ IsValid self.now }
     {

@@ -3,7 +3,7 @@
 //! A rule copies a cell of a master row into a record where the row agrees with attributes that are
 //! already covered, that is confirmed by a clerk or fixed by an earlier step. The types are plain
 //! data, which clauses see as it is. `specs/` has the notions, from a pattern that matches a text to
-//! the first run, and `docs/definitions.md` explains each.
+//! a unique fix, and `docs/definitions.md` explains each.
 #![tactic(auto)]
 
 mod application;

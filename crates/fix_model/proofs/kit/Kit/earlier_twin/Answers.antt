@@ -1,4 +1,4 @@
-use Rattle.std.proofs.Common.{◌≡◌, ◌<◌, ◌≤◌, ◌∙◌, ℕ, length, get_or, arith, false, true, sym}
+use Rattle.std.proofs.Common.{◌≤◌, ◌∙◌, length, arith, sym}
 use Rattle.fix_model.specs.Entries.{has_same_triple}
 use Rattle.fix_model.specs.Rules.{rule_at}
 use Rattle.fix_model.proofs.Twins.{position-none, position-some}

@@ -1,4 +1,4 @@
-use Rattle.std.proofs.Common.{◌≡◌, ◌<◌, ℕ, false, get_or}
+use Rattle.std.proofs.Common.{◌≡◌, ◌<◌, ℕ, false}
 use Rattle.fix_model.specs.Entries.{has_same_triple}
 use Rattle.fix_model.specs.Rules.{rule_at}
 use Rattle.fix_model.proofs.kit.Kit.earlier_twin.Given as goal

@@ -1,4 +1,4 @@
-use Rattle.std.proofs.Common.{◌≡◌, ◌∙◌, ℕ, Bool, true, false, sym, arith}
+use Rattle.std.proofs.Common.{◌≡◌, ◌∙◌, ℕ, sym, arith}
 use Rattle.std.specs.Prelude.{is_none}
 use Rattle.fix_model.specs.Entries.{earlier_twin, row_count}
 use Rattle.fix_model.proofs.Twins.{is_none-negated}

@@ -1,0 +1,54 @@
+-- Whether the order of applications matters: a unique fix, or two runs that disagree.
+use Rattle.std.specs.Prelude.{◌≡◌, ◌≢◌, ◌⊎◌, ◌↔◌, ℕ, ◌<◌, Bool, IsTrue, List, length, Option, MatchOption}
+use Rattle.fix_model.specs.declared.kit.Kit.{Kit}
+use Rattle.fix_model.specs.declared.state.State.{State}
+use Rattle.fix_model.specs.declared.state.Step.{Step}
+use Rattle.fix_model.specs.Application.{IsEnabled, RowAgrees}
+use Rattle.fix_model.specs.FirstRun.{IsFirstRun}
+use Rattle.fix_model.specs.Order.{IsBefore, IsRunBefore}
+use Rattle.fix_model.specs.Rules.{rule_at, step_text}
+use Rattle.fix_model.specs.Run.{IsMaximalRun, end_of}
+use Rattle.fix_model.specs.States.{IsCovered, value_at, record_of}
+
+-- the two runs end in one record
+abbrev pub EndAlike : Kit → State → List Step → List Step → Type 0
+EndAlike kit state run other = record_of kit (end_of kit state run) ≡ record_of kit (end_of kit state other)
+
+-- the second run: it is maximal and ends in another record than the first, and it comes before every other such run
+pub record IsSecondRun (kit : Kit) (state : State) (first second : List Step) : Type 0 where
+  pub maximal : IsMaximalRun kit state second
+  pub differs : ¬ EndAlike kit state first second
+  pub least : (other : List Step) → IsMaximalRun kit state other → (¬ EndAlike kit state first other) → (second ≡ other) ⊎ IsRunBefore second other
+
+-- every attribute is covered
+abbrev pub AreAllCovered : Kit → State → Type 0
+AreAllCovered kit state = (attribute : ℕ) → attribute < kit.width → IsCovered state attribute
+
+-- the step would give its head, which is covered, another value: its rule is enabled and its row agrees
+pub record Dissents (kit : Kit) (state : State) (step : Step) : Type 0 where
+  pub rule_within : step.rule < length kit.rules
+  pub enabled : IsEnabled kit state (rule_at kit step.rule)
+  pub covered : IsCovered state (rule_at kit step.rule).head
+  pub agrees : RowAgrees kit (value_at kit state) (rule_at kit step.rule) step.row
+  pub differs : step_text kit step ≢ value_at kit state (rule_at kit step.rule).head
+
+-- the step dissents, and comes before every other that does
+pub record IsLeastDissent (kit : Kit) (state : State) (step : Step) : Type 0 where
+  pub dissents : Dissents kit state step
+  pub least : (other : Step) → Dissents kit state other → (step ≡ other) ⊎ IsBefore step other
+
+-- the least step that dissents, or none where no step does
+abbrev pub IsDissent : Kit → State → Option Step → Type 0
+IsDissent kit state dissent = MatchOption dissent ((step : Step) → ¬ Dissents kit state step) (IsLeastDissent kit state)
+
+-- a unique fix: every maximal run ends in the record in which the first one ends. It is certain exactly where that end covers every attribute
+pub record IsFix (kit : Kit) (state : State) (first : List Step) (certain : Bool) (dissent : Option Step) : Type 0 where
+  pub is_first : IsFirstRun kit state first
+  pub unique : (other : List Step) → IsMaximalRun kit state other → EndAlike kit state first other
+  pub is_certain : IsTrue certain ↔ AreAllCovered kit (end_of kit state first)
+  pub is_dissent : IsDissent kit (end_of kit state first) dissent
+
+-- a conflict: the first run, and the second, which ends in another record
+pub record IsConflict (kit : Kit) (state : State) (first second : List Step) : Type 0 where
+  pub is_first : IsFirstRun kit state first
+  pub is_second : IsSecondRun kit state first second
