@@ -1,1 +1,9 @@
+pub mod Ends
+pub mod Departures
+pub mod Leaving
+pub mod Reach
+pub mod Turns
+pub mod Verdicts
+pub mod Once
+pub mod Truth
 pub mod Known

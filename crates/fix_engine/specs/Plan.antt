@@ -14,3 +14,13 @@ pub record Plan : Type 0 where
 pub record IsRoomFor (plan : Plan) (kit : Kit) : Type 0 where
   pub attributes : kit.width ≤ plan.width
   pub rules : length kit.rules ≤ plan.rules
+
+-- there is room for so many attributes and rules in each of the lists
+pub record HasRoom (attributes rules run other_run saved reach departures looks leads : ℕ) : Type 0 where
+  pub run_room : attributes ≤ run
+  pub other_run_room : attributes ≤ other_run
+  pub saved_room : attributes ≤ saved
+  pub reach_room : attributes ≤ reach
+  pub departures_room : attributes ≤ departures
+  pub looks_room : rules ≤ looks
+  pub leads_room : rules ≤ leads

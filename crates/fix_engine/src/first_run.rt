@@ -35,7 +35,7 @@ pub fn least<L, B: Book<L>>(work: &mut Work, book: &B, state: &mut State, steps:
 }
 
 /// Remembers no look, for as many rules.
-fn forget(looks: &mut Vec<Look>, rules: &[Rule])
+pub(crate) fn forget(looks: &mut Vec<Look>, rules: &[Rule])
     requires { length rules.now ≤ vec_capacity looks.old }
     ensures forgotten { looks.new.items ≡ replicate (length rules.now) Look.Pending }
     ensures room { vec_capacity looks.old ≤ vec_capacity looks.new }
@@ -46,7 +46,7 @@ fn forget(looks: &mut Vec<Look>, rules: &[Rule])
     }
 }
 
-fn save(saved: &mut Vec<Cell>, cells: &[Cell])
+pub(crate) fn save(saved: &mut Vec<Cell>, cells: &[Cell])
     requires { length cells.now ≤ vec_capacity saved.old }
     ensures cells { saved.new.items ≡ cells.now }
     ensures room { vec_capacity saved.old ≤ vec_capacity saved.new }
@@ -55,7 +55,7 @@ fn save(saved: &mut Vec<Cell>, cells: &[Cell])
     saved.extend_from_slice(cells).unwrap();
 }
 
-fn restore(saved: &[Cell], state: &mut State)
+pub(crate) fn restore(saved: &[Cell], state: &mut State)
     requires { length saved.now ≡ length state.old.cells }
     ensures { state.new ≡ record state.old { cells = saved.now } }
 {
@@ -65,7 +65,7 @@ fn restore(saved: &[Cell], state: &mut State)
 }
 
 /// Makes the first run from the state, behind the steps that are there, and leaves its end.
-fn complete<L, B: Book<L>>(
+pub(crate) fn complete<L, B: Book<L>>(
     run: &mut Vec<Step>,
     looks: &mut [Look],
     book: &B,

@@ -1,14 +1,26 @@
-//! The runs of a kit from a state: the first run, in about the time of one pass over the rules.
+//! The runs of a kit from a state: the first run, and whether the order of applications matters, by at most
+//! two looks into the book for each rule.
 //!
 //! A clause sees a `Work` as the runs that the last call left and the size that it was made for. What a
-//! run is and which one is first stands in `fix_model`.
+//! run is, which one is first, and what a unique fix and a conflict are stands in `fix_model`; what holds
+//! of them whatever the rules are stands in `laws`.
 #![tactic(auto)]
 
+mod deciding;
+mod departing;
 mod first_run;
+pub mod laws;
+mod leads;
 mod looks;
 mod runs;
+mod second_run;
+#[cfg(test)]
+mod tests;
+mod verdict;
 mod work;
 
+pub use deciding::decide;
 pub use first_run::least;
 pub use runs::apply;
+pub use verdict::Verdict;
 pub use work::Work;

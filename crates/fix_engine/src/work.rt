@@ -1,6 +1,7 @@
 //! The room that the engine works in, taken once.
 ghost use Rattle.std.specs.Prelude.{◌≡◌, [], IfOk, OnErr};
 
+use crate::leads::Lead;
 use crate::looks::Look;
 use desk_base::NoMemory;
 use fix_model::{Cell, Step};
@@ -13,14 +14,17 @@ pub struct Work {
     pub(crate) run: Vec<Step>,
     pub(crate) other_run: Vec<Step>,
     pub(crate) looks: Vec<Look>,
+    pub(crate) leads: Vec<Lead>,
     pub(crate) saved: Vec<Cell>,
+    pub(crate) reach: Vec<bool>,
+    pub(crate) departures: Vec<bool>,
     pub(crate) attributes: u16,
     pub(crate) rule_count: u16,
 }
 
 impl Model for Work {
-    ghost use Rattle.std.specs.Prelude.{◌≤◌, vec_capacity};
-    ghost use Rattle.fix_engine.specs.Plan.{Plan};
+    ghost use Rattle.std.specs.Prelude.{vec_capacity};
+    ghost use Rattle.fix_engine.specs.Plan.{HasRoom, Plan};
     ghost use Rattle.fix_engine.specs.Coding.{plan_code};
 
     ghost Value = { Plan };
@@ -29,7 +33,7 @@ impl Model for Work {
 
     ghost view = { λ w. record { first = w.run.items; second = w.other_run.items; width = w.attributes; rules = w.rule_count } };
 
-    ghost invariant = { λ w. (w.attributes ≤ vec_capacity w.run) × (w.attributes ≤ vec_capacity w.other_run) × (w.attributes ≤ vec_capacity w.saved) × (w.rule_count ≤ vec_capacity w.looks) };
+    ghost invariant = { λ w. HasRoom w.attributes w.rule_count (vec_capacity w.run) (vec_capacity w.other_run) (vec_capacity w.saved) (vec_capacity w.reach) (vec_capacity w.departures) (vec_capacity w.looks) (vec_capacity w.leads) };
 }
 
 impl Work {
@@ -51,7 +55,10 @@ impl Work {
             run: Vec::with_capacity(alloc, places)?,
             other_run: Vec::with_capacity(alloc, places)?,
             looks: Vec::with_capacity(alloc, usize::from(rules))?,
+            leads: Vec::with_capacity(alloc, usize::from(rules))?,
             saved: Vec::with_capacity(alloc, places)?,
+            reach: Vec::with_capacity(alloc, places)?,
+            departures: Vec::with_capacity(alloc, places)?,
             attributes: width,
             rule_count: rules,
         })

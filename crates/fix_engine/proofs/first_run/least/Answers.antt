@@ -10,7 +10,7 @@ pub complete-requires-clause-room : goal.complete-requires-clause-room
 complete-requires-clause-room g c =
     let kit = g.B.Book.kit c.args.book.now in
     let wide : kit.width ≤ c.work.inside.attributes = rw (← c.work.view_is) at c.requires.room.attributes in
-    omega (arith, ap length c.clear.ensures.items, c.clear.ensures.capacity, c.work.invariant.0, wide, uncovered_count-le kit c.args.state.now c.requires.fits)
+    omega (arith, ap length c.clear.ensures.items, c.clear.ensures.capacity, c.work.invariant.run_room, wide, uncovered_count-le kit c.args.state.now c.requires.fits)
 
 pub returns-clause-state : goal.returns-clause-state
 returns-clause-state g c =

@@ -1,0 +1,15 @@
+use Rattle.std.proofs.Common.{◌<◌, length, sym, ◌∙◌, arith}
+use Rattle.fix_engine.proofs.Leaving.{IsLeastDissent-first, no_dissent-of}
+use Rattle.fix_engine.proofs.leads.dissent.Goals as goal
+
+-- the first rule with a leaving row has the least step that dissents
+pub returns-in-Some : goal.returns-in-Some
+returns-in-Some c = λ kit end final known.
+    let within : c.rules.rule < length kit.rules = rw (← known.whole) c.rules-test.true in
+    IsLeastDissent-first kit end c.args.leads.now final known c.rules.rule c.in-Some.row within (sym c.leaving_row.ensures ∙ c.in-Some.is) c.rules.invariant
+
+-- where no rule has a leaving row, no step dissents
+pub returns : goal.returns
+returns c = λ kit end final known step dissents.
+    let passed : step.rule < c.rules.rule = omega (arith, dissents.rule_within, known.whole, c.rules-test.false) in
+    no_dissent-of kit end c.args.leads.now final known step (c.rules.invariant step.rule passed) dissents
