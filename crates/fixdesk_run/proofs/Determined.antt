@@ -1,47 +1,13 @@
 -- The bytes of an input determine what they are answered with.
-use Rattle.std.proofs.Common.{◌≡◌, ◌∙◌, ℕ, List, [], ◌∷◌, inl, inr, sym, ap, refl, arith}
+use Rattle.std.proofs.Common.{◌≡◌, ◌∙◌, ℕ, List, sym, ap, refl, arith}
 use Rattle.serde_json.specs.Data.{Data}
-use Rattle.fix_model.specs.declared.kit.Kit.{Kit}
-use Rattle.fix_model.specs.declared.state.State.{State}
-use Rattle.fix_model.specs.declared.state.Step.{Step}
-use Rattle.fix_model.specs.FirstRun.{IsFirstRun}
-use Rattle.fix_model.specs.Order.{IsBefore, IsRunBefore}
+use Rattle.fix_engine.proofs.Once.{IsAnswer-unique}
 use Rattle.fixdesk_run.specs.declared.case.Case.{Case}
 use Rattle.fixdesk_run.specs.declared.status.Refusal.{Refusal}
 use Rattle.fixdesk_run.specs.declared.status.Refusal.TheVariants.{TooLong, NotJson, NotACase}
+use Rattle.fixdesk_run.specs.Answer.{IsAnswer}
 use Rattle.fixdesk_run.specs.Case.{IsCaseIn, IsValueOf}
 use Rattle.fixdesk_run.specs.Once.{IsAnswered, IsRefusalOf, IsRefused, refusal_line}
-
--- no two steps are each before the other
-IsBefore-asymmetric : (step other : Step) → IsBefore step other → ¬ IsBefore other step
-IsBefore-asymmetric step other (inl less) (inl more) = omega arith
-IsBefore-asymmetric step other (inl less) (inr (same, more)) = omega arith
-IsBefore-asymmetric step other (inr (same, less)) (inl more) = omega arith
-IsBefore-asymmetric step other (inr (same, less)) (inr (alike, more)) = omega arith
-
--- no step is before itself
-IsBefore-irreflexive : (step : Step) → ¬ IsBefore step step
-IsBefore-irreflexive step before = IsBefore-asymmetric step step before before
-
--- no two runs are each before the other
-IsRunBefore-asymmetric : (run other : List Step) → IsRunBefore run other → ¬ IsRunBefore other run
-IsRunBefore-asymmetric run [] before after = absurd before
-IsRunBefore-asymmetric [] (other ∷ others) before after = absurd after
-IsRunBefore-asymmetric (step ∷ rest) (other ∷ others) (inl before) (inl after) = IsBefore-asymmetric step other before after
-IsRunBefore-asymmetric (step ∷ rest) (other ∷ others) (inl before) (inr (same, after)) = IsBefore-irreflexive step (rw same at before)
-IsRunBefore-asymmetric (step ∷ rest) (other ∷ others) (inr (same, before)) (inl after) = IsBefore-irreflexive other (rw same at after)
-IsRunBefore-asymmetric (step ∷ rest) (other ∷ others) (inr (same, before)) (inr (alike, after)) = IsRunBefore-asymmetric rest others before after
-
--- a state has one first run
-one_first_run : (kit : Kit) (state : State) (run other : List Step) → IsFirstRun kit state run → IsFirstRun kit state other → run ≡ other
-one_first_run kit state run other first second =
-    elim (first.least other second.maximal) [
-      | inl same ↦ same
-      | inr before ↦ elim (second.least run first.maximal) [
-        | inl same ↦ sym same
-        | inr after ↦ absurd (IsRunBefore-asymmetric run other before after)
-      ]
-    ]
 
 -- a text has one JSON value
 one_value : (bytes : List ℕ) (value other : Data) → IsValueOf bytes value → IsValueOf bytes other → value ≡ other
@@ -63,13 +29,17 @@ no_refusal bytes text (few, (case, (value, json, read), answer)) NotACase (short
     let same = one_value bytes value again json also in
     none case (rw same at read)
 
--- a text that is a case has one answer
+-- a case has one answer
+one_answer : (case : Case) (text other : List ℕ) → IsAnswer case text → IsAnswer case other → text ≡ other
+one_answer case text other one two =
+    let same = IsAnswer-unique case.kit case.state one.verdict two.verdict one.first one.second two.first two.second one.decided two.decided in
+    one.shows ∙ rw (same.0, same.1, same.2) (sym two.shows)
+
+-- and so has a text that is a case
 pub one_text : (bytes text other : List ℕ) → IsAnswered bytes text → IsAnswered bytes other → text ≡ other
-one_text bytes text other (few, (case, is, (run, first, shows))) (short, (again, also, (second, found, tells))) =
+one_text bytes text other (few, (case, is, answer)) (short, (again, also, found)) =
     let same = one_case bytes case again is also in
-    let runs : run ≡ second = one_first_run again.kit again.state run second (rw same at first) found in
-    let lines = rw (same, runs) at shows in
-    lines ∙ sym tells
+    one_answer again text other (rw same at answer) found
 
 -- a text is refused for one reason
 same_refusal : (bytes : List ℕ) (refusal other : Refusal) → IsRefusalOf bytes refusal → IsRefusalOf bytes other → refusal ≡ other

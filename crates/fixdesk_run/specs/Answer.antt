@@ -1,7 +1,7 @@
 -- The text that answers a case.
-use Rattle.std.specs.Prelude.{◌≡◌, ℕ, ◌+◌, List, [], ◌∷◌, ◌++◌, map, slice_index_or, codes}
+use Rattle.std.specs.Prelude.{◌≡◌, ℕ, ◌+◌, Bool, List, [], ◌∷◌, ◌++◌, map, Option, Some, None, slice_index_or, codes}
 use Rattle.std.specs.List.{range_with_len}
-use Rattle.serde_json.specs.Data.{Data, unsigned, number, string, array, object, member, no_members}
+use Rattle.serde_json.specs.Data.{Data, null, boolean, unsigned, number, string, array, object, member, no_members}
 use Rattle.serde_json.specs.View.{items_of}
 use Rattle.serde_json.specs.Written.{compact_text}
 use Rattle.fix_model.specs.declared.kit.Kit.{Kit}
@@ -9,9 +9,11 @@ use Rattle.fix_model.specs.declared.state.Cell.{Cell}
 use Rattle.fix_model.specs.declared.state.Cell.TheVariants.{Uncovered, Confirmed, Fixed}
 use Rattle.fix_model.specs.declared.state.State.{State}
 use Rattle.fix_model.specs.declared.state.Step.{Step}
-use Rattle.fix_model.specs.FirstRun.{IsFirstRun}
 use Rattle.fix_model.specs.Run.{end_of}
 use Rattle.fix_model.specs.States.{cell_at, value_at}
+use Rattle.fix_engine.specs.declared.verdict.Verdict.{Verdict}
+use Rattle.fix_engine.specs.declared.verdict.Verdict.TheVariants.{Fix, Conflict}
+use Rattle.fix_engine.specs.Verdicts as engine
 use Rattle.fixdesk_run.specs.declared.case.Case.{Case}
 
 -- an array of these values
@@ -40,18 +42,40 @@ cells_shown attributes kit state = map (attribute_shown attributes kit state) (r
 abbrev pub step_shown : Step → Data
 step_shown step = list_of (count_of step.rule ∷ count_of step.row ∷ [])
 
--- the cells at the end of the first run, and that run
-abbrev pub result_shown : List Data → List Data → Data
-result_shown cells first = object (member (codes "answer") (string (codes "first")) (member (codes "cells") (list_of cells) (member (codes "first") (list_of first) no_members)))
+-- the step that dissents, or null where none does
+abbrev pub dissent_shown : Option Step → Data
+dissent_shown None = null
+dissent_shown (Some step) = step_shown step
+
+-- a fix: the cells at the end of the first run, whether it is certain, the step that dissents there, and that run
+abbrev pub fix_shown : List Data → Bool → Data → List Data → Data
+fix_shown cells certain dissent first = object (member (codes "answer") (string (codes "fix")) (member (codes "cells") (list_of cells) (member (codes "certain") (boolean certain) (member (codes "dissent") dissent (member (codes "first") (list_of first) no_members)))))
+
+-- a conflict: the first run, and the second, which ends in another record
+abbrev pub conflict_shown : List Data → List Data → Data
+conflict_shown first second = object (member (codes "answer") (string (codes "conflict")) (member (codes "first") (list_of first) (member (codes "second") (list_of second) no_members)))
 
 -- a line: the text, and then LF
 abbrev pub line : List ℕ → List ℕ
 line text = text ++ 10 ∷ []
 
--- the line that shows a state, the end of a run, and that run
-unfoldable pub answer_line : List (List ℕ) → Kit → State → List Step → List ℕ
-answer_line attributes kit end run = line (compact_text (result_shown (cells_shown attributes kit end) (map step_shown run)))
+-- the line that shows a fix from its end
+unfoldable pub fix_line : List (List ℕ) → Kit → State → List Step → Bool → Option Step → List ℕ
+fix_line attributes kit end first certain dissent = line (compact_text (fix_shown (cells_shown attributes kit end) certain (dissent_shown dissent) (map step_shown first)))
 
--- the text answers the case: it shows the first run
-abbrev pub IsAnswer : Case → List ℕ → Type 0
-IsAnswer case text = (run : List Step) × IsFirstRun case.kit case.state run × (text ≡ answer_line case.attributes case.kit (end_of case.kit case.state run) run)
+-- the line that shows a conflict
+unfoldable pub conflict_line : List Step → List Step → List ℕ
+conflict_line first second = line (compact_text (conflict_shown (map step_shown first) (map step_shown second)))
+
+-- the line that shows a verdict with its runs
+abbrev pub answer_line : Case → List Step → List Step → Verdict → List ℕ
+answer_line case first second (Fix certain dissent) = fix_line case.attributes case.kit (end_of case.kit case.state first) first certain dissent
+answer_line case first second Conflict = conflict_line first second
+
+-- the text answers the case: it shows the verdict of its kit and state, with the runs that go with it
+pub record IsAnswer (case : Case) (text : List ℕ) : Type 0 where
+  pub first : List Step
+  pub second : List Step
+  pub verdict : Verdict
+  pub decided : engine.IsAnswer case.kit case.state first second verdict
+  pub shows : text ≡ answer_line case first second verdict

@@ -3,7 +3,7 @@ ghost use Rattle.std.specs.Prelude.{◌≡◌, ◌+◌, ◌^◌, ◌<◌, length
 ghost use Rattle.serde_json.specs.View.{view};
 ghost use Rattle.serde_json.specs.Written.{has_float, compact_text};
 ghost use Rattle.fix_model.specs.States.{Fits};
-ghost use Rattle.fixdesk_run.specs.Answer.{cell_shown, cells_shown, step_shown, result_shown, line, answer_line};
+ghost use Rattle.fixdesk_run.specs.Answer.{cell_shown, cells_shown, step_shown, dissent_shown, fix_shown, conflict_shown, line, fix_line, conflict_line};
 
 use desk_base::Text;
 use fix_model::{Book, Cell, State, Step, value};
@@ -68,12 +68,38 @@ fn step_values(alloc: Global, run: &[Step]) -> Result<Vec<Value>, AllocError>
     Ok(made)
 }
 
-fn answer_value(alloc: Global, cells: Vec<Value>, first: Vec<Value>) -> Result<Value, AllocError>
-    ensures { IfOk result (λ made. view made ≡ result_shown (map view cells.items) (map view first.items)) }
+/// The step, or null where there is none.
+fn dissent_value(alloc: Global, dissent: Option<Step>) -> Result<Value, AllocError>
+    ensures { IfOk result (λ made. view made ≡ dissent_shown dissent) }
+{
+    match dissent {
+        None => Ok(Value::Null),
+        Some(step) => step_value(alloc, step),
+    }
+}
+
+fn fix_value(
+    alloc: Global,
+    cells: Vec<Value>,
+    certain: bool,
+    dissent: Value,
+    first: Vec<Value>,
+) -> Result<Value, AllocError>
+    ensures { IfOk result (λ made.
+        view made ≡ fix_shown (map view cells.items) certain (view dissent) (map view first.items)) }
 {
     let cells = Value::Array(cells);
     let first = Value::Array(first);
-    json!(in alloc; {"answer": "first", "cells": cells, "first": first})
+    json!(in alloc; {"answer": "fix", "cells": cells, "certain": certain, "dissent": dissent, "first": first})
+}
+
+fn conflict_value(alloc: Global, first: Vec<Value>, second: Vec<Value>) -> Result<Value, AllocError>
+    ensures { IfOk result (λ made.
+        view made ≡ conflict_shown (map view first.items) (map view second.items)) }
+{
+    let first = Value::Array(first);
+    let second = Value::Array(second);
+    json!(in alloc; {"answer": "conflict", "first": first, "second": second})
 }
 
 /// The line that a value is written as.
@@ -86,20 +112,35 @@ fn line_of(alloc: Global, value: &Value) -> Result<Vec<u8>, AllocError>
     Ok(text)
 }
 
-/// The text that shows a state, the end of a run, and that run.
-pub fn answer<L, B: Book<L>>(
+/// The line that shows a fix: the state at the end of the first run, whether it is certain, the step that
+/// dissents there, and the run.
+pub fn fix_line<L, B: Book<L>>(
     alloc: Global,
     attributes: &[Text],
     book: &B,
     end: &State,
-    run: &[Step],
+    first: &[Step],
+    certain: bool,
+    dissent: Option<Step>,
 ) -> Result<Vec<u8>, AllocError>
     requires fits { Fits (B.kit book.now) end.now }
     requires named { length attributes.now ≡ (B.kit book.now).width }
-    ensures { IfOk result (λ text. text.items ≡ answer_line attributes.now (B.kit book.now) end.now run.now) }
+    ensures { IfOk result (λ text.
+        text.items ≡ fix_line attributes.now (B.kit book.now) end.now first.now certain dissent) }
 {
     let cells = cell_values(alloc, attributes, book, end)?;
-    let first = step_values(alloc, run)?;
-    let value = answer_value(alloc, cells, first)?;
+    let dissent = dissent_value(alloc, dissent)?;
+    let first = step_values(alloc, first)?;
+    let value = fix_value(alloc, cells, certain, dissent, first)?;
+    line_of(alloc, &value)
+}
+
+/// The line that shows a conflict: two runs that end in two records.
+pub fn conflict_line(alloc: Global, first: &[Step], second: &[Step]) -> Result<Vec<u8>, AllocError>
+    ensures { IfOk result (λ text. text.items ≡ conflict_line first.now second.now) }
+{
+    let first = step_values(alloc, first)?;
+    let second = step_values(alloc, second)?;
+    let value = conflict_value(alloc, first, second)?;
     line_of(alloc, &value)
 }

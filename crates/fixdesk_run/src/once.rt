@@ -3,19 +3,20 @@ ghost use Rattle.std.specs.Prelude.{◌≡◌, ◌≤◌, length, IfOk};
 ghost use Rattle.fix_model.specs.States.{Fits};
 ghost use Rattle.fix_model.specs.Valid.{IsValid};
 ghost use Rattle.fixdesk_run.specs.declared.case.Case.{Case as CaseOf};
-ghost use Rattle.fixdesk_run.specs.Answer.{IsAnswer};
+ghost use Rattle.fix_engine.specs.Verdicts as engine;
+ghost use Rattle.fixdesk_run.specs.Answer.{IsAnswer, answer_line};
 ghost use Rattle.fixdesk_run.specs.Case.{PartsFit};
 ghost use Rattle.fixdesk_run.specs.Once.{IsReplyTo, EndsOnce, seen};
 
-use crate::answer::answer;
+use crate::answer::{conflict_line, fix_line};
 use crate::case::Case;
 use crate::case::read::{CaseFault, case_of};
 use crate::input::{InputFault, MOST, input_of};
 use crate::status::{Refusal, Reply, Status};
 use desk_base::{Both, Failed, NoMemory, Sink, Source, Steps, Text, write_all};
-use fix_engine::{Work, apply, least};
+use fix_engine::{Verdict, Work, apply, decide};
 use fix_model::{Book, ListBook, State};
-use std::alloc::Global;
+use std::alloc::{AllocError, Global};
 
 /// What the bytes that were taken are answered with.
 pub fn reply_to(alloc: Global, bytes: &[u8]) -> Result<Reply, NoMemory>
@@ -33,7 +34,7 @@ pub fn reply_to(alloc: Global, bytes: &[u8]) -> Result<Reply, NoMemory>
     }
 }
 
-/// The text that answers a case by its first run.
+/// The text that answers a case.
 fn answer_to(alloc: Global, case: Case) -> Result<Vec<u8>, NoMemory>
     requires valid { IsValid case.kit }
     requires fits { PartsFit case }
@@ -48,7 +49,7 @@ fn answer_to(alloc: Global, case: Case) -> Result<Vec<u8>, NoMemory>
     answer_over::<ListBook>(alloc, attributes.as_slice(), &book, state)
 }
 
-/// The text that answers the case of these attributes, the book's kit and this state, by its first run.
+/// The text that answers the case of these attributes, the book's kit and this state.
 pub fn answer_over<B: Book<()>>(
     alloc: Global,
     attributes: &[Text],
@@ -62,12 +63,44 @@ pub fn answer_over<B: Book<()>>(
 {
     let mut work = Work::new(alloc, book.width(), book.rules().len() as u16)?;
     let mut steps = Steps::new(());
-    least(&mut work, book, &mut state, &mut steps);
-    let run = work.first();
-    apply::<(), B>(book, &mut state, run);
-    match answer::<(), B>(alloc, attributes, book, &state, run) {
+    let verdict = decide(&mut work, book, &mut state, &mut steps);
+    match line_over::<B>(alloc, attributes, book, state, &work, verdict) {
         Ok(text) => Ok(text),
         Err(_) => Err(NoMemory),
+    }
+}
+
+/// The line that shows the verdict of the state, with the runs that the work has.
+fn line_over<B: Book<()>>(
+    alloc: Global,
+    attributes: &[Text],
+    book: &B,
+    mut state: State,
+    work: &Work,
+    verdict: Verdict,
+) -> Result<Vec<u8>, AllocError>
+    requires valid { IsValid (B.kit book.now) }
+    requires named { length attributes.now ≡ (B.kit book.now).width }
+    requires fits { Fits (B.kit book.now) state }
+    requires decided { engine.IsAnswer (B.kit book.now) state work.now.first work.now.second verdict }
+    ensures { IfOk result (λ text. text.items
+        ≡ answer_line (record { attributes = attributes.now; kit = B.kit book.now; state = state })
+        work.now.first work.now.second verdict) }
+{
+    match verdict {
+        Verdict::Fix { certain, dissent } => {
+            apply::<(), B>(book, &mut state, work.first());
+            fix_line::<(), B>(
+                alloc,
+                attributes,
+                book,
+                &state,
+                work.first(),
+                certain,
+                dissent,
+            )
+        }
+        Verdict::Conflict => conflict_line(alloc, work.first(), work.second()),
     }
 }
 

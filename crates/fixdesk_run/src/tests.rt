@@ -16,7 +16,7 @@ const TOWN: &str =
 
 /// What is answered to it.
 const TOWN_FIXED: &str =
-    r#"{"answer":"first","cells":[["zip","EH7","confirmed"],["city","Edi","fixed",1,1]],"first":[[1,1]]}"#;
+    r#"{"answer":"fix","cells":[["zip","EH7","confirmed"],["city","Edi","fixed",1,1]],"certain":true,"dissent":null,"first":[[1,1]]}"#;
 
 /// The same with a third attribute, which is confirmed, so that conditions can be put on it.
 const KIND: &str =
@@ -24,10 +24,10 @@ const KIND: &str =
 
 /// What is answered to it where the conditions hold, and where one doesn't.
 const KIND_FIXED: &str =
-    r#"{"answer":"first","cells":[["zip","EH7","confirmed"],["city","Edi","fixed",1,1],["kind","x","confirmed"]],"first":[[1,1]]}"#;
+    r#"{"answer":"fix","cells":[["zip","EH7","confirmed"],["city","Edi","fixed",1,1],["kind","x","confirmed"]],"certain":true,"dissent":null,"first":[[1,1]]}"#;
 
 const KIND_OPEN: &str =
-    r#"{"answer":"first","cells":[["zip","EH7","confirmed"],["city","","open"],["kind","x","confirmed"]],"first":[]}"#;
+    r#"{"answer":"fix","cells":[["zip","EH7","confirmed"],["city","","open"],["kind","x","confirmed"]],"certain":false,"dissent":null,"first":[]}"#;
 
 /// What a call told: its status, and what was written.
 #[derive(Drop)]
@@ -140,13 +140,13 @@ fn answers_towns(rt: HostRuntime) -> Result<(), Fail> {
             "nothing is confirmed",
             r#""confirmed":["zip"]"#,
             r#""confirmed":[]"#,
-            r#"{"answer":"first","cells":[["zip","EH7","open"],["city","Ldn","open"]],"first":[]}"#,
+            r#"{"answer":"fix","cells":[["zip","EH7","open"],["city","Ldn","open"]],"certain":false,"dissent":null,"first":[]}"#,
         ),
         (
             "all is confirmed",
             r#""confirmed":["zip"]"#,
             r#""confirmed":["zip","city"]"#,
-            r#"{"answer":"first","cells":[["zip","EH7","confirmed"],["city","Ldn","confirmed"]],"first":[]}"#,
+            r#"{"answer":"fix","cells":[["zip","EH7","confirmed"],["city","Ldn","confirmed"]],"certain":true,"dissent":[1,1],"first":[]}"#,
         ),
         (
             "a confirmed word is listed twice",
@@ -161,46 +161,64 @@ fn answers_towns(rt: HostRuntime) -> Result<(), Fail> {
             TOWN_FIXED,
         ),
         (
-            "two rows hold the code",
+            "two rows have the code and one town",
+            r#"["EH7","Edi"]"#,
+            r#"["EH7","Edi"],["EH7","Edi"]"#,
+            TOWN_FIXED,
+        ),
+        (
+            "two rows have the code and two towns",
             r#"["EH7","Edi"]"#,
             r#"["EH7","Edi"],["EH7","Leith"]"#,
-            TOWN_FIXED,
+            r#"{"answer":"conflict","first":[[1,1]],"second":[[1,2]]}"#,
         ),
         (
             "the second row alone holds the code",
             r#"["EH7","Edi"]"#,
             r#"["G1","Gla"],["EH7","Edi"]"#,
-            r#"{"answer":"first","cells":[["zip","EH7","confirmed"],["city","Edi","fixed",1,2]],"first":[[1,2]]}"#,
+            r#"{"answer":"fix","cells":[["zip","EH7","confirmed"],["city","Edi","fixed",1,2]],"certain":true,"dissent":null,"first":[[1,2]]}"#,
+        ),
+        (
+            "the town is typed and nobody vouches for it",
+            r#""record":["EH7","Ldn"]"#,
+            r#""record":["EH7","Edi"]"#,
+            TOWN_FIXED,
         ),
         (
             "rows with a blank",
             r#"["EH7","Edi"]"#,
             r#"["","Edi"],["EH7",""]"#,
-            r#"{"answer":"first","cells":[["zip","EH7","confirmed"],["city","Ldn","open"]],"first":[]}"#,
+            r#"{"answer":"fix","cells":[["zip","EH7","confirmed"],["city","Ldn","open"]],"certain":false,"dissent":null,"first":[]}"#,
+        ),
+        (
+            "rows with a blank, and a confirmed blank",
+            r#""masters":[[["EH7","Edi"]]],"record":["EH7""#,
+            r#""masters":[[["","Edi"],["EH7",""]]],"record":["""#,
+            r#"{"answer":"fix","cells":[["zip","","confirmed"],["city","Ldn","open"]],"certain":false,"dissent":null,"first":[]}"#,
         ),
         (
             "a master without rows",
             r#"[["EH7","Edi"]]"#,
             "[]",
-            r#"{"answer":"first","cells":[["zip","EH7","confirmed"],["city","Ldn","open"]],"first":[]}"#,
+            r#"{"answer":"fix","cells":[["zip","EH7","confirmed"],["city","Ldn","open"]],"certain":false,"dissent":null,"first":[]}"#,
         ),
         (
             "texts that are not ASCII, and a quote",
             r#"[[["EH7","Edi"]]],"record":["EH7","#,
             r#"[[["Málaga","29\""]]],"record":["M\u00e1laga","#,
-            r#"{"answer":"first","cells":[["zip","Málaga","confirmed"],["city","29\"","fixed",1,1]],"first":[[1,1]]}"#,
+            r#"{"answer":"fix","cells":[["zip","Málaga","confirmed"],["city","29\"","fixed",1,1]],"certain":true,"dissent":null,"first":[[1,1]]}"#,
         ),
         (
             "a code in other letters",
             r#""record":["EH7""#,
             r#""record":["eh7""#,
-            r#"{"answer":"first","cells":[["zip","eh7","confirmed"],["city","Ldn","open"]],"first":[]}"#,
+            r#"{"answer":"fix","cells":[["zip","eh7","confirmed"],["city","Ldn","open"]],"certain":false,"dissent":null,"first":[]}"#,
         ),
         (
             "a code in other letters at a folded attribute",
             r#""masters":[[["EH7","Edi"]]],"record":["EH7""#,
             r#""folded":["zip","zip"],"masters":[[["EH7","Edi"]]],"record":["eh7""#,
-            r#"{"answer":"first","cells":[["zip","eh7","confirmed"],["city","Edi","fixed",1,1]],"first":[[1,1]]}"#,
+            r#"{"answer":"fix","cells":[["zip","eh7","confirmed"],["city","Edi","fixed",1,1]],"certain":true,"dissent":null,"first":[[1,1]]}"#,
         ),
     ];
     for (case, old, new, text) in rows {
@@ -234,21 +252,33 @@ fn answers_conditions(rt: HostRuntime) -> Result<(), Fail> {
     for (case, conds, text) in rows {
         tells_edited(&rt, rt.alloc(), case, (KIND, "[]", conds), text, 0)?;
     }
-    Ok(())
+    let open = (
+        KIND,
+        r#""confirmed":["zip","kind"],"masters":[[["EH7","Edi"]]],"record":["EH7","","x"],"rules":[{"conds":[]"#,
+        r#""confirmed":["zip"],"masters":[[["EH7","Edi"]]],"record":["EH7","","x"],"rules":[{"conds":[["kind","any"]]"#,
+    );
+    let text =
+        r#"{"answer":"fix","cells":[["zip","EH7","confirmed"],["city","","open"],["kind","x","open"]],"certain":false,"dissent":null,"first":[]}"#;
+    tells_edited(&rt, rt.alloc(), "any, uncovered", open, text, 0)
 }
 
 #[test]
-fn answers_chains_by_the_first_run(rt: HostRuntime) -> Result<(), Fail> {
+fn answers_chains(rt: HostRuntime) -> Result<(), Fail> {
     let rows = [
         (
-            "a rule needs what another fixes",
+            "two ways to one attribute",
             r#"{"attributes":["a","b","c","d"],"confirmed":["a"],"masters":[[["1","2","3","4","5"]]],"record":["1","","",""],"rules":[{"conds":[],"from":2,"head":"b","keys":[["a",1]],"master":1},{"conds":[],"from":3,"head":"c","keys":[["b",2]],"master":1},{"conds":[],"from":4,"head":"d","keys":[["a",1]],"master":1},{"conds":[],"from":5,"head":"c","keys":[["d",4]],"master":1}]}"#,
-            r#"{"answer":"first","cells":[["a","1","confirmed"],["b","2","fixed",1,1],["c","3","fixed",2,1],["d","4","fixed",3,1]],"first":[[1,1],[2,1],[3,1]]}"#,
+            r#"{"answer":"conflict","first":[[1,1],[2,1],[3,1]],"second":[[1,1],[3,1],[4,1]]}"#,
         ),
         (
             "a later rule would give another text",
             r#"{"attributes":["a","b","c"],"confirmed":["a"],"masters":[[["1","x","y","z"]]],"record":["1","","y"],"rules":[{"conds":[],"from":2,"head":"b","keys":[["a",1]],"master":1},{"conds":[],"from":3,"head":"c","keys":[["b",2]],"master":1},{"conds":[],"from":4,"head":"b","keys":[["c",3]],"master":1}]}"#,
-            r#"{"answer":"first","cells":[["a","1","confirmed"],["b","x","fixed",1,1],["c","y","fixed",2,1]],"first":[[1,1],[2,1]]}"#,
+            r#"{"answer":"fix","cells":[["a","1","confirmed"],["b","x","fixed",1,1],["c","y","fixed",2,1]],"certain":true,"dissent":[3,1],"first":[[1,1],[2,1]]}"#,
+        ),
+        (
+            "a confirmed text lets the later rule give it",
+            r#"{"attributes":["a","b","c"],"confirmed":["a","c"],"masters":[[["1","x","y","z"]]],"record":["1","","y"],"rules":[{"conds":[],"from":2,"head":"b","keys":[["a",1]],"master":1},{"conds":[],"from":3,"head":"c","keys":[["b",2]],"master":1},{"conds":[],"from":4,"head":"b","keys":[["c",3]],"master":1}]}"#,
+            r#"{"answer":"conflict","first":[[1,1]],"second":[[3,1]]}"#,
         ),
     ];
     for (case, input, text) in rows {
