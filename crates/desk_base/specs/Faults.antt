@@ -1,10 +1,14 @@
 -- When a device may answer that it failed, and what a write that failed leaves.
-use Rattle.std.specs.Prelude.{ℕ, ◌+◌, ◌-◌, ◌^◌, ◌<◌, ◌≤◌, min, List, length, take, Option, Result, OnErr}
+use Rattle.std.specs.Prelude.{ℕ, ◌+◌, ◌-◌, ◌^◌, ◌<◌, ◌≤◌, min, List, length, take, Option, Result, OnErr, MatchResult}
 use Rattle.std.specs.Io.KnownBytes.{Appends}
 
 -- the count of faults rose, or it stands at its last value
 abbrev pub Rose : ℕ → ℕ → Type 0
 Rose before now = min (before + 1) (2 ^ 64 - 1) ≤ now
+
+-- a write took bytes, and the rest of the room is taken still
+abbrev pub TakesOn : {E : Type 0} → (ℕ → Type 0) → ℕ → Result ℕ E → Type 0
+TakesOn takes room result = MatchResult result (λ count. takes (room - count)) (λ _. ⊥)
 
 -- the count of faults did not fall, and a failure is answered only where it rose
 pub record HasCause {T E : Type 0} (before now : ℕ) (result : Result T E) : Type 0 where

@@ -3,16 +3,16 @@ use Rattle.std.specs.Prelude.{ℕ, zero, suc, List, [], ◌∷◌, take, drop, s
 use Rattle.std.specs.Coded.{Coded, code_by, coded×, coded_list, coded_ℕ}
 
 -- a number of columns, and rows of as many texts
-pub record Table : Type 0 where
+pub record GridRows : Type 0 where
   pub columns : ℕ
   pub rows : List (List (List ℕ))
 
 -- it is stored as the pair of its fields
-abbrev pub table_code : Coded Table
-table_code = code_by (ℕ × List (List (List ℕ))) (coded× coded_ℕ (coded_list (coded_list (coded_list coded_ℕ)))) (λ t. (t.columns, t.rows)) (λ p. record { columns = p.0; rows = p.1 }) (λ _. refl)
+abbrev pub grid_rows_code : Coded GridRows
+grid_rows_code = code_by (ℕ × List (List (List ℕ))) (coded× coded_ℕ (coded_list (coded_list (coded_list coded_ℕ)))) (λ t. (t.columns, t.rows)) (λ p. record { columns = p.0; rows = p.1 }) (λ _. refl)
 
 -- the text in a row and a column, both counted from 0
-abbrev pub cell_text : Table → ℕ → ℕ → List ℕ
+abbrev pub cell_text : GridRows → ℕ → ℕ → List ℕ
 cell_text table row column = slice_index_or (slice_index_or table.rows row []) column []
 
 -- the first rows of so many columns, in a list of cells that has one row behind another

@@ -20,22 +20,22 @@ abbrev pub after_call : Schedule → Schedule
 after_call schedule = record schedule { calls = min (schedule.calls + 1) (2 ^ 64 - 1) }
 
 -- the bytes that a source has left, and how many a call gives at most
-pub record Supply : Type 0 where
+pub record SourceSeen : Type 0 where
   pub left : List ℕ
   pub cut : ℕ
   pub schedule : Schedule
   pub faults : ℕ
 
-abbrev pub supply_code : Coded Supply
-supply_code = code_by (List ℕ × (ℕ × (Schedule × ℕ))) (coded× (coded_list coded_ℕ) (coded× coded_ℕ (coded× schedule_code coded_ℕ))) (λ s. (s.left, (s.cut, (s.schedule, s.faults)))) (λ p. record { left = p.0; cut = p.1.0; schedule = p.1.1.0; faults = p.1.1.1 }) (λ _. refl)
+abbrev pub source_seen_code : Coded SourceSeen
+source_seen_code = code_by (List ℕ × (ℕ × (Schedule × ℕ))) (coded× (coded_list coded_ℕ) (coded× coded_ℕ (coded× schedule_code coded_ℕ))) (λ s. (s.left, (s.cut, (s.schedule, s.faults)))) (λ p. record { left = p.0; cut = p.1.0; schedule = p.1.1.0; faults = p.1.1.1 }) (λ _. refl)
 
 -- the bytes that a sink holds, how many a call takes at most, and how many it holds at most
-pub record Store : Type 0 where
+pub record SinkSeen : Type 0 where
   pub written : List ℕ
   pub cut : ℕ
   pub room : ℕ
   pub schedule : Schedule
   pub faults : ℕ
 
-abbrev pub store_code : Coded Store
-store_code = code_by (List ℕ × (ℕ × (ℕ × (Schedule × ℕ)))) (coded× (coded_list coded_ℕ) (coded× coded_ℕ (coded× coded_ℕ (coded× schedule_code coded_ℕ)))) (λ s. (s.written, (s.cut, (s.room, (s.schedule, s.faults))))) (λ p. record { written = p.0; cut = p.1.0; room = p.1.1.0; schedule = p.1.1.1.0; faults = p.1.1.1.1 }) (λ _. refl)
+abbrev pub sink_seen_code : Coded SinkSeen
+sink_seen_code = code_by (List ℕ × (ℕ × (ℕ × (Schedule × ℕ)))) (coded× (coded_list coded_ℕ) (coded× coded_ℕ (coded× coded_ℕ (coded× schedule_code coded_ℕ)))) (λ s. (s.written, (s.cut, (s.room, (s.schedule, s.faults))))) (λ p. record { written = p.0; cut = p.1.0; room = p.1.1.0; schedule = p.1.1.1.0; faults = p.1.1.1.1 }) (λ _. refl)

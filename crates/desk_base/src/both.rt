@@ -15,6 +15,8 @@ impl<S: Source, W> Source for Both<S, W> {
 
     ghost read_faults = { λ b. S.read_faults b.source };
 
+    ghost is_steady = { λ b. S.is_steady b.source };
+
     fn read(&mut self, buf: &mut [u8]) -> Result<usize, Failed> {
         self.source.read(buf)
     }
@@ -24,6 +26,8 @@ impl<S, W: Sink> Sink for Both<S, W> {
     ghost written = { λ b. W.written b.sink };
 
     ghost write_faults = { λ b. W.write_faults b.sink };
+
+    ghost takes = { λ b. W.takes b.sink };
 
     fn write(&mut self, piece: &[u8]) -> Result<usize, Failed> {
         self.sink.write(piece)

@@ -23,11 +23,11 @@ pub struct Grid {
 
 impl Model for Grid {
     ghost use Rattle.std.specs.Prelude.{◌≡◌, ◌*◌, ◌≤◌, length};
-    ghost use Rattle.desk_base.specs.Grid.{Table, table_code, rows_of};
+    ghost use Rattle.desk_base.specs.Grid.{GridRows, grid_rows_code, rows_of};
 
-    ghost Value = { Table };
+    ghost Value = { GridRows };
 
-    ghost coded = { table_code };
+    ghost coded = { grid_rows_code };
 
     ghost view = { λ g. record { columns = g.width; rows = rows_of g.width g.count g.cells.items } };
 

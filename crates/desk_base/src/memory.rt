@@ -1,9 +1,9 @@
 //! Streams in memory, some of whose calls are to fail. A clause sees their bytes, their counts and
 //! which calls fail.
-ghost use Rattle.std.specs.Prelude.{◌≡◌, ◌+◌, ◌-◌, ◌<◌, ◌≤◌, ◌^◌, ◌↔◌, ◌⊎◌, ◌++◌, [], min, length, take, drop, IsTrue, IsErr, IfOk, OnErr, Some};
+ghost use Rattle.std.specs.Prelude.{ℕ, ◌≡◌, ◌+◌, ◌-◌, ◌<◌, ◌≤◌, ◌^◌, ◌↔◌, ◌⊎◌, ◌++◌, [], min, length, take, drop, IsTrue, IsErr, IsOk, IfOk, OnErr, Some};
 ghost use Rattle.std.specs.Io.{ReadsAtMost};
 ghost use Rattle.std.specs.Io.KnownBytes.{ReadConsumes, WriteAppends};
-ghost use Rattle.desk_base.specs.Faults.{HasCause};
+ghost use Rattle.desk_base.specs.Faults.{HasCause, TakesOn};
 ghost use Rattle.desk_base.specs.Memory.{NextFails, after_call};
 
 use crate::both::Both;
@@ -68,11 +68,11 @@ pub struct MemSource {
 
 impl Model for MemSource {
     ghost use Rattle.std.specs.Prelude.{◌≤◌, drop, length};
-    ghost use Rattle.desk_base.specs.Memory.{Supply, supply_code};
+    ghost use Rattle.desk_base.specs.Memory.{SourceSeen, source_seen_code};
 
-    ghost Value = { Supply };
+    ghost Value = { SourceSeen };
 
-    ghost coded = { supply_code };
+    ghost coded = { source_seen_code };
 
     ghost view = { λ s. record { left = drop s.at s.bytes.items; cut = s.cut; schedule = s.plan; faults = s.faults } };
 
@@ -101,11 +101,14 @@ impl Source for MemSource {
 
     ghost read_faults = { λ s. s.faults };
 
+    ghost is_steady = { λ s. s.schedule.fails ≡ [] };
+
     fn read(&mut self, buf: &mut [u8]) -> Result<usize, Failed>
         requires { 0 < length buf.old }
         ensures within { ReadsAtMost result buf.new }
         ensures bytes { ReadConsumes (Some self.old.left) (Some self.new.left) result buf.new }
         ensures cause { HasCause self.old.faults self.new.faults result }
+        ensures steady { self.old.schedule.fails ≡ [] → IsOk result × (self.new.schedule.fails ≡ []) }
 
         // Exactly which calls fail, and how many bytes the others give.
         ensures fails { IsErr result ↔ NextFails self.old.schedule }
@@ -137,11 +140,11 @@ pub struct MemSink {
 
 impl Model for MemSink {
     ghost use Rattle.std.specs.Prelude.{◌≤◌, length, vec_capacity};
-    ghost use Rattle.desk_base.specs.Memory.{Store, store_code};
+    ghost use Rattle.desk_base.specs.Memory.{SinkSeen, sink_seen_code};
 
-    ghost Value = { Store };
+    ghost Value = { SinkSeen };
 
-    ghost coded = { store_code };
+    ghost coded = { sink_seen_code };
 
     ghost view = { λ s. record { written = s.bytes.items; cut = s.cut; room = s.room; schedule = s.plan; faults = s.faults } };
 
@@ -185,11 +188,15 @@ impl Sink for MemSink {
 
     ghost write_faults = { λ s. s.faults };
 
+    ghost takes = { λ s room. (s.schedule.fails ≡ []) × (room + length s.written ≤ s.room) };
+
     fn write(&mut self, piece: &[u8]) -> Result<usize, Failed>
         requires { 0 < length piece.now }
         ensures some { IfOk result (λ count. (0 < count) × (count ≤ length piece.now)) }
         ensures bytes { WriteAppends (Some self.old.written) (Some self.new.written) result piece.now }
         ensures cause { HasCause self.old.faults self.new.faults result }
+        ensures takes { (room : ℕ) → (self.old.schedule.fails ≡ []) × (room + length self.old.written ≤ self.old.room) → length piece.now ≤ room
+            → TakesOn (λ rest. (self.new.schedule.fails ≡ []) × (rest + length self.new.written ≤ self.new.room)) room result }
 
         // Exactly which calls fail, and how many bytes the others take.
         ensures fails { IsErr result ↔ (NextFails self.old.schedule ⊎ (self.old.room ≤ length self.old.written)) }

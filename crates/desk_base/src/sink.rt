@@ -1,8 +1,8 @@
 //! Where bytes go. A clause sees the bytes that were written, where the sink tells them, and how often
 //! it has failed.
-ghost use Rattle.std.specs.Prelude.{◌<◌, ◌≤◌, ℕ, List, Option, length, IfOk, OnOk, OnErr};
+ghost use Rattle.std.specs.Prelude.{◌<◌, ◌≤◌, ℕ, List, Option, length, IfOk, OnOk, OnErr, IsOk, ◌-◌};
 ghost use Rattle.std.specs.Io.KnownBytes.{WriteAppends, Appends};
-ghost use Rattle.desk_base.specs.Faults.{HasCause, AppendsPart};
+ghost use Rattle.desk_base.specs.Faults.{HasCause, AppendsPart, TakesOn};
 
 use crate::error::Failed;
 use std::io::Write;
@@ -15,13 +15,17 @@ pub trait Sink {
     /// How often a write has failed. It never falls, and stands at 2^64 - 1.
     ghost write_faults: { Self → ℕ };
 
+    /// The next so many bytes are taken without a fault.
+    ghost takes: { Self → ℕ → Type 0 };
+
     /// Writes the first bytes of the piece, at least one, and answers how many. Where it fails nothing
     /// was written.
     fn write(&mut self, piece: &[u8]) -> Result<usize, Failed>
         requires { 0 < length piece.now }
         ensures some { IfOk result (λ count. (0 < count) × (count ≤ length piece.now)) }
         ensures bytes { WriteAppends (written self.old) (written self.new) result piece.now }
-        ensures cause { HasCause (write_faults self.old) (write_faults self.new) result };
+        ensures cause { HasCause (write_faults self.old) (write_faults self.new) result }
+        ensures takes { (room : ℕ) → takes self.old room → length piece.now ≤ room → TakesOn (takes self.new) room result };
 }
 
 /// Writes the whole piece. Where the sink fails, a part of it stands there, but not all.
@@ -29,6 +33,7 @@ pub fn write_all<W: Sink>(sink: &mut W, piece: &[u8]) -> Result<(), Failed>
     ensures written { OnOk result (Appends (W.written sink.old) (W.written sink.new) piece.now) }
     ensures part { OnErr result (AppendsPart (W.written sink.old) (W.written sink.new) piece.now) }
     ensures cause { HasCause (W.write_faults sink.old) (W.write_faults sink.new) result }
+    ensures takes { (room : ℕ) → W.takes sink.old room → length piece.now ≤ room → IsOk result × W.takes sink.new (room - length piece.now) }
 {
     let mut at = 0;
     'pieces: while at < piece.len() {
@@ -55,6 +60,8 @@ impl<W: Write> Sink for StdSink<W> {
     ghost written = { λ s. W.contents s.writer };
 
     ghost write_faults = { λ s. s.faults };
+
+    ghost takes = { λ _ _. ⊥ };
 
     fn write(&mut self, piece: &[u8]) -> Result<usize, Failed> {
         match self.writer.write(piece) {

@@ -1,6 +1,6 @@
 //! Where bytes come from. A clause sees the bytes that are left, where the source tells them, and how
 //! often it has failed.
-ghost use Rattle.std.specs.Prelude.{◌<◌, ℕ, List, Option, length};
+ghost use Rattle.std.specs.Prelude.{◌<◌, ℕ, List, Option, length, IsOk};
 ghost use Rattle.std.specs.Io.{ReadsAtMost};
 ghost use Rattle.std.specs.Io.KnownBytes.{ReadConsumes};
 ghost use Rattle.desk_base.specs.Faults.{HasCause};
@@ -16,13 +16,17 @@ pub trait Source {
     /// How often a read has failed. It never falls, and stands at 2^64 - 1.
     ghost read_faults: { Self → ℕ };
 
+    /// The source answers each call from now on.
+    ghost is_steady: { Self → Type 0 };
+
     /// Puts the next bytes at the front of the buffer, and answers how many there are: none only at the
     /// end. Where it fails nothing is lost.
     fn read(&mut self, buf: &mut [u8]) -> Result<usize, Failed>
         requires { 0 < length buf.old }
         ensures within { ReadsAtMost result buf.new }
         ensures bytes { ReadConsumes (left self.old) (left self.new) result buf.new }
-        ensures cause { HasCause (read_faults self.old) (read_faults self.new) result };
+        ensures cause { HasCause (read_faults self.old) (read_faults self.new) result }
+        ensures steady { is_steady self.old → IsOk result × is_steady self.new };
 }
 
 /// A reader of std as a source. An error of the reader is a fault.
@@ -43,6 +47,8 @@ impl<R: Read> Source for StdSource<R> {
     ghost left = { λ s. R.remaining s.reader };
 
     ghost read_faults = { λ s. s.faults };
+
+    ghost is_steady = { λ _. ⊥ };
 
     fn read(&mut self, buf: &mut [u8]) -> Result<usize, Failed> {
         match self.reader.read(buf) {

@@ -1,6 +1,6 @@
 -- The parts of a kit by their places, all counted from 0.
 use Rattle.std.specs.Prelude.{ℕ, ◌<◌, Bool, false, List, [], length, slice_index_or}
-use Rattle.desk_base.specs.Grid.{Table, cell_text}
+use Rattle.desk_base.specs.Grid.{GridRows, cell_text}
 use Rattle.fix_model.specs.declared.rule.Rule.{Rule}
 use Rattle.fix_model.specs.declared.kit.Kit.{Kit}
 use Rattle.fix_model.specs.declared.state.Step.{Step}
@@ -10,7 +10,7 @@ abbrev pub rule_at : Kit → ℕ → Rule
 rule_at kit place = slice_index_or kit.rules place (record { keys = []; head = 0; from = 0; master = 0; conds = [] })
 
 -- the master data of a rule
-abbrev pub master_of : Kit → Rule → Table
+abbrev pub master_of : Kit → Rule → GridRows
 master_of kit rule = slice_index_or kit.masters rule.master (record { columns = 0; rows = [] })
 
 -- the text of a row of the rule's master in a column

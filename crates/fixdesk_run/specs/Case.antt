@@ -5,7 +5,7 @@ use Rattle.std.specs.Str.{bytes_eq}
 use Rattle.serde_json.specs.Data.{Data}
 use Rattle.serde_json.specs.Read.{read}
 use Rattle.serde_json.specs.Find.{as_number, as_str, as_u64, get}
-use Rattle.desk_base.specs.Grid.{Table}
+use Rattle.desk_base.specs.Grid.{GridRows}
 use Rattle.desk_base.specs.Words.{is_word}
 use Rattle.fix_model.specs.declared.kit.Kit.{Kit}
 use Rattle.fix_model.specs.declared.pattern.Pat.{Pat}
@@ -123,13 +123,13 @@ row_in columns value = do
   only_if (λ row. length row == columns) texts
 
 -- the rows of a master, at most 20,000 and equally long
-abbrev pub table_of : List Data → Option Table
+abbrev pub table_of : List Data → Option GridRows
 table_of items = do
   columns ← columns_of items
   rows ← each (row_in columns) items
   Some (record { columns = columns; rows = rows })
 
-abbrev pub table_in : Data → Option Table
+abbrev pub table_in : Data → Option GridRows
 table_in value = do
   items ← items_in value
   if nat_le (length items) 20000 then table_of items else None

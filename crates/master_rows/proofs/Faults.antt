@@ -4,7 +4,7 @@ use Rattle.std.specs.Prelude.{Option, Some, None, Ok, Err, nat_lt, is_none}
 use Rattle.std.specs.List.{list_all}
 use Rattle.std.specs.Str.{is_utf8}
 use Rattle.std.proofs.lemmas.Bool.{cases_Bool, lt-ltb, le-ltb, ltb-false, eq-eqb, eqb-true}
-use Rattle.desk_base.specs.Grid.{Table}
+use Rattle.desk_base.specs.Grid.{GridRows}
 use Rattle.master_rows.specs.Header.{is_column, stands_among, columns_fault, header_fault}
 use Rattle.master_rows.specs.Row.{cells_fault, row_fault, rows_fault, first_fault}
 use Rattle.master_rows.specs.Sheet.{read_records}
@@ -74,29 +74,29 @@ pub read_records-header : (header : List (List ℕ)) (later : List (List (List �
 read_records-header header later fault is = rw is refl
 
 -- behind a draft without a fault, the first fault is that of the next row
-rows_fault-next : (columns : List (List ℕ)) (grid : Table) (cells : List (List ℕ)) (later : List (List (List ℕ))) → IsFaultless columns grid → rows_fault (length columns) 1 (grid.rows ++ cells ∷ later) ≡ first_fault (row_fault grid.columns (length grid.rows + 1) cells) (rows_fault (length columns) (length grid.rows + 1 + 1) later)
+rows_fault-next : (columns : List (List ℕ)) (grid : GridRows) (cells : List (List ℕ)) (later : List (List (List ℕ))) → IsFaultless columns grid → rows_fault (length columns) 1 (grid.rows ++ cells ∷ later) ≡ first_fault (row_fault grid.columns (length grid.rows + 1) cells) (rows_fault (length columns) (length grid.rows + 1 + 1) later)
 rows_fault-next columns grid cells later fine =
     let place : 1 + length grid.rows ≡ length grid.rows + 1 = omega arith in
     rw fine.width (rows_fault-append (length columns) 1 grid.rows (cells ∷ later) fine.rows ∙ ap (λ n. rows_fault (length columns) n (cells ∷ later)) place)
 
 -- a row with a fault is refused, whatever stands behind it
-pub read_records-row : (columns : List (List ℕ)) (grid : Table) (cells : List (List ℕ)) (later : List (List (List ℕ))) (fault : SheetFault) → IsFaultless columns grid → row_fault grid.columns (length grid.rows + 1) cells ≡ Some fault → read_records (columns ∷ (grid.rows ++ cells ∷ later)) ≡ Err fault
+pub read_records-row : (columns : List (List ℕ)) (grid : GridRows) (cells : List (List ℕ)) (later : List (List (List ℕ))) (fault : SheetFault) → IsFaultless columns grid → row_fault grid.columns (length grid.rows + 1) cells ≡ Some fault → read_records (columns ∷ (grid.rows ++ cells ∷ later)) ≡ Err fault
 read_records-row columns grid cells later fault fine is = rw (fine.header, rows_fault-next columns grid cells later fine, is) refl
 
 -- a header and rows without a fault are read
-pub read_records-faultless : (columns : List (List ℕ)) (grid : Table) → IsFaultless columns grid → read_records (columns ∷ grid.rows) ≡ Ok (record { columns = columns; grid = grid })
+pub read_records-faultless : (columns : List (List ℕ)) (grid : GridRows) → IsFaultless columns grid → read_records (columns ∷ grid.rows) ≡ Ok (record { columns = columns; grid = grid })
 read_records-faultless columns grid fine = rw (fine.header, fine.rows, ← fine.width) refl
 
 -- a further row without a fault
-pub IsFaultless-row : (columns : List (List ℕ)) (grid : Table) (cells : List (List ℕ)) → IsFaultless columns grid → row_fault grid.columns (length grid.rows + 1) cells ≡ None → IsFaultless columns (record grid { rows = grid.rows ++ cells ∷ [] })
+pub IsFaultless-row : (columns : List (List ℕ)) (grid : GridRows) (cells : List (List ℕ)) → IsFaultless columns grid → row_fault grid.columns (length grid.rows + 1) cells ≡ None → IsFaultless columns (record grid { rows = grid.rows ++ cells ∷ [] })
 IsFaultless-row columns grid cells fine none = record { header = fine.header; rows = rows_fault-next columns grid cells [] fine ∙ rw none refl; width = fine.width }
 
 -- the same of a draft that has its header
-pub read_records-taken : (columns : Option (List (List ℕ))) (grid : Table) (cells : List (List ℕ)) (later : List (List (List ℕ))) (fault : SheetFault) → is_none columns ≡ false → HasNoFault columns grid → row_fault grid.columns (length grid.rows + 1) cells ≡ Some fault → read_records (records_taken columns grid ++ cells ∷ later) ≡ Err fault
+pub read_records-taken : (columns : Option (List (List ℕ))) (grid : GridRows) (cells : List (List ℕ)) (later : List (List (List ℕ))) (fault : SheetFault) → is_none columns ≡ false → HasNoFault columns grid → row_fault grid.columns (length grid.rows + 1) cells ≡ Some fault → read_records (records_taken columns grid ++ cells ∷ later) ≡ Err fault
 read_records-taken None grid cells later fault begun fine is = absurd cc
 read_records-taken (Some columns) grid cells later fault begun fine is = read_records-row columns grid cells later fault fine is
 
 -- and stays without a fault by one that has none
-pub HasNoFault-row : (columns : Option (List (List ℕ))) (grid : Table) (cells : List (List ℕ)) → is_none columns ≡ false → HasNoFault columns grid → row_fault grid.columns (length grid.rows + 1) cells ≡ None → HasNoFault columns (record grid { rows = grid.rows ++ cells ∷ [] })
+pub HasNoFault-row : (columns : Option (List (List ℕ))) (grid : GridRows) (cells : List (List ℕ)) → is_none columns ≡ false → HasNoFault columns grid → row_fault grid.columns (length grid.rows + 1) cells ≡ None → HasNoFault columns (record grid { rows = grid.rows ++ cells ∷ [] })
 HasNoFault-row None grid cells begun fine none = absurd cc
 HasNoFault-row (Some columns) grid cells begun fine none = IsFaultless-row columns grid cells fine none

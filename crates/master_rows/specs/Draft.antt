@@ -1,21 +1,21 @@
 -- The records of a sheet that were taken so far.
 use Rattle.std.specs.Prelude.{◌≡◌, ⊤, ℕ, List, [], ◌∷◌, length, Option, Some, None}
-use Rattle.desk_base.specs.Grid.{Table}
+use Rattle.desk_base.specs.Grid.{GridRows}
 use Rattle.master_rows.specs.Header.{header_fault}
 use Rattle.master_rows.specs.Row.{rows_fault}
 
 -- none, or the header and the rows under it
-abbrev pub records_taken : Option (List (List ℕ)) → Table → List (List (List ℕ))
+abbrev pub records_taken : Option (List (List ℕ)) → GridRows → List (List (List ℕ))
 records_taken None grid = []
 records_taken (Some columns) grid = columns ∷ grid.rows
 
 -- a header and rows without a fault, as wide as the header
-pub record IsFaultless (columns : List (List ℕ)) (grid : Table) : Type 0 where
+pub record IsFaultless (columns : List (List ℕ)) (grid : GridRows) : Type 0 where
   pub header : header_fault columns ≡ None
   pub rows : rows_fault (length columns) 1 grid.rows ≡ None
   pub width : grid.columns ≡ length columns
 
 -- none, or a header and rows without a fault
-abbrev pub HasNoFault : Option (List (List ℕ)) → Table → Type 0
+abbrev pub HasNoFault : Option (List (List ℕ)) → GridRows → Type 0
 HasNoFault None grid = ⊤
 HasNoFault (Some columns) grid = IsFaultless columns grid
