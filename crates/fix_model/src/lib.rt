@@ -14,7 +14,9 @@ mod kit;
 pub mod laws;
 mod lent_book;
 mod list_book;
+mod names;
 mod pattern;
+mod region;
 mod rule;
 mod state;
 #[cfg(test)]
@@ -26,6 +28,8 @@ pub use comparison::alike;
 pub use kit::{Kit, MAX_CONDS, MAX_KEYS, MAX_MASTERS, MAX_RULES, MAX_SET, MAX_WIDTH};
 pub use lent_book::{gives_other, some_row_agrees};
 pub use list_book::ListBook;
+pub use names::Names;
 pub use pattern::{Pat, matches};
+pub use region::{Region, RowVerdict};
 pub use rule::Rule;
 pub use state::{Cell, State, Step};
