@@ -16,6 +16,7 @@ mod room;
 mod sink;
 mod source;
 mod steps;
+mod str;
 #[cfg(test)]
 mod tests;
 mod text;
@@ -31,5 +32,6 @@ pub use room::Room;
 pub use sink::{Sink, StdSink, write_all};
 pub use source::{Source, StdSource};
 pub use steps::Steps;
+pub use str::Str;
 pub use text::{MAX_TEXT, Text, TextFault};
 pub use words::{MAX_WORD, is_name, is_word, is_word_byte, starts_word};

@@ -123,6 +123,11 @@ impl<T> Room<T> {
         self.items.as_slice()
     }
 
+    /// The allocator that the room was made with.
+    pub fn allocator(&self) -> Global {
+        *self.items.allocator()
+    }
+
     /// Hands out the items in their order. It takes no memory.
     pub fn into_vec(self) -> Vec<T>
         ensures { result.items ≡ self.items }
@@ -136,7 +141,7 @@ impl<T: Duplicate + Drop> Room<T> {
     pub fn copy(&self) -> Result<Room<T>, NoMemory>
         ensures copied { IfOk result (λ made. made.items ≡ self.now.items) }
     {
-        let items = copies(*self.items.allocator(), self.items.as_slice())?;
+        let items = copies(self.allocator(), self.items.as_slice())?;
         Ok(Room { items, spare: 0 })
     }
 }
