@@ -1,7 +1,7 @@
 //! The cells of master data, in rows. A clause sees a `Grid` as its number of columns and the list of
 //! its rows.
-ghost use Rattle.std.specs.Prelude.{◌≡◌, ◌<◌, ◌≤◌, ◌∷◌, ◌++◌, [], length, All, IfOk, OnOk, OnErr};
-ghost use Rattle.desk_base.specs.Grid.{cell_text};
+ghost use Rattle.std.specs.Prelude.{◌≡◌, ◌*◌, ◌<◌, ◌≤◌, ◌∷◌, ◌++◌, [], length, All, IfOk, OnOk, OnErr};
+ghost use Rattle.desk_base.specs.Grid.{cell_text, rows_of};
 
 use crate::duplicate::{Duplicate, copies};
 use crate::error::NoMemory;
@@ -43,6 +43,19 @@ impl Grid {
             width: columns,
             count: 0,
             cells: Vec::new(alloc),
+        }
+    }
+
+    /// A grid of so many rows, whose cells lie one behind another, row after row. It takes no memory.
+    pub fn from_cells(columns: u16, rows: u32, cells: List<Text>) -> Grid
+        requires few { rows ≤ 20000 }
+        requires full { length cells ≡ rows * columns }
+        ensures { result ≡ record { columns = columns; rows = rows_of columns rows cells } }
+    {
+        Grid {
+            width: columns,
+            count: rows,
+            cells: cells.into_vec(),
         }
     }
 
