@@ -1,7 +1,10 @@
+pub mod Counted
 pub mod Counts
 pub mod Faults
 pub mod Grid
 pub mod Lending
+pub mod Limits
 pub mod Roomy
 pub mod Memory
+pub mod Plans
 pub mod Words

@@ -1,9 +1,12 @@
 //! A source and a sink held together.
+ghost use Rattle.std.specs.Prelude.{◌≡◌};
+
 use crate::error::Failed;
 use crate::sink::Sink;
 use crate::source::Source;
 
-/// Both ends of a link. Reads go to the source and writes to the sink, with their meanings.
+/// Both ends of a link. A read is one read of the source and leaves the sink, and a write is one write of
+/// the sink and leaves the source.
 #[derive(Debug, Drop)]
 pub struct Both<S, W> {
     pub source: S,
@@ -17,6 +20,9 @@ impl<S: Source, W> Source for Both<S, W> {
 
     ghost is_steady = { λ b. S.is_steady b.source };
 
+    ghost reads = { λ before after room result.
+        S.reads before.source after.source room result × (after.sink ≡ before.sink) };
+
     fn read(&mut self, buf: &mut [u8]) -> Result<usize, Failed> {
         self.source.read(buf)
     }
@@ -28,6 +34,9 @@ impl<S, W: Sink> Sink for Both<S, W> {
     ghost write_faults = { λ b. W.write_faults b.sink };
 
     ghost takes = { λ b. W.takes b.sink };
+
+    ghost writes = { λ before after size result.
+        W.writes before.sink after.sink size result × (after.source ≡ before.source) };
 
     fn write(&mut self, piece: &[u8]) -> Result<usize, Failed> {
         self.sink.write(piece)

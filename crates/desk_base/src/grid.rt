@@ -5,13 +5,11 @@ ghost use Rattle.desk_base.specs.Grid.{cell_text, rows_of};
 
 use crate::duplicate::{Duplicate, copies};
 use crate::error::NoMemory;
+use crate::limits::MAX_ROWS;
 use crate::list::List;
 use crate::text::Text;
 use std::alloc::Global;
 use std::marker::Model;
-
-/// The greatest number of rows in a grid.
-pub const MAX_ROWS: u32 = 20_000;
 
 /// Rows of texts, each with the same number of them. All cells lie in one list, row after row.
 #[derive(Debug, Drop)]
@@ -24,6 +22,7 @@ pub struct Grid {
 impl Model for Grid {
     ghost use Rattle.std.specs.Prelude.{◌≡◌, ◌*◌, ◌≤◌, length};
     ghost use Rattle.desk_base.specs.Grid.{GridRows, grid_rows_code, rows_of};
+    ghost use Rattle.desk_base.specs.Limits.{MAX_ROWS};
 
     ghost Value = { GridRows };
 
@@ -31,7 +30,7 @@ impl Model for Grid {
 
     ghost view = { λ g. record { columns = g.width; rows = rows_of g.width g.count g.cells.items } };
 
-    ghost invariant = { λ g. (g.count ≤ 20000) × (length g.cells.items ≡ g.count * g.width) };
+    ghost invariant = { λ g. (g.count ≤ MAX_ROWS) × (length g.cells.items ≡ g.count * g.width) };
 }
 
 impl Grid {
@@ -62,7 +61,7 @@ impl Grid {
     /// Adds a row behind the others. Where there is no memory the grid is as before, and the row is gone.
     pub fn push_row(&mut self, row: List<Text>) -> Result<(), NoMemory>
         requires full { length row ≡ self.old.columns }
-        requires room { length self.old.rows < 20000 }
+        requires room { length self.old.rows < MAX_ROWS }
         ensures pushed { OnOk result (self.new ≡ record self.old { rows = self.old.rows ++ row ∷ [] }) }
         ensures unchanged { OnErr result (self.new ≡ self.old) }
     {
@@ -79,7 +78,7 @@ impl Grid {
     /// How many rows there are, at most 20,000, each with a text in every column.
     pub fn rows(&self) -> u32
         ensures rows { result ≡ length self.now.rows }
-        ensures few { result ≤ 20000 }
+        ensures few { result ≤ MAX_ROWS }
         ensures full { All (λ row. length row ≡ self.now.columns) self.now.rows }
     {
         self.count

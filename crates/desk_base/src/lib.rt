@@ -10,6 +10,7 @@ mod both;
 mod duplicate;
 mod error;
 mod grid;
+mod limits;
 mod list;
 mod memory;
 mod room;
@@ -25,7 +26,14 @@ mod words;
 pub use both::Both;
 pub use duplicate::Duplicate;
 pub use error::{Failed, NoMemory};
-pub use grid::{Grid, MAX_ROWS};
+pub use grid::Grid;
+pub use limits::{
+    MAX_ACTIVE_SESSIONS, MAX_ATTRIBUTES, MAX_BATCH_BODY, MAX_BATCH_ROWS, MAX_BATCHES, MAX_BODY,
+    MAX_CLERKS, MAX_COLUMN, MAX_COLUMNS, MAX_CONDITIONS, MAX_EDITIONS, MAX_ENTRIES, MAX_FIELDS,
+    MAX_HEAD, MAX_INPUT, MAX_KEYS, MAX_LONG_BODY, MAX_MASTER_CELLS, MAX_MASTERS, MAX_REGION_ROWS,
+    MAX_REGIONS, MAX_REQUEST, MAX_ROWS, MAX_RULES, MAX_SESSIONS, MAX_SET, MAX_TEXT, MAX_TEXT_BYTES,
+    MAX_VERSIONS, MAX_WORD,
+};
 pub use list::List;
 pub use memory::{MemLink, MemSink, MemSource};
 pub use room::Room;
@@ -33,5 +41,5 @@ pub use sink::{Sink, StdSink, write_all};
 pub use source::{Source, StdSource};
 pub use steps::Steps;
 pub use str::Str;
-pub use text::{MAX_TEXT, Text, TextFault};
-pub use words::{MAX_WORD, is_name, is_word, is_word_byte, starts_word};
+pub use text::{Text, TextFault};
+pub use words::{is_name, is_word, is_word_byte, starts_word};

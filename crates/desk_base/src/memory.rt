@@ -1,10 +1,8 @@
 //! Streams in memory, some of whose calls are to fail. A clause sees their bytes, their counts and
 //! which calls fail.
-ghost use Rattle.std.specs.Prelude.{ℕ, ◌≡◌, ◌+◌, ◌-◌, ◌<◌, ◌≤◌, ◌^◌, ◌↔◌, ◌⊎◌, ◌++◌, [], min, length, take, drop, IsTrue, IsErr, IsOk, IfOk, OnErr, Some};
-ghost use Rattle.std.specs.Io.{ReadsAtMost};
-ghost use Rattle.std.specs.Io.KnownBytes.{ReadConsumes, WriteAppends};
-ghost use Rattle.desk_base.specs.Faults.{HasCause, TakesOn};
+ghost use Rattle.std.specs.Prelude.{◌≡◌, ◌+◌, ◌≤◌, ◌↔◌, [], length, IsTrue, IfOk, Some};
 ghost use Rattle.desk_base.specs.Memory.{NextFails, after_call};
+ghost use Rattle.desk_base.specs.Plans.{ReadsByPlan, WritesByPlan};
 
 use crate::both::Both;
 use crate::error::{Failed, NoMemory};
@@ -103,19 +101,9 @@ impl Source for MemSource {
 
     ghost is_steady = { λ s. s.schedule.fails ≡ [] };
 
-    fn read(&mut self, buf: &mut [u8]) -> Result<usize, Failed>
-        requires { 0 < length buf.old }
-        ensures within { ReadsAtMost result buf.new }
-        ensures bytes { ReadConsumes (Some self.old.left) (Some self.new.left) result buf.new }
-        ensures cause { HasCause self.old.faults self.new.faults result }
-        ensures steady { self.old.schedule.fails ≡ [] → IsOk result × (self.new.schedule.fails ≡ []) }
+    ghost reads = { ReadsByPlan };
 
-        // Exactly which calls fail, and how many bytes the others give.
-        ensures fails { IsErr result ↔ NextFails self.old.schedule }
-        ensures count { IfOk result (λ count. count ≡ min self.old.cut (min (length buf.old) (length self.old.left))) }
-        ensures counted { self.new.schedule ≡ after_call self.old.schedule }
-        ensures cut { self.new.cut ≡ self.old.cut }
-    {
+    fn read(&mut self, buf: &mut [u8]) -> Result<usize, Failed> {
         if self.plan.next_fails() {
             self.faults = self.faults.saturating_add(1);
             return Err(Failed);
@@ -190,20 +178,9 @@ impl Sink for MemSink {
 
     ghost takes = { λ s room. (s.schedule.fails ≡ []) × (room + length s.written ≤ s.room) };
 
-    fn write(&mut self, piece: &[u8]) -> Result<usize, Failed>
-        requires { 0 < length piece.now }
-        ensures some { IfOk result (λ count. (0 < count) × (count ≤ length piece.now)) }
-        ensures bytes { WriteAppends (Some self.old.written) (Some self.new.written) result piece.now }
-        ensures cause { HasCause self.old.faults self.new.faults result }
-        ensures takes { (room : ℕ) → (self.old.schedule.fails ≡ []) × (room + length self.old.written ≤ self.old.room) → length piece.now ≤ room
-            → TakesOn (λ rest. (self.new.schedule.fails ≡ []) × (rest + length self.new.written ≤ self.new.room)) room result }
+    ghost writes = { WritesByPlan };
 
-        // Exactly which calls fail, and how many bytes the others take.
-        ensures fails { IsErr result ↔ (NextFails self.old.schedule ⊎ (self.old.room ≤ length self.old.written)) }
-        ensures count { IfOk result (λ count. count ≡ min self.old.cut (min (length piece.now) (self.old.room - length self.old.written))) }
-        ensures counted { self.new.schedule ≡ after_call self.old.schedule }
-        ensures same { (self.new.cut ≡ self.old.cut) × (self.new.room ≡ self.old.room) }
-    {
+    fn write(&mut self, piece: &[u8]) -> Result<usize, Failed> {
         let fails = self.plan.next_fails();
         if fails || self.bytes.len() >= self.room {
             self.faults = self.faults.saturating_add(1);

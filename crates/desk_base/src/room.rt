@@ -1,5 +1,5 @@
 //! A list with reserved places. A clause sees its items, and how many more it takes without memory.
-ghost use Rattle.std.specs.Prelude.{◌≡◌, ◌==◌, ◌+◌, ◌-◌, ◌<◌, ◌≤◌, ◌∷◌, ◌++◌, [], length, slice_get, slice_set, Some, IfOk, OnOk, OnErr};
+ghost use Rattle.std.specs.Prelude.{◌≡◌, ◌==◌, ◌+◌, ◌-◌, ◌<◌, ◌≤◌, ◌∷◌, ◌++◌, [], length, slice_get, slice_set, Some, IsOk, IfOk, OnOk, OnErr};
 ghost use Rattle.std.specs.Borrow.{sem};
 ghost use Rattle.desk_base.specs.Lending.{LendsSlot};
 
@@ -46,6 +46,7 @@ impl<T> Room<T> {
         T: Drop,
         ensures pushed { OnOk result (self.new ≡ record { items = self.old.items ++ item ∷ []; spare = self.old.spare - 1 }) }
         ensures unchanged { OnErr result (self.new ≡ self.old) }
+        ensures reserved { 0 < self.old.spare → IsOk result }
     {
         match self.items.push(item) {
             Ok(()) => {

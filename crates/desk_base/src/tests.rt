@@ -1,7 +1,7 @@
 //! What no clause says: that each call succeeds where there is memory, and the adapters over std.
 use crate::{
-    Both, Duplicate, Grid, List, MemSink, MemSource, NoMemory, Room, Sink, Source, StdSink,
-    StdSource, Steps, Text, TextFault, is_name, is_word, write_all,
+    Both, Duplicate, Grid, List, MemSink, MemSource, Room, Sink, Source, StdSink, StdSource, Steps,
+    Text, TextFault, is_name, is_word, write_all,
 };
 use std::alloc::Global;
 use std::test::Fail;
@@ -163,14 +163,16 @@ fn sinks_in_memory_take_pieces_and_fail_on_plan(rt: HostRuntime) -> Result<(), F
 
 #[test]
 fn adapters_pass_bytes_to_std(rt: HostRuntime) -> Result<(), Fail> {
+    let mut kept = Vec::new(rt.alloc());
     let mut link = Both {
         source: StdSource::new(b"abc".as_slice()),
-        sink: StdSink::new(Vec::new(rt.alloc())),
+        sink: StdSink::new(&mut kept),
     };
     let mut buffer = [0u8; 4];
     assert_eq!(rt; link.read(&mut buffer), Ok(3));
+    assert_eq!(rt; buffer.as_slice(), b"abc\0".as_slice());
     assert_eq!(rt; link.read(&mut buffer), Ok(0));
-    assert_eq!(rt; write_all(&mut link, b"abc"), Ok(()));
-    assert_eq!(rt; NoMemory, NoMemory);
+    assert_eq!(rt; write_all(&mut link, b"defgh"), Ok(()));
+    assert_eq!(rt; kept.as_slice(), b"defgh".as_slice());
     Ok(())
 }

@@ -3,11 +3,9 @@ ghost use Rattle.std.specs.Prelude.{◌≡◌, ◌==◌, ◌<◌, ◌≤◌, ◌
 
 use crate::duplicate::Duplicate;
 use crate::error::NoMemory;
+use crate::limits::MAX_TEXT;
 use std::alloc::Global;
 use std::marker::Model;
-
-/// The greatest number of bytes in a cell.
-pub const MAX_TEXT: usize = 200;
 
 /// The text of one cell. The empty text is a blank.
 #[derive(Debug, Drop)]

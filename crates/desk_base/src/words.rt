@@ -4,8 +4,7 @@ ghost use Rattle.std.specs.List.{list_all};
 ghost use Rattle.std.specs.Char.{is_ascii_lowercase};
 ghost use Rattle.desk_base.specs.Words.{begins_with, is_word_byte, starts_word, is_word, is_name_byte, is_name};
 
-/// The greatest number of bytes in a name or a word.
-pub const MAX_WORD: usize = 32;
+use crate::limits::MAX_WORD;
 
 /// Whether this byte may stand in a word: an ASCII letter, a digit or `_`.
 pub fn is_word_byte(byte: u8) -> bool
