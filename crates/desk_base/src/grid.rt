@@ -47,7 +47,7 @@ impl Grid {
 
     /// A grid of so many rows, whose cells lie one behind another, row after row. It takes no memory.
     pub fn from_cells(columns: u16, rows: u32, cells: List<Text>) -> Grid
-        requires few { rows ≤ 20000 }
+        requires few { rows ≤ MAX_ROWS }
         requires full { length cells ≡ rows * columns }
         ensures { result ≡ record { columns = columns; rows = rows_of columns rows cells } }
     {
