@@ -1,2 +1,4 @@
+pub mod Distinct
 pub mod Growth
 pub mod Rows
+pub mod Utf8

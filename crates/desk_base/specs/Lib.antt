@@ -6,5 +6,6 @@ pub mod Lending
 pub mod Limits
 pub mod Roomy
 pub mod Memory
+pub mod Places
 pub mod Plans
 pub mod Words

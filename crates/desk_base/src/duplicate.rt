@@ -41,6 +41,12 @@ impl Duplicate for u64 {
     }
 }
 
+impl Duplicate for usize {
+    fn copy(&self) -> Result<usize, NoMemory> {
+        Ok(*self)
+    }
+}
+
 impl<A: Duplicate + Drop, B: Duplicate> Duplicate for (A, B) {
     fn copy(&self) -> Result<(A, B), NoMemory> {
         let first = self.0.copy()?;
@@ -55,9 +61,7 @@ pub fn copies<T: Duplicate + Drop>(alloc: Global, items: &[T]) -> Result<Vec<T>,
 {
     let mut made = Vec::new(alloc);
     'items: for item in items {
-        if made.push(item.copy()?).is_err() {
-            return Err(NoMemory);
-        }
+        made.push(item.copy()?)?;
     }
     Ok(made)
 }

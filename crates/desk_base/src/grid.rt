@@ -66,13 +66,9 @@ impl Grid {
         ensures unchanged { OnErr result (self.new ≡ self.old) }
     {
         let mut texts = row.into_vec();
-        match self.cells.append(&mut texts) {
-            Ok(()) => {
-                self.count += 1;
-                Ok(())
-            }
-            Err(_) => Err(NoMemory),
-        }
+        self.cells.append(&mut texts)?;
+        self.count += 1;
+        Ok(())
     }
 
     /// How many rows there are, at most 20,000, each with a text in every column.

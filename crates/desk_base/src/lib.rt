@@ -13,6 +13,7 @@ mod grid;
 mod limits;
 mod list;
 mod memory;
+mod places;
 mod room;
 mod sink;
 mod source;
@@ -36,6 +37,7 @@ pub use limits::{
 };
 pub use list::List;
 pub use memory::{MemLink, MemSink, MemSource};
+pub use places::{are_distinct, flags_of, has_text, is_utf8, place_of};
 pub use room::Room;
 pub use sink::{Sink, StdSink, write_all};
 pub use source::{Source, StdSource};

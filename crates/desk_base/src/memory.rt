@@ -151,16 +151,14 @@ impl MemSink {
         requires { 1 ≤ cut }
         ensures { IfOk result (λ sink. sink ≡ record { written = []; cut = cut; room = room; schedule = record { calls = 0; fails = fails }; faults = 0 }) }
     {
-        match Vec::with_capacity(alloc, room) {
-            Ok(bytes) => Ok(MemSink {
-                bytes,
-                cut,
-                room,
-                plan: CallPlan::new(fails),
-                faults: 0,
-            }),
-            Err(_) => Err(NoMemory),
-        }
+        let bytes = Vec::with_capacity(alloc, room)?;
+        Ok(MemSink {
+            bytes,
+            cut,
+            room,
+            plan: CallPlan::new(fails),
+            faults: 0,
+        })
     }
 
     /// What was written.

@@ -48,13 +48,9 @@ impl<T> Room<T> {
         ensures unchanged { OnErr result (self.new ≡ self.old) }
         ensures reserved { 0 < self.old.spare → IsOk result }
     {
-        match self.items.push(item) {
-            Ok(()) => {
-                self.spare = self.spare.saturating_sub(1);
-                Ok(())
-            }
-            Err(_) => Err(NoMemory),
-        }
+        self.items.push(item)?;
+        self.spare = self.spare.saturating_sub(1);
+        Ok(())
     }
 
     /// Makes place for so many more items.
@@ -66,13 +62,9 @@ impl<T> Room<T> {
         if more <= self.spare {
             return Ok(());
         }
-        match self.items.reserve(more) {
-            Ok(()) => {
-                self.spare = more;
-                Ok(())
-            }
-            Err(_) => Err(NoMemory),
-        }
+        self.items.reserve(more)?;
+        self.spare = more;
+        Ok(())
     }
 
     /// Adds an item at a reserved place. It takes no memory.
@@ -137,12 +129,14 @@ impl<T> Room<T> {
     }
 }
 
-impl<T: Duplicate + Drop> Room<T> {
-    /// A room with equal items, and no reserved place.
-    pub fn copy(&self) -> Result<Room<T>, NoMemory>
-        ensures copied { IfOk result (λ made. made.items ≡ self.now.items) }
-    {
-        let items = copies(self.allocator(), self.items.as_slice())?;
-        Ok(Room { items, spare: 0 })
+/// A copy has as many reserved places.
+impl<T: Duplicate + Drop> Duplicate for Room<T> {
+    fn copy(&self) -> Result<Room<T>, NoMemory> {
+        let mut items = copies(self.allocator(), self.items.as_slice())?;
+        items.reserve(self.spare)?;
+        Ok(Room {
+            items,
+            spare: self.spare,
+        })
     }
 }

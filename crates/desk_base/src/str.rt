@@ -25,10 +25,8 @@ impl Str {
     pub fn new(alloc: Global, text: &str) -> Result<Str, NoMemory>
         ensures { IfOk result (λ made. made ≡ text.now) }
     {
-        match String::from_str(alloc, text) {
-            Ok(content) => Ok(Str { content }),
-            Err(_) => Err(NoMemory),
-        }
+        let content = String::from_str(alloc, text)?;
+        Ok(Str { content })
     }
 
     /// The text as Rust's.
@@ -42,9 +40,7 @@ impl Str {
 
 impl Duplicate for Str {
     fn copy(&self) -> Result<Str, NoMemory> {
-        match self.content.clone() {
-            Ok(content) => Ok(Str { content }),
-            Err(_) => Err(NoMemory),
-        }
+        let content = self.content.clone()?;
+        Ok(Str { content })
     }
 }

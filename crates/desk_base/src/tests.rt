@@ -1,67 +1,42 @@
-//! What no clause says: that each call succeeds where there is memory, and the adapters over std.
+//! What no clause says: that each call succeeds where there is memory, and the adapters over std. Tables
+//! of inputs and answers stand in the data of `reader_cases`.
 use crate::{
     Both, Duplicate, Grid, List, MemSink, MemSource, Room, Sink, Source, StdSink, StdSource, Steps,
-    Text, TextFault, is_name, is_word, write_all,
+    Str, Text, are_distinct, flags_of, has_text, is_name, is_utf8, is_word, place_of, write_all,
 };
 use std::alloc::Global;
 use std::test::Fail;
 
-fn text(alloc: Global, content: &str) -> Result<Text, Fail> {
-    Ok(Text::new(alloc, content.as_bytes())?)
-}
-
-fn bytes(alloc: Global, content: &[u8]) -> Result<List<u8>, Fail> {
-    Ok(List::from_vec(Vec::from_slice(alloc, content)?))
-}
-
-fn calls(alloc: Global, fails: &[u64]) -> Result<List<u64>, Fail> {
-    Ok(List::from_vec(Vec::from_slice(alloc, fails)?))
+fn texts(alloc: Global, contents: &[&str]) -> Result<List<Text>, Fail> {
+    let mut made = List::new(alloc);
+    for content in contents {
+        made.push(Text::new(alloc, content.as_bytes())?)?;
+    }
+    Ok(made)
 }
 
 #[test]
-fn texts_hold_200_bytes_of_utf8(rt: HostRuntime) -> Result<(), Fail> {
-    let full = [b'x'; 200];
-    let over = [b'x'; 201];
-    let rows: [(&str, &[u8], Option<TextFault>); 6] = [
-        ("no bytes", b"", None),
-        ("a town", "Málaga".as_bytes(), None),
-        ("200 bytes", &full, None),
-        ("201 bytes", &over, Some(TextFault::TooLong)),
-        ("half a character", b"M\xc3", Some(TextFault::NotUtf8)),
-        ("an overlong slash", b"\xc0\xaf", Some(TextFault::NotUtf8)),
-    ];
-    for (case, content, fault) in rows {
-        match Text::new(rt.alloc(), content) {
-            Ok(text) => {
-                assert_eq!(rt; fault, None, "{case}");
-                assert_eq!(rt; text.as_str().as_bytes(), content, "{case}");
-                assert_eq!(rt; text.is_blank(), content.is_empty(), "{case}");
-                assert_eq!(rt; text.copy()?.as_str(), text.as_str(), "{case}");
-            }
-            Err(refusal) => assert_eq!(rt; Some(refusal), fault, "{case}"),
-        }
-    }
-    Ok(())
-}
+fn texts_are_made_and_found(rt: HostRuntime) -> Result<(), Fail> {
+    let alloc = rt.alloc();
+    let town = Text::new(alloc, "Málaga".as_bytes())?;
+    assert_eq!(rt; town.copy()?.as_str(), Text::of(alloc, "Málaga")?.as_str());
+    assert_eq!(rt; town.is_blank(), false);
+    assert_eq!(rt;
+        Str::new(alloc, "a longer text")?.copy()?.as_str(),
+        "a longer text"
+    );
 
-#[test]
-fn names_and_words_have_their_forms(rt: HostRuntime) -> Result<(), Fail> {
-    let rows = [
-        ("zip", true, true),
-        ("post_2", true, true),
-        ("Zip", false, true),
-        ("_zip", false, true),
-        ("2zip", false, false),
-        ("", false, false),
-        ("post code", false, false),
-        ("z\u{fc}g", false, false),
-        ("abcdefghijklmnopqrstuvwxyz_01234", true, true),
-        ("abcdefghijklmnopqrstuvwxyz_012345", false, false),
-    ];
-    for (content, name, word) in rows {
-        assert_eq!(rt; is_name(content.as_bytes()), name, "{content}");
-        assert_eq!(rt; is_word(content.as_bytes()), word, "{content}");
-    }
+    let columns = texts(alloc, ["code", "town", "code"].as_slice())?;
+    assert_eq!(rt; place_of(columns.as_slice(), "town"), Some(1));
+    assert_eq!(rt; place_of(columns.as_slice(), "zip"), None);
+    assert_eq!(rt; has_text(columns.as_slice(), "code"), true);
+    assert_eq!(rt; are_distinct(columns.as_slice()), false);
+    let flags = flags_of(alloc, 3, [2, 0, 2].as_slice())?;
+    assert_eq!(rt; flags.as_slice(), [true, false, true].as_slice());
+    assert_eq!(rt;
+        (is_utf8(b"M\xc3"), is_name(b"Zip"), is_word(b"Zip")),
+        (false, false, true)
+    );
     Ok(())
 }
 
@@ -79,21 +54,18 @@ fn lists_and_rooms_keep_their_items(rt: HostRuntime) -> Result<(), Fail> {
     room.reserve(1)?;
     room.push_reserved((2, false));
     *room.slot(0) = (9, false);
-    assert_eq!(rt;
-        room.copy()?.as_slice(),
-        [(9, false), (2, false)].as_slice()
-    );
+    let copy = room.copy()?;
+    assert_eq!(rt; copy.as_slice(), [(9, false), (2, false)].as_slice());
     assert_eq!(rt; room.into_vec().len(), 2);
     Ok(())
 }
 
 #[test]
 fn grids_keep_rows_and_columns_apart(rt: HostRuntime) -> Result<(), Fail> {
-    let mut grid = Grid::new(rt.alloc(), 2);
-    for (code, town) in [("EH7", "Edi"), ("G1", "Gla")] {
-        let mut row = List::new(rt.alloc());
-        row.push(text(rt.alloc(), code)?)?;
-        row.push(text(rt.alloc(), town)?)?;
+    let alloc = rt.alloc();
+    let mut grid = Grid::new(alloc, 2);
+    for row in [["EH7", "Edi"], ["G1", "Gla"]] {
+        let row = texts(alloc, row.as_slice())?;
         assert_eq!(rt; row.len(), 2);
         assert!(rt; grid.columns() == 2 && grid.rows() < 20_000);
         grid.push_row(row)?;
@@ -102,6 +74,10 @@ fn grids_keep_rows_and_columns_apart(rt: HostRuntime) -> Result<(), Fail> {
     assert!(rt; copy.rows() == 2 && copy.columns() == 2);
     assert_eq!(rt; copy.cell(0, 1).as_str(), "Edi");
     assert_eq!(rt; copy.cell(1, 0).as_str(), "G1");
+
+    let cells = texts(alloc, ["EH7", "Edi"].as_slice())?;
+    assert_eq!(rt; cells.len(), 2);
+    assert_eq!(rt; Grid::from_cells(1, 2, cells).cell(1, 0).as_str(), "Edi");
     Ok(())
 }
 
@@ -114,50 +90,21 @@ fn steps_count_what_is_done(rt: HostRuntime) {
     assert_eq!(rt; (steps.looks(), steps.compares()), (2, 1));
 }
 
-fn taken<S: Source>(source: &mut S, calls: usize) -> (usize, usize) {
+#[test]
+fn streams_in_memory_keep_their_plan(rt: HostRuntime) -> Result<(), Fail> {
+    let alloc = rt.alloc();
+    let bytes = List::from_vec(Vec::from_slice(alloc, b"abc")?);
+    let fails = List::from_vec(Vec::from_slice(alloc, [1u64].as_slice())?);
+    let mut link = Both {
+        source: MemSource::new(bytes, 2, fails),
+        sink: MemSink::new(alloc, 2, 3, List::new(alloc))?,
+    };
     let mut buffer = [0u8; 4];
-    let (mut count, mut failed) = (0usize, 0usize);
-    for _ in 0..calls {
-        match source.read(&mut buffer) {
-            Ok(some) => count = count.saturating_add(some),
-            Err(_) => failed = failed.saturating_add(1),
-        }
-    }
-    (count, failed)
-}
-
-#[test]
-fn sources_in_memory_give_pieces_and_fail_on_plan(rt: HostRuntime) -> Result<(), Fail> {
-    let alloc = rt.alloc();
-    let rows: [(&str, usize, &[u64], usize, (usize, usize)); 5] = [
-        ("one byte a call", 1, &[], 3, (3, 0)),
-        ("as much as the buffer holds", 9, &[], 1, (4, 0)),
-        ("to the end", 9, &[], 3, (6, 0)),
-        ("the second call fails", 2, &[2], 2, (2, 1)),
-        ("nothing is lost by it", 2, &[1, 3], 5, (6, 2)),
-    ];
-    for (case, cut, fails, count, expected) in rows {
-        let mut source = MemSource::new(bytes(alloc, b"abcdef")?, cut, calls(alloc, fails)?);
-        assert_eq!(rt; taken(&mut source, count), expected, "{case}");
-    }
-    Ok(())
-}
-
-#[test]
-fn sinks_in_memory_take_pieces_and_fail_on_plan(rt: HostRuntime) -> Result<(), Fail> {
-    let alloc = rt.alloc();
-    let rows: [(&str, usize, usize, &[u64], &[u8], bool); 5] = [
-        ("whole", 9, 9, &[], b"abcdef", true),
-        ("byte by byte", 1, 9, &[], b"abcdef", true),
-        ("no room for the last", 9, 5, &[], b"abcde", false),
-        ("the first call fails", 2, 9, &[1], b"", false),
-        ("the third call fails", 2, 9, &[3], b"abcd", false),
-    ];
-    for (case, cut, room, fails, written, whole) in rows {
-        let mut sink = MemSink::new(alloc, cut, room, calls(alloc, fails)?)?;
-        assert_eq!(rt; write_all(&mut sink, b"abcdef").is_ok(), whole, "{case}");
-        assert_eq!(rt; sink.bytes(), written, "{case}");
-    }
+    assert!(rt; link.read(&mut buffer).is_err());
+    assert_eq!(rt; link.read(&mut buffer), Ok(2));
+    assert_eq!(rt; buffer.as_slice(), b"ab\0\0".as_slice());
+    assert_eq!(rt; write_all(&mut link, b"abc"), Ok(()));
+    assert_eq!(rt; link.sink.bytes(), b"abc".as_slice());
     Ok(())
 }
 

@@ -1,4 +1,5 @@
 //! The text of a cell: UTF-8, at most 200 bytes. A clause sees its bytes.
+ghost use Rattle.desk_base.specs.declared.text.TextFault.TheVariants as fault;
 ghost use Rattle.std.specs.Prelude.{◌≡◌, ◌==◌, ◌<◌, ◌≤◌, ◌↔◌, length, IsTrue, IfOk, OnOk, IsErrOf, IsUtf8, []};
 
 use crate::duplicate::Duplicate;
@@ -6,6 +7,7 @@ use crate::error::NoMemory;
 use crate::limits::MAX_TEXT;
 use std::alloc::Global;
 use std::marker::Model;
+use thiserror::Error;
 
 /// The text of one cell. The empty text is a blank.
 #[derive(Debug, Drop)]
@@ -15,52 +17,71 @@ pub struct Text {
 
 impl Model for Text {
     ghost use Rattle.std.specs.Prelude.{ℕ, List, ◌≤◌, length, string_bytes};
+    ghost use Rattle.desk_base.specs.Limits.{MAX_TEXT};
 
     ghost Value = { List ℕ };
 
     ghost view = { λ t. string_bytes t.content };
 
-    ghost invariant = { λ t. length (string_bytes t.content) ≤ 200 };
+    ghost invariant = { λ t. length (string_bytes t.content) ≤ MAX_TEXT };
 }
 
 /// Why some bytes are no text of a cell.
-#[derive(Clone, Copy, Debug, PartialEq, Eq)]
+#[derive(Clone, Copy, Debug, PartialEq, Eq, Error)]
 pub enum TextFault {
     /// There are more than 200 bytes.
+    #[error("a text has more than 200 bytes")]
     TooLong,
     /// There are at most 200 bytes, and they are not UTF-8.
+    #[error("a text is not UTF-8")]
     NotUtf8,
     /// There was no memory for them.
+    #[error("there was no memory for a text")]
     NoMemory,
+}
+
+impl From<NoMemory> for TextFault {
+    ghost from_gives = { λ _ result. result ≡ fault.NoMemory };
+
+    fn from(_want: NoMemory) -> TextFault {
+        TextFault::NoMemory
+    }
 }
 
 impl Text {
     /// The text of these bytes.
     pub fn new(alloc: Global, bytes: &[u8]) -> Result<Text, TextFault>
         ensures text { IfOk result (λ text. text ≡ bytes.now) }
-        ensures fits { OnOk result ((length bytes.now ≤ 200) × IsUtf8 bytes.now) }
+        ensures fits { OnOk result ((length bytes.now ≤ MAX_TEXT) × IsUtf8 bytes.now) }
 
         // Each refusal, exactly where it comes.
-        ensures too_long { IsErrOf result TextFault.TooLong ↔ (200 < length bytes.now) }
+        ensures too_long { IsErrOf result TextFault.TooLong ↔ (MAX_TEXT < length bytes.now) }
         ensures not_utf8 { IsErrOf result TextFault.NotUtf8
-            ↔ ((length bytes.now ≤ 200) × (IsUtf8 bytes.now → ⊥)) }
+            ↔ ((length bytes.now ≤ MAX_TEXT) × (IsUtf8 bytes.now → ⊥)) }
     {
         if bytes.len() > MAX_TEXT {
             return Err(TextFault::TooLong);
         }
         match std::str::from_utf8(bytes) {
-            Ok(text) => match String::from_str(alloc, text) {
-                Ok(content) => Ok(Text { content }),
-                Err(_) => Err(TextFault::NoMemory),
-            },
+            Ok(text) => Ok(Text::of(alloc, text)?),
             Err(_) => Err(TextFault::NotUtf8),
         }
+    }
+
+    /// The text of a string of Rust's, which has at most 200 bytes and is UTF-8 by its type.
+    pub fn of(alloc: Global, text: &str) -> Result<Text, NoMemory>
+        requires { length text.now ≤ MAX_TEXT }
+        ensures { IfOk result (λ made. made ≡ text.now) }
+    {
+        let content = String::from_str(alloc, text)?;
+        Ok(Text { content })
     }
 
     /// The text as Rust's, of at most 200 bytes.
     pub fn as_str(&self) -> &str
         ensures text { result.now ≡ self.now }
-        ensures fits { length self.now ≤ 200 }
+        ensures fits { length self.now ≤ MAX_TEXT }
+        ensures utf8 { IsUtf8 self.now }
     {
         self.content.as_str()
     }
@@ -75,9 +96,7 @@ impl Text {
 
 impl Duplicate for Text {
     fn copy(&self) -> Result<Text, NoMemory> {
-        match self.content.clone() {
-            Ok(content) => Ok(Text { content }),
-            Err(_) => Err(NoMemory),
-        }
+        let content = self.content.clone()?;
+        Ok(Text { content })
     }
 }

@@ -1,0 +1,55 @@
+-- Lists whose items all differ by a key.
+use Rattle.std.proofs.Common.{◌≡◌, ◌≢◌, ◌<◌, ◌≤◌, ◌+◌, ◌-◌, ◌∙◌, ℕ, List, take, drop, length, get_or, ap, sym, arith, inl, inr, length-drop}
+use Rattle.std.specs.Prelude.{AllPairs, Any}
+use Rattle.std.proofs.Math.Nat.{eq-or-lt_of_le}
+use Rattle.std.proofs.lemmas.List.{take_all, get_or-drop, get_or_read, get_or_default}
+
+-- the items behind a place
+abbrev pub behind : {A : Type 0} → List A → ℕ → List A
+behind items place = take (length items - (place + 1)) (drop (place + 1) items)
+
+-- the items before a place differ by the key from all behind them
+abbrev pub DifferBefore : {A B : Type 0} → (A → B) → List A → ℕ → Type 0
+DifferBefore {A} key items place =
+    (i j : ℕ) (d : A) → i < place → i < j → j < length items → key (get_or items i d) ≢ key (get_or items j d)
+
+module _ {A B : Type 0} (key : A → B) (items : List A) (place : ℕ) (item : A)
+    (within : place < length items) (is : item ≡ get_or items place item) where
+  -- what stands behind a place is there whole
+  behind_whole : behind items place ≡ drop (place + 1) items
+  behind_whole = take_all _ _ (omega (arith, length-drop (place + 1) items))
+
+  -- an item whose key stands behind it too is one of two with that key
+  pub repeated : Any (λ later. key item ≡ key later) (behind items place)
+      → ¬ AllPairs (λ one later. key one ≢ key later) items
+  repeated found distinct =
+      let later = rw behind_whole at found in
+      let x : A = later.1 in
+      let seat : ℕ = place + 1 + later.0 in
+      let inside : seat < length items = omega (arith, length-drop (place + 1) items, later.2) in
+      let here : item ≡ get_or items place x = get_or_read items place item within is x in
+      let there : get_or items seat x ≡ x = sym (get_or-drop (place + 1) items later.0 x) ∙ later.3 in
+      distinct place seat x (omega arith) inside (ap key (sym here) ∙ later.4 ∙ ap key (sym there))
+
+  -- an item whose key doesn't stand behind it differs from all that do
+  pub differs : ¬ Any (λ later. key item ≡ key later) (behind items place)
+      → (j : ℕ) (d : A) → place < j → j < length items → key (get_or items place d) ≢ key (get_or items j d)
+  differs none j d later inside same =
+      let far : ℕ = j - (place + 1) in
+      let x : A = get_or items j d in
+      let seat : place + 1 + far ≡ j = omega arith in
+      let there : get_or (drop (place + 1) items) far x ≡ x =
+      get_or-drop (place + 1) items far x ∙ ap (λ k. get_or items k x) seat ∙ get_or_default items j x d inside in
+      let found : Any (λ other. key item ≡ key other) (drop (place + 1) items) =
+      (far, x, omega (arith, length-drop (place + 1) items), there, ap key (get_or_read items place item within is d) ∙ same) in
+      none (rw behind_whole found)
+
+  -- where the items before a place differ from all behind them, and the item there too, so do the items up to it
+  pub DifferBefore-next : DifferBefore key items place → ¬ Any (λ later. key item ≡ key later) (behind items place)
+      → DifferBefore key items (place + 1)
+  DifferBefore-next before none i j d below behind inside =
+      let up_to : i ≤ place = omega arith in
+      elim (eq-or-lt_of_le up_to) [
+        | inr earlier ↦ before i j d earlier behind inside
+        | inl here ↦ let later : place < j = omega arith in rw here (differs none j d later inside)
+      ]
