@@ -1,0 +1,44 @@
+//! The words of the desk: the rows of its tables and what a change does to them, what a request asks, and what
+//! is answered.
+//!
+//! The rows, requests and replies are plain data, which a clause sees as it is. It sees each table as the list
+//! of its rows: `specs/Tables.antt` says what the tables are, `specs/Changes.antt` what a change does to them
+//! and which changes fit. `docs/tables.md` explains each table.
+#![tactic(auto)]
+
+mod change;
+mod clerk_work;
+mod command;
+pub mod laws;
+mod limit;
+mod look;
+mod made;
+mod refusal;
+mod reply;
+mod report;
+mod rows;
+mod steward_work;
+mod tables;
+mod view;
+
+pub use change::Change;
+pub use clerk_work::{Accept, ClerkWork};
+pub use command::{Command, Ticket};
+pub use limit::Which;
+pub use look::Look;
+pub use made::{Batched, Made};
+pub use refusal::{Kind, Reader, Refusal};
+pub use reply::{Reply, Suggested};
+pub use report::{RecordLine, RecordSheet, ReportLine, ReportSheet};
+pub use rows::act::Act;
+pub use rows::batch::BatchRow;
+pub use rows::clerk::{ClerkRow, Digest};
+pub use rows::edition::EditionRow;
+pub use rows::master::MasterRow;
+pub use rows::record::RecordRow;
+pub use rows::region::RegionRow;
+pub use rows::rulebook::RulebookRow;
+pub use rows::schema::SchemaRow;
+pub use rows::session::{SessionRow, Stage};
+pub use tables::Tables;
+pub use view::{Outcome, Shown, View, ViewCell};

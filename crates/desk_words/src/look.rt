@@ -1,0 +1,25 @@
+//! What a clerk looks at.
+use desk_base::{List, Str};
+
+/// What a clerk looks at. A session is named by its number among the clerk's, counted from 1.
+#[derive(Debug, Drop)]
+pub enum Look {
+    View {
+        session: u32,
+    },
+    /// The regions that would fit, and which attributes to confirm next.
+    Suggest {
+        session: u32,
+    },
+    /// The view that a Confirm of these cells would give.
+    Preview {
+        session: u32,
+        cells: List<(Str, Str)>,
+    },
+    Report,
+    /// The clerk's records over a version of an edition.
+    Records {
+        edition: Str,
+        version: u32,
+    },
+}

@@ -1,0 +1,11 @@
+//! The rows of the nine tables. A row names another by its place in that row's table, counted from 0.
+pub mod act;
+pub mod batch;
+pub mod clerk;
+pub mod edition;
+pub mod master;
+pub mod record;
+pub mod region;
+pub mod rulebook;
+pub mod schema;
+pub mod session;

@@ -1,0 +1,38 @@
+//! The records that a clerk keys.
+use desk_base::{Duplicate, List, NoMemory, Text};
+
+/// How far a session has come.
+#[derive(Clone, Copy, Debug, PartialEq, Eq)]
+pub enum Stage {
+    Active,
+    Committed,
+    Abandoned,
+}
+
+/// A record that a clerk keys over an edition.
+#[derive(Debug, Drop)]
+pub struct SessionRow {
+    /// The place of the edition that the session is pinned to.
+    pub edition: u32,
+    /// The typed text of each attribute.
+    pub typed: List<Text>,
+    /// For each attribute whether the clerk vouches for the typed text.
+    pub confirmed: List<bool>,
+    pub stage: Stage,
+    /// The number of the batch that made the session, counted from 1, or 0.
+    pub batch: u32,
+}
+
+impl Duplicate for SessionRow {
+    fn copy(&self) -> Result<SessionRow, NoMemory> {
+        let typed = self.typed.copy()?;
+        let confirmed = self.confirmed.copy()?;
+        Ok(SessionRow {
+            edition: self.edition,
+            typed,
+            confirmed,
+            stage: self.stage,
+            batch: self.batch,
+        })
+    }
+}

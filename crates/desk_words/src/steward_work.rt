@@ -1,0 +1,40 @@
+//! What a steward writes.
+use desk_base::{List, Str};
+
+/// What a steward publishes. Nothing that is published is ever changed.
+#[derive(Debug, Drop)]
+pub enum StewardWork {
+    AddClerk {
+        name: Str,
+    },
+    /// The body names the schema.
+    AddSchema {
+        body: List<u8>,
+    },
+    AddMaster {
+        name: Str,
+        body: List<u8>,
+    },
+    /// A rulebook over a version of a schema.
+    AddRulebook {
+        name: Str,
+        schema: Str,
+        version: u32,
+        body: List<u8>,
+    },
+    /// A version of a rulebook with versions of masters, and the attributes that are compared without regard to
+    /// ASCII case.
+    AddEdition {
+        name: Str,
+        rulebook: (Str, u32),
+        masters: List<(Str, u32)>,
+        folded: List<Str>,
+    },
+    /// A region of a version of an edition: in each row a text for each of the attributes.
+    AddRegion {
+        edition: Str,
+        version: u32,
+        attrs: List<Str>,
+        rows: List<List<Str>>,
+    },
+}

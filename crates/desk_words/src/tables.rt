@@ -1,0 +1,134 @@
+//! The nine tables.
+ghost use Rattle.std.specs.Prelude.{codes, map, ◌≡◌, [], ◌∷◌, ◌++◌, IfOk, OnOk, OnErr};
+ghost use Rattle.desk_words.specs.Tables.{items_of, lists_of, rows_of, new_clerk, empty_rows};
+
+use crate::rows::act::Act;
+use crate::rows::batch::BatchRow;
+use crate::rows::clerk::{ClerkRow, Digest};
+use crate::rows::edition::EditionRow;
+use crate::rows::master::MasterRow;
+use crate::rows::record::RecordRow;
+use crate::rows::region::RegionRow;
+use crate::rows::rulebook::RulebookRow;
+use crate::rows::schema::SchemaRow;
+use crate::rows::session::SessionRow;
+use desk_base::{Duplicate, NoMemory, Room, Text};
+use std::alloc::Global;
+
+/// The nine tables. The steward is row 0 of the clerks. The last three have a room for each row of the clerks:
+/// that caller's own sessions, records and batches. `docs/tables.md` explains each table.
+#[derive(Debug, Drop)]
+pub struct Tables {
+    pub clerks: Room<ClerkRow>,
+    pub schemas: Room<SchemaRow>,
+    pub masters: Room<MasterRow>,
+    pub rulebooks: Room<RulebookRow>,
+    pub editions: Room<EditionRow>,
+    pub regions: Room<RegionRow>,
+    pub sessions: Room<Room<SessionRow>>,
+    pub records: Room<Room<RecordRow>>,
+    pub batches: Room<Room<BatchRow>>,
+}
+
+impl Tables {
+    /// The tables of a new desk: the steward alone.
+    pub fn empty(alloc: Global) -> Result<Tables, NoMemory>
+        ensures { IfOk result (λ made. rows_of made ≡ empty_rows) }
+    {
+        let mut clerks = Room::new(alloc);
+        clerks.push(steward(alloc)?)?;
+        let sessions = empty_list(alloc)?;
+        let records = empty_list(alloc)?;
+        Ok(Tables {
+            clerks,
+            schemas: Room::new(alloc),
+            masters: Room::new(alloc),
+            rulebooks: Room::new(alloc),
+            editions: Room::new(alloc),
+            regions: Room::new(alloc),
+            sessions,
+            records,
+            batches: empty_list(alloc)?,
+        })
+    }
+
+    /// Tables with equal rows, and no reserved place.
+    pub fn copy(&self) -> Result<Tables, NoMemory>
+        ensures { IfOk result (λ made. rows_of made ≡ rows_of self.now) }
+    {
+        let clerks = self.clerks.copy()?;
+        let schemas = self.schemas.copy()?;
+        let masters = self.masters.copy()?;
+        let rulebooks = self.rulebooks.copy()?;
+        let editions = self.editions.copy()?;
+        let regions = self.regions.copy()?;
+        let sessions = copy_lists(&self.sessions)?;
+        let records = copy_lists(&self.records)?;
+        Ok(Tables {
+            clerks,
+            schemas,
+            masters,
+            rulebooks,
+            editions,
+            regions,
+            sessions,
+            records,
+            batches: copy_lists(&self.batches)?,
+        })
+    }
+}
+
+/// The row of the steward of a new desk.
+fn steward(alloc: Global) -> Result<ClerkRow, NoMemory>
+    ensures { IfOk result (λ row. row ≡ new_clerk (codes "steward")) }
+{
+    match Text::new(alloc, b"steward") {
+        Ok(name) => Ok(ClerkRow::new(name)),
+        Err(_) => Err(NoMemory),
+    }
+}
+
+/// The lists of one caller, of whom nothing is kept yet.
+fn empty_list<T: Drop>(alloc: Global) -> Result<Room<Room<T>>, NoMemory>
+    ensures { IfOk result (λ made. lists_of made ≡ [] ∷ []) }
+{
+    let mut lists = Room::new(alloc);
+    lists.push(Room::new(alloc))?;
+    Ok(lists)
+}
+
+/// Rooms with equal items, in their order.
+fn copy_lists<T: Duplicate + Drop>(lists: &Room<Room<T>>) -> Result<Room<Room<T>>, NoMemory>
+    ensures { IfOk result (λ made. lists_of made ≡ lists_of lists.now) }
+{
+    copy_rooms(lists.allocator(), lists.as_slice())
+}
+
+/// A room of rooms with equal items, in their order.
+fn copy_rooms<T: Duplicate + Drop>(
+    alloc: Global,
+    rooms: &[Room<T>],
+) -> Result<Room<Room<T>>, NoMemory>
+    ensures { IfOk result (λ made. lists_of made ≡ map items_of rooms.now) }
+{
+    let mut made = Room::new(alloc);
+    'rooms: for room in rooms {
+        made.push(room.copy()?)?;
+    }
+    Ok(made)
+}
+
+impl ClerkRow {
+    /// A caller of this name, of whom no request was accepted yet.
+    pub fn new(name: Text) -> ClerkRow
+        ensures { result ≡ new_clerk name }
+    {
+        ClerkRow {
+            name,
+            last: 0,
+            digest: Digest { bytes: [0; 32] },
+            act: Act::Nothing,
+            target: 0,
+        }
+    }
+}

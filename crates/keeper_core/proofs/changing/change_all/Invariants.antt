@@ -1,0 +1,15 @@
+use Rattle.std.proofs.Common.{◌≡◌, reverse, vec_len}
+use Rattle.desk_words.specs.Changes.{changed_all}
+use Rattle.desk_words.specs.Tables.{rows_of}
+use Rattle.keeper_core.specs.Making.{IsReady}
+use Rattle.keeper_core.proofs.changing.change_all.Given as goal
+
+-- the changes left, the last one first, give what all give
+abbrev pub invariant-left : goal.invariant-left
+invariant-left l = record {
+  rows : changed_all (rows_of l.tables) (reverse l.left.items) ≡ changed_all (rows_of l.fn.tables) l.fn.changes;
+  ready : IsReady l.tables l.fresh (reverse l.left.items);
+}
+
+abbrev pub decreases-left : goal.decreases-left
+decreases-left l = vec_len l.left

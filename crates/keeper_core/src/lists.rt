@@ -1,0 +1,109 @@
+//! The clerks' lists of one kind: a room for each clerk, with the rows that are that clerk's own.
+ghost use Rattle.std.specs.Prelude.{◌≡◌, ◌+◌, ◌-◌, ◌<◌, ◌≤◌, [], ◌∷◌, ◌++◌, ℕ, length, IfOk, OnOk, OnErr};
+ghost use Rattle.std.specs.List.{AllWithin};
+ghost use Rattle.desk_words.specs.Changes.{put, with_clerk, with_list};
+ghost use Rattle.desk_words.specs.Tables.{list_at, lists_of};
+ghost use Rattle.keeper_core.specs.Making.{AreEmptyLists, HasPlaces, HavePlaces};
+
+use desk_base::{NoMemory, Room};
+use std::alloc::Global;
+
+/// Puts an item at a place, or behind the others where the place is their number. It takes no memory.
+pub fn put<T: Drop>(room: &mut Room<T>, place: usize, item: T)
+    requires place { place ≤ length room.old.items }
+    requires room { 0 < room.old.spare }
+    ensures items { room.new.items ≡ put room.old.items place item }
+    ensures spare { room.old.spare - 1 ≤ room.new.spare }
+{
+    if place == room.len() {
+        room.push_reserved(item);
+    } else {
+        room.set(place, item);
+    }
+}
+
+/// Puts an item into the list of a clerk, at a place or behind the others. It takes no memory.
+pub fn put_own<T: Drop>(lists: &mut Room<Room<T>>, clerk: usize, place: usize, item: T)
+    requires clerk { clerk < length lists.old.items }
+    requires place { place ≤ length (list_at (lists_of lists.old) clerk) }
+    requires room { HavePlaces 1 lists.old.items }
+    ensures lists { lists_of lists.new
+        ≡ with_list (lists_of lists.old) clerk (put (list_at (lists_of lists.old) clerk) place item) }
+    ensures room { (count : ℕ) → HasPlaces lists.old count → HasPlaces lists.new (count - 1) }
+{
+    put(lists.slot(clerk), place, item);
+}
+
+/// Puts an item behind the others of a clerk's list. It takes no memory.
+pub fn push_own<T: Drop>(lists: &mut Room<Room<T>>, clerk: usize, item: T)
+    requires clerk { clerk < length lists.old.items }
+    requires room { HavePlaces 1 lists.old.items }
+    ensures lists { lists_of lists.new
+        ≡ with_list (lists_of lists.old) clerk (list_at (lists_of lists.old) clerk ++ item ∷ []) }
+    ensures room { (count : ℕ) → HasPlaces lists.old count → HasPlaces lists.new (count - 1) }
+{
+    lists.slot(clerk).push_reserved(item);
+}
+
+/// Puts an empty list behind the others where a new clerk comes. It takes no memory.
+pub fn add_list<T: Drop>(
+    lists: &mut Room<Room<T>>,
+    fresh: &mut Vec<Room<T>>,
+    place: usize,
+    clerks: usize,
+)
+    requires room { 0 < lists.old.spare }
+    requires fresh { AreEmptyLists fresh.old.items 1 0 }
+    ensures lists { lists_of lists.new ≡ with_clerk (lists_of lists.old) place clerks }
+    ensures room { (count : ℕ) → HasPlaces lists.old count → HavePlaces count fresh.old.items
+        → HasPlaces lists.new (count - 1) }
+    ensures fresh { (clerks count : ℕ) → AreEmptyLists fresh.old.items (clerks + 1) count
+        → AreEmptyLists fresh.new.items clerks count }
+{
+    if place == clerks {
+        let room = fresh.pop().unwrap();
+        lists.push_reserved(room);
+    }
+}
+
+/// Makes places in the list of one clerk.
+fn reserve_list<T>(lists: &mut Room<Room<T>>, clerk: usize, count: usize) -> Result<(), NoMemory>
+    requires { clerk < length lists.old.items }
+    ensures lists { lists_of lists.new ≡ lists_of lists.old }
+    ensures spare { lists.new.spare ≡ lists.old.spare }
+    ensures places { AllWithin (λ room. count ≤ room.spare) lists.old.items 0 clerk
+        → OnOk result (AllWithin (λ room. count ≤ room.spare) lists.new.items 0 (clerk + 1)) }
+{
+    lists.slot(clerk).reserve(count)
+}
+
+/// Makes places for so many clerks, and for so many rows in the list of each clerk.
+pub fn reserve_lists<T>(lists: &mut Room<Room<T>>, count: usize) -> Result<(), NoMemory>
+    ensures lists { lists_of lists.new ≡ lists_of lists.old }
+    ensures places { OnOk result (HasPlaces lists.new count) }
+{
+    lists.reserve(count)?;
+    'clerks: for clerk in 0..lists.len() {
+        reserve_list(lists, clerk, count)?;
+    }
+    Ok(())
+}
+
+/// Empty lists for so many new clerks, with places for so many rows in each.
+pub fn empty_lists<T: Drop>(
+    alloc: Global,
+    clerks: usize,
+    count: usize,
+) -> Result<Vec<Room<T>>, NoMemory>
+    ensures { IfOk result (λ fresh. AreEmptyLists fresh.items clerks count) }
+{
+    let mut fresh = Vec::new(alloc);
+    'clerks: for _clerk in 0..clerks {
+        let mut room = Room::new(alloc);
+        room.reserve(count)?;
+        if fresh.push(room).is_err() {
+            return Err(NoMemory);
+        }
+    }
+    Ok(fresh)
+}

@@ -1,0 +1,123 @@
+//! A keeper in memory, some of whose calls are to fail. A clause sees its tables, its counts and which calls fail.
+ghost use Rattle.std.specs.Prelude.{◌≡◌, ◌+◌, ◌-◌, ◌^◌, ◌≤◌, ◌↔◌, [], min, Some, Err, IfOk, OnOk, OnErr, IsErrOf, IsTrue, MatchResult};
+ghost use Rattle.desk_base.specs.Memory.{NextFails, after_call};
+ghost use Rattle.desk_words.specs.Changes.{FitAll, changed_all};
+ghost use Rattle.desk_words.specs.Tables.{AreTables, rows_of};
+ghost use Rattle.keeper_core.specs.Keeping.{ChangeTold, FailsRise, FitTold, IsLoaded, NeverFails, StayTold};
+
+use crate::changing::change_all;
+use crate::keeper::{KeepFail, Keeper};
+use crate::room::make_room;
+use desk_base::{Duplicate, List};
+use desk_words::{Change, Tables};
+use std::marker::Model;
+
+/// A keeper in memory. Its k-th call, counted from 1, fails exactly where `fails` holds k. A count of calls stands
+/// at 2^64 - 1, and from then on no call fails.
+#[derive(Debug, Drop)]
+pub struct MemKeeper {
+    tables: Tables,
+    calls: u64,
+    fails: List<u64>,
+    faults: u64,
+}
+
+impl Model for MemKeeper {
+    ghost use Rattle.desk_words.specs.Tables.{AreTables, rows_of};
+    ghost use Rattle.keeper_core.specs.Keeping.{Kept};
+
+    ghost Value = { Kept };
+
+    ghost view = { λ k. record { rows = rows_of k.tables; schedule = record { calls = k.calls; fails = k.fails }; faults = k.faults } };
+
+    ghost invariant = { λ k. AreTables (rows_of k.tables) };
+}
+
+impl MemKeeper {
+    /// A keeper with these tables, of which no call was made and none has failed.
+    pub fn new(tables: Tables, fails: List<u64>) -> MemKeeper
+        requires { AreTables (rows_of tables) }
+        ensures { result ≡ record { rows = rows_of tables; schedule = record { calls = 0; fails = fails }; faults = 0 } }
+    {
+        MemKeeper {
+            tables,
+            calls: 0,
+            fails,
+            faults: 0,
+        }
+    }
+}
+
+impl Keeper for MemKeeper {
+    ghost tables = { λ k. Some k.rows };
+
+    ghost faults = { λ k. k.faults };
+
+    ghost is_steady = { λ k. k.schedule.fails ≡ [] };
+
+    fn load(&mut self) -> Result<Tables, KeepFail>
+        ensures loaded { IfOk result (λ made. IsLoaded (Some self.old.rows) (Some self.new.rows) (rows_of made)) }
+        ensures whole { IfOk result (λ made. AreTables (rows_of made)) }
+        ensures unchanged { OnErr result (StayTold (Some self.old.rows) (Some self.new.rows)) }
+        ensures later { self.old.faults ≤ self.new.faults }
+        ensures cause { FailsRise self.old.faults self.new.faults result }
+        ensures steady { self.old.schedule.fails ≡ [] → NeverFails result × (self.new.schedule.fails ≡ []) }
+
+        // Exactly which calls fail.
+        ensures fails { IsErrOf result KeepFail.Failed ↔ NextFails self.old.schedule }
+        ensures counted { self.new.schedule ≡ after_call self.old.schedule }
+    {
+        if next_fails(&mut self.calls, self.fails.as_slice()) {
+            self.faults = self.faults.saturating_add(1);
+            return Err(KeepFail::Failed);
+        }
+        Ok(self.tables.copy()?)
+    }
+
+    fn commit(&mut self, changes: &List<Change>) -> Result<(), KeepFail>
+        requires { FitTold (Some self.old.rows) changes.now }
+        ensures committed { OnOk result (ChangeTold (Some self.old.rows) (Some self.new.rows) changes.now) }
+        ensures unchanged { OnErr result (StayTold (Some self.old.rows) (Some self.new.rows)) }
+        ensures later { self.old.faults ≤ self.new.faults }
+        ensures cause { FailsRise self.old.faults self.new.faults result }
+        ensures steady { self.old.schedule.fails ≡ [] → NeverFails result × (self.new.schedule.fails ≡ []) }
+
+        // Exactly which calls fail.
+        ensures fails { IsErrOf result KeepFail.Failed ↔ NextFails self.old.schedule }
+        ensures counted { self.new.schedule ≡ after_call self.old.schedule }
+    {
+        if next_fails(&mut self.calls, self.fails.as_slice()) {
+            self.faults = self.faults.saturating_add(1);
+            return Err(KeepFail::Failed);
+        }
+        change_tables(&mut self.tables, changes)
+    }
+}
+
+/// Counts a call, and says whether it is to fail.
+fn next_fails(calls: &mut u64, fails: &[u64]) -> bool
+    ensures fails { IsTrue result ↔ NextFails (record { calls = calls.old; fails = fails.now }) }
+    ensures counted { record { calls = calls.new; fails = fails.now }
+        ≡ after_call (record { calls = calls.old; fails = fails.now }) }
+{
+    if *calls == u64::MAX {
+        return false;
+    }
+    *calls += 1;
+    fails.contains(calls)
+}
+
+/// Makes all changes in the tables, or none where there is no memory.
+fn change_tables(tables: &mut Tables, changes: &List<Change>) -> Result<(), KeepFail>
+    requires fit { FitAll (rows_of tables.old) changes.now }
+    requires whole { AreTables (rows_of tables.old) }
+    ensures committed { OnOk result (rows_of tables.new ≡ changed_all (rows_of tables.old) changes.now) }
+    ensures unchanged { OnErr result (rows_of tables.new ≡ rows_of tables.old) }
+    ensures memory { OnErr result (result ≡ Err KeepFail.NoMemory) }
+    ensures whole { AreTables (rows_of tables.new) }
+{
+    let copies = changes.copy()?;
+    let fresh = make_room(changes.allocator(), tables, changes.as_slice())?;
+    change_all(tables, fresh, copies);
+    Ok(())
+}
