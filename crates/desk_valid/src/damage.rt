@@ -1,0 +1,33 @@
+//! A damaged row.
+
+/// A table of the desk. Tables are numbered from 1 in this order.
+#[derive(Clone, Copy, Debug, PartialEq, Eq)]
+pub enum Table {
+    Clerks,
+    Schemas,
+    Masters,
+    Rulebooks,
+    Editions,
+    Regions,
+    Sessions,
+    Records,
+    Batches,
+}
+
+/// A row that is not what a row of its table has to be (`docs/tables.md`).
+#[derive(Clone, Copy, Debug, PartialEq, Eq)]
+pub struct Damage {
+    /// The number of the table, 1 to 9.
+    pub table: u8,
+    /// The row, counted from 1, in the last three tables through the lists of the clerks, one behind the other.
+    pub row: u64,
+}
+
+/// Why tables were not found to be valid.
+#[derive(Clone, Copy, Debug, PartialEq, Eq)]
+pub enum Bad {
+    /// This is the first damaged row.
+    Damaged(Damage),
+    /// There was no memory. It may come in place of any other answer.
+    NoMemory,
+}

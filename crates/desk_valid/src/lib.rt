@@ -1,0 +1,15 @@
+//! What makes the desk's tables valid, and the kit of an edition.
+//!
+//! `valid` answers whether tables are valid, or names the first damaged row, by table and then by place. `kit_of`
+//! binds the rulebook of an edition to its schema, masters and folded attributes. `specs/Rows` says what a valid
+//! row of each table is, `specs/Valid.antt` what valid tables are, `specs/Damage.antt` what the first damage is,
+//! and `specs/Bindings.antt` what an edition binds to. `docs/tables.md` says the same in words.
+#![tactic(auto)]
+
+mod bound;
+mod checking;
+mod damage;
+
+pub use checking::valid;
+pub use bound::{Bound, kit_of};
+pub use damage::{Bad, Damage, Table};
