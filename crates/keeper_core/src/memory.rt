@@ -3,7 +3,7 @@ ghost use Rattle.std.specs.Prelude.{◌≡◌, ◌+◌, ◌-◌, ◌^◌, ◌≤
 ghost use Rattle.desk_base.specs.Memory.{NextFails, after_call};
 ghost use Rattle.desk_words.specs.Changes.{FitAll, changed_all};
 ghost use Rattle.desk_words.specs.Tables.{AreTables, rows_of};
-ghost use Rattle.keeper_core.specs.Keeping.{ChangeTold, FailsRise, FitTold, IsLoaded, NeverFails, StayTold};
+ghost use Rattle.keeper_core.specs.Keeping.{ChangeTold, CountsFailures, FailsRise, FitTold, IsLoaded, NeverFails, StayTold};
 
 use crate::changing::change_all;
 use crate::keeper::{KeepFail, Keeper};
@@ -63,7 +63,8 @@ impl Keeper for MemKeeper {
         ensures cause { FailsRise self.old.faults self.new.faults result }
         ensures steady { self.old.schedule.fails ≡ [] → NeverFails result × (self.new.schedule.fails ≡ []) }
 
-        // Exactly which calls fail.
+        // Exactly which calls fail, and what they count.
+        ensures faults { CountsFailures self.old.faults self.new.faults result }
         ensures fails { IsErrOf result KeepFail.Failed ↔ NextFails self.old.schedule }
         ensures counted { self.new.schedule ≡ after_call self.old.schedule }
     {
@@ -82,7 +83,8 @@ impl Keeper for MemKeeper {
         ensures cause { FailsRise self.old.faults self.new.faults result }
         ensures steady { self.old.schedule.fails ≡ [] → NeverFails result × (self.new.schedule.fails ≡ []) }
 
-        // Exactly which calls fail.
+        // Exactly which calls fail, and what they count.
+        ensures faults { CountsFailures self.old.faults self.new.faults result }
         ensures fails { IsErrOf result KeepFail.Failed ↔ NextFails self.old.schedule }
         ensures counted { self.new.schedule ≡ after_call self.old.schedule }
     {
