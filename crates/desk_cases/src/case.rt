@@ -1,0 +1,79 @@
+//! A case: what it shows, and its parts.
+use desk_base::NoMemory;
+use std::alloc::Global;
+use std::test::Fail;
+
+/// A part of a case.
+#[derive(Debug, Drop)]
+pub struct Part {
+    pub name: String,
+    pub content: Vec<u8>,
+}
+
+impl Part {
+    /// A part of this name, with this content.
+    pub fn new(alloc: Global, name: &str, content: &[u8]) -> Result<Part, NoMemory> {
+        let name = String::from_str(alloc, name)?;
+        let content = Vec::from_slice(alloc, content)?;
+        Ok(Part { name, content })
+    }
+
+    /// A part that says `yes` or `no`.
+    pub fn truth(alloc: Global, name: &str, holds: bool) -> Result<Part, NoMemory> {
+        Part::new(alloc, name, if holds { b"yes" } else { b"no" })
+    }
+}
+
+/// A case.
+#[derive(Debug, Drop)]
+pub struct Case {
+    /// What it shows.
+    pub title: String,
+    /// Its parts, in their order.
+    pub parts: Vec<Part>,
+}
+
+impl Case {
+    /// The bytes of the first part of this name.
+    pub fn part(&self, name: &str) -> Option<&[u8]> {
+        for part in &self.parts {
+            if part.name.as_str() == name {
+                return Some(part.content.as_slice());
+            }
+        }
+        None
+    }
+
+    /// The bytes of a part that has to be there.
+    pub fn bytes(&self, name: &str) -> Result<&[u8], Fail> {
+        match self.part(name) {
+            Some(content) => Ok(content),
+            None => Err(Fail::new("a case has not a part that is wanted")),
+        }
+    }
+
+    /// A part that is one text.
+    pub fn text(&self, name: &str) -> Option<&str> {
+        match std::str::from_utf8(self.part(name)?) {
+            Ok(text) => Some(text),
+            Err(_) => None,
+        }
+    }
+
+    /// A part that is a number.
+    pub fn number(&self, name: &str) -> Option<u64> {
+        self.text(name)?.trim().parse().ok()
+    }
+
+    /// The numbers of a part, which stand with spaces or line ends between: none where there is no such part.
+    pub fn numbers(&self, alloc: Global, name: &str) -> Result<Vec<u64>, Fail> {
+        let mut numbers = Vec::new(alloc);
+        for word in self.text(name).unwrap_or("").split_whitespace() {
+            match word.parse() {
+                Ok(number) => numbers.push(number)?,
+                Err(_) => return Err(Fail::new("a case has a word where a number is wanted")),
+            }
+        }
+        Ok(numbers)
+    }
+}

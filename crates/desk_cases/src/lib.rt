@@ -1,0 +1,18 @@
+//! Cases as data: reads files of cases, and tells which are not answered as is wanted.
+//!
+//! `docs/cases.md` says how a case is written. A program that has cases says by a `Subject` how it answers
+//! one, and hands its files to `try_files`.
+#![tactic(auto)]
+
+mod case;
+mod escapes;
+mod fault;
+mod reading;
+#[cfg(test)]
+mod tests;
+mod trying;
+
+pub use case::{Case, Part};
+pub use fault::CaseFault;
+pub use reading::cases;
+pub use trying::{Subject, Tally, try_files};

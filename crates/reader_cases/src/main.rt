@@ -1,0 +1,37 @@
+//! Tries the cases in `data/`: texts and streams of the base, schemas and sheets.
+//!
+//! The words are the files of cases; a file's name up to its first `-` says what is tried. `docs/cases.md` says
+//! how a case is written.
+#![tactic(auto)]
+
+mod base;
+mod schemas;
+mod sheets;
+
+use desk_cases::{Case, Part, Subject, try_files};
+use std::alloc::Global;
+use std::test::Fail;
+
+/// What reads and prints.
+#[derive(Drop)]
+struct Readers;
+
+impl Subject for Readers {
+    fn answer(&mut self, alloc: Global, kind: &str, case: &Case) -> Result<Vec<Part>, Fail> {
+        match kind {
+            "text" => base::text(alloc, case),
+            "word" => base::word(alloc, case),
+            "source" => base::source(alloc, case),
+            "sink" => base::sink(alloc, case),
+            "schema" => schemas::schema(alloc, case),
+            "sheet" => sheets::sheet(alloc, case),
+            "sheet_size" => sheets::sheet_size(alloc, case),
+            "sheet_cells" => sheets::sheet_cells(alloc, case),
+            _ => Err(Fail::new("a file of cases has an unknown kind")),
+        }
+    }
+}
+
+fn main(rt: HostRuntime) -> Result<(), Fail> {
+    try_files(&rt, &mut Readers)
+}
