@@ -1,6 +1,6 @@
 //! The nine tables.
-ghost use Rattle.std.specs.Prelude.{codes, map, ◌≡◌, [], ◌∷◌, ◌++◌, IfOk, OnOk, OnErr};
-ghost use Rattle.desk_words.specs.Tables.{items_of, lists_of, rows_of, new_clerk, empty_rows};
+ghost use Rattle.std.specs.Prelude.{codes, ◌≡◌, [], ◌∷◌, IfOk};
+ghost use Rattle.desk_words.specs.Tables.{lists_of, rows_of, new_clerk, empty_rows};
 
 use crate::rows::act::Act;
 use crate::rows::batch::BatchRow;
@@ -51,41 +51,13 @@ impl Tables {
             batches: empty_list(alloc)?,
         })
     }
-
-    /// Tables with equal rows, and no reserved place.
-    pub fn copy(&self) -> Result<Tables, NoMemory>
-        ensures { IfOk result (λ made. rows_of made ≡ rows_of self.now) }
-    {
-        let clerks = self.clerks.copy()?;
-        let schemas = self.schemas.copy()?;
-        let masters = self.masters.copy()?;
-        let rulebooks = self.rulebooks.copy()?;
-        let editions = self.editions.copy()?;
-        let regions = self.regions.copy()?;
-        let sessions = copy_lists(&self.sessions)?;
-        let records = copy_lists(&self.records)?;
-        Ok(Tables {
-            clerks,
-            schemas,
-            masters,
-            rulebooks,
-            editions,
-            regions,
-            sessions,
-            records,
-            batches: copy_lists(&self.batches)?,
-        })
-    }
 }
 
 /// The row of the steward of a new desk.
 fn steward(alloc: Global) -> Result<ClerkRow, NoMemory>
     ensures { IfOk result (λ row. row ≡ new_clerk (codes "steward")) }
 {
-    match Text::new(alloc, b"steward") {
-        Ok(name) => Ok(ClerkRow::new(name)),
-        Err(_) => Err(NoMemory),
-    }
+    Ok(ClerkRow::new(Text::of(alloc, "steward")?))
 }
 
 /// The lists of one caller, of whom nothing is kept yet.
@@ -95,27 +67,6 @@ fn empty_list<T: Drop>(alloc: Global) -> Result<Room<Room<T>>, NoMemory>
     let mut lists = Room::new(alloc);
     lists.push(Room::new(alloc))?;
     Ok(lists)
-}
-
-/// Rooms with equal items, in their order.
-fn copy_lists<T: Duplicate + Drop>(lists: &Room<Room<T>>) -> Result<Room<Room<T>>, NoMemory>
-    ensures { IfOk result (λ made. lists_of made ≡ lists_of lists.now) }
-{
-    copy_rooms(lists.allocator(), lists.as_slice())
-}
-
-/// A room of rooms with equal items, in their order.
-fn copy_rooms<T: Duplicate + Drop>(
-    alloc: Global,
-    rooms: &[Room<T>],
-) -> Result<Room<Room<T>>, NoMemory>
-    ensures { IfOk result (λ made. lists_of made ≡ map items_of rooms.now) }
-{
-    let mut made = Room::new(alloc);
-    'rooms: for room in rooms {
-        made.push(room.copy()?)?;
-    }
-    Ok(made)
 }
 
 impl ClerkRow {
@@ -130,5 +81,29 @@ impl ClerkRow {
             act: Act::Nothing,
             target: 0,
         }
+    }
+}
+
+impl Duplicate for Tables {
+    fn copy(&self) -> Result<Tables, NoMemory> {
+        let clerks = self.clerks.copy()?;
+        let schemas = self.schemas.copy()?;
+        let masters = self.masters.copy()?;
+        let rulebooks = self.rulebooks.copy()?;
+        let editions = self.editions.copy()?;
+        let regions = self.regions.copy()?;
+        let sessions = self.sessions.copy()?;
+        let records = self.records.copy()?;
+        Ok(Tables {
+            clerks,
+            schemas,
+            masters,
+            rulebooks,
+            editions,
+            regions,
+            sessions,
+            records,
+            batches: self.batches.copy()?,
+        })
     }
 }
