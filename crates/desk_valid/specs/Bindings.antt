@@ -1,13 +1,13 @@
 -- What an edition binds to.
-use Rattle.std.specs.Prelude.{◌≡◌, ℕ, List, [], map, Option, Some, option_map, option_and_then, slice_get, Result, Ok}
+use Rattle.std.specs.Prelude.{ℕ, List, map, Option, option_map, option_and_then, slice_get, Result}
 use Rattle.desk_words.specs.declared.rows.edition.EditionRow.{EditionRow}
-use Rattle.desk_words.specs.Tables.{Rows}
+use Rattle.desk_words.specs.Tables.{Published}
 use Rattle.fix_model.specs.declared.kit.Kit.{Kit}
 use Rattle.fix_model.specs.declared.names.Names.{Names}
 use Rattle.master_rows.specs.declared.master.Master.{Master}
 use Rattle.rule_text.specs.declared.binding.BindFault.{BindFault}
 use Rattle.rule_text.specs.Binding.{bound}
-use Rattle.desk_valid.specs.Readings.{Rules, all_of, master_at, rules_at}
+use Rattle.desk_valid.specs.Readings.{Rules, all_of, master_at, read, rules_at}
 use Rattle.desk_valid.specs.declared.bound.Bound.{Bound}
 
 -- what an edition names: the rules, and the masters under their names
@@ -16,10 +16,10 @@ pub record Parts : Type 0 where
   pub masters : List (List ℕ × Master)
 
 -- the parts of an edition, where each reads
-abbrev pub parts_of : Rows → EditionRow → Option Parts
-parts_of rows row =
-    option_and_then (λ rules. option_map (λ masters. record { rules = rules; masters = masters }) (all_of (map (master_at rows) row.masters)))
-    (rules_at rows row.rulebook)
+abbrev pub parts_of : Published → EditionRow → Option Parts
+parts_of published row =
+    option_and_then (λ rules. option_map (λ masters. record { rules = rules; masters = masters }) (all_of (map (master_at published) row.masters)))
+    (rules_at published row.rulebook)
 
 -- what they bind to, with these attributes folded
 abbrev pub binding : Parts → List ℕ → Result Kit BindFault
@@ -33,11 +33,14 @@ names_of parts = record {
   masters = map (λ master. master.0) parts.masters;
 }
 
--- the kit of the edition at this place, with its names
-pub record IsBound (rows : Rows) (edition : ℕ) (made : Bound) : Type 0 where
-  pub row : EditionRow
-  pub parts : Parts
-  pub stands : slice_get rows.editions edition ≡ Some row
-  pub reads : parts_of rows row ≡ Some parts
-  pub kit : binding parts row.folded ≡ Ok made.kit
-  pub names : made.names ≡ names_of parts
+-- the kit that the parts bind to with these attributes folded, and its names, where they bind
+abbrev pub bound_of : Parts → List ℕ → Option Bound
+bound_of parts folded = option_map (λ kit. record { kit = kit; names = names_of parts }) (read (binding parts folded))
+
+-- the kit of an edition, with its names, where its parts read and bind
+abbrev pub bound_in : Published → EditionRow → Option Bound
+bound_in published row = option_and_then (λ parts. bound_of parts row.folded) (parts_of published row)
+
+-- the kit of the edition at a place, with its names
+abbrev pub bound_at : Published → ℕ → Option Bound
+bound_at published place = option_and_then (bound_in published) (slice_get published.editions place)

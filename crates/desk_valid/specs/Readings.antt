@@ -1,10 +1,9 @@
 -- What published bodies read as, where they read.
 use Rattle.std.specs.Prelude.{ℕ, List, ◌∷◌, [], length, Option, Some, None, option_map, option_and_then, slice_get, Result, Ok, Err}
-use Rattle.desk_words.specs.declared.rows.edition.EditionRow.{EditionRow}
 use Rattle.desk_words.specs.declared.rows.master.MasterRow.{MasterRow}
 use Rattle.desk_words.specs.declared.rows.rulebook.RulebookRow.{RulebookRow}
 use Rattle.desk_words.specs.declared.rows.schema.SchemaRow.{SchemaRow}
-use Rattle.desk_words.specs.Tables.{Rows}
+use Rattle.desk_words.specs.Tables.{Published}
 use Rattle.master_rows.specs.declared.master.Master.{Master}
 use Rattle.master_rows.specs.Sheet.{read_sheet}
 use Rattle.rule_text.specs.declared.rulebook.Rulebook.{Rulebook}
@@ -22,16 +21,16 @@ abbrev pub schema_in : SchemaRow → Option Schema
 schema_in row = read (schema_of row.body)
 
 -- the schema at a place
-abbrev pub schema_at : Rows → ℕ → Option Schema
-schema_at rows place = option_and_then schema_in (slice_get rows.schemas place)
+abbrev pub schema_at : Published → ℕ → Option Schema
+schema_at published place = option_and_then schema_in (slice_get published.schemas place)
 
 -- the master of a row, under its name
 abbrev pub master_in : MasterRow → Option (List ℕ × Master)
 master_in row = option_map (λ master. (row.name, master)) (read (read_sheet row.body))
 
 -- the master at a place, under its name
-abbrev pub master_at : Rows → ℕ → Option (List ℕ × Master)
-master_at rows place = option_and_then master_in (slice_get rows.masters place)
+abbrev pub master_at : Published → ℕ → Option (List ℕ × Master)
+master_at published place = option_and_then master_in (slice_get published.masters place)
 
 -- a schema, and the rules over it
 pub record Rules : Type 0 where
@@ -43,12 +42,12 @@ abbrev pub rules_over : List ℕ → Schema → Option Rules
 rules_over body schema = option_map (λ rulebook. record { schema = schema; rulebook = rulebook }) (read (read_rules body schema))
 
 -- the rules of a row, over the schema that it names
-abbrev pub rules_in : Rows → RulebookRow → Option Rules
-rules_in rows row = option_and_then (rules_over row.body) (schema_at rows row.schema)
+abbrev pub rules_in : Published → RulebookRow → Option Rules
+rules_in published row = option_and_then (rules_over row.body) (schema_at published row.schema)
 
 -- the rules at a place
-abbrev pub rules_at : Rows → ℕ → Option Rules
-rules_at rows place = option_and_then (rules_in rows) (slice_get rows.rulebooks place)
+abbrev pub rules_at : Published → ℕ → Option Rules
+rules_at published place = option_and_then (rules_in published) (slice_get published.rulebooks place)
 
 -- the values of all, where each has one
 abbrev pub all_of : {A : Type 0} → List (Option A) → Option (List A)
@@ -56,6 +55,6 @@ all_of [] = Some []
 all_of (first ∷ rest) = option_and_then (λ value. option_map (λ values. value ∷ values) (all_of rest)) first
 
 -- how many attributes an edition at a place has
-abbrev pub width_at : Rows → ℕ → Option ℕ
-width_at rows place =
-    option_map (λ rules. length rules.schema.attributes) (option_and_then (λ row. rules_at rows row.rulebook) (slice_get rows.editions place))
+abbrev pub width_at : Published → ℕ → Option ℕ
+width_at published place =
+    option_map (λ rules. length rules.schema.attributes) (option_and_then (λ row. rules_at published row.rulebook) (slice_get published.editions place))

@@ -1,7 +1,8 @@
 //! The kit of an edition.
-ghost use Rattle.std.specs.Prelude.{◌<◌, length, IfOk};
-ghost use Rattle.desk_words.specs.Tables.{AreTables, rows_of};
-ghost use Rattle.desk_valid.specs.Bindings.{IsBound};
+ghost use Rattle.std.specs.Prelude.{◌≡◌, ◌<◌, length, Some, IfOk};
+ghost use Rattle.desk_words.specs.Tables.{published_of, rows_of};
+ghost use Rattle.fix_model.specs.Valid.{IsValid};
+ghost use Rattle.desk_valid.specs.Bindings.{bound_at};
 ghost use Rattle.desk_valid.specs.Valid.{AreValid};
 
 use desk_base::NoMemory;
@@ -21,7 +22,8 @@ pub struct Bound {
 pub fn kit_of(_alloc: Global, tables: &Tables, edition: u32) -> Result<Bound, NoMemory>
     requires valid { AreValid (rows_of tables.now) }
     requires edition { edition < length tables.now.editions.items }
-    ensures { IfOk result (IsBound (rows_of tables.now) edition) }
+    ensures bound { IfOk result (λ made. bound_at (published_of (rows_of tables.now)) edition ≡ Some made) }
+    ensures valid { IfOk result (λ made. IsValid made.kit) }
 {
     Err(NoMemory)
 }

@@ -1,7 +1,6 @@
 //! Whether tables are valid.
-ghost use Rattle.std.specs.Prelude.{◌≢◌, IfErr, OnOk};
+ghost use Rattle.std.specs.Prelude.{IfErr, OnOk};
 ghost use Rattle.desk_words.specs.Tables.{AreTables, rows_of};
-ghost use Rattle.desk_valid.specs.Damage.{IsFirstDamage};
 ghost use Rattle.desk_valid.specs.Refusals.{NamesFirstDamage};
 ghost use Rattle.desk_valid.specs.Valid.{AreValid};
 

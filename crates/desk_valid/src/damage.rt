@@ -1,19 +1,5 @@
 //! A damaged row.
 
-/// A table of the desk. Tables are numbered from 1 in this order.
-#[derive(Clone, Copy, Debug, PartialEq, Eq)]
-pub enum Table {
-    Clerks,
-    Schemas,
-    Masters,
-    Rulebooks,
-    Editions,
-    Regions,
-    Sessions,
-    Records,
-    Batches,
-}
-
 /// A row that is not what a row of its table has to be (`docs/tables.md`).
 #[derive(Clone, Copy, Debug, PartialEq, Eq)]
 pub struct Damage {

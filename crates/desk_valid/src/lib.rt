@@ -12,4 +12,4 @@ mod damage;
 
 pub use checking::valid;
 pub use bound::{Bound, kit_of};
-pub use damage::{Bad, Damage, Table};
+pub use damage::{Bad, Damage};

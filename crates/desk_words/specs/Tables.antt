@@ -25,6 +25,23 @@ pub record Rows : Type 0 where
   pub records : List (List RecordRow)
   pub batches : List (List BatchRow)
 
+-- what stewards published, which nothing changes any more
+pub record Published : Type 0 where
+  pub schemas : List SchemaRow
+  pub masters : List MasterRow
+  pub rulebooks : List RulebookRow
+  pub editions : List EditionRow
+  pub regions : List RegionRow
+
+abbrev pub published_of : Rows → Published
+published_of rows = record {
+  schemas = rows.schemas;
+  masters = rows.masters;
+  rulebooks = rows.rulebooks;
+  editions = rows.editions;
+  regions = rows.regions;
+}
+
 -- the items of a room
 abbrev pub items_of : {T : Type 0} → Roomy T → List T
 items_of room = room.items
@@ -69,7 +86,7 @@ empty_rows = record {
   batches = [] ∷ [];
 }
 
--- fewer rows than a place can number
+-- fewer than 2 ^ 31 rows
 abbrev pub IsShort : {T : Type 0} → List T → Type 0
 IsShort rows = length rows < 2 ^ 31
 

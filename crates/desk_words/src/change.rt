@@ -26,7 +26,8 @@ pub enum Change {
     Edition(EditionRow),
     /// Behind the other regions.
     Region(RegionRow),
-    /// A session of the clerk at the first place, at the second, or behind the clerk's others.
+    /// A session of the clerk whose place is the first number: at the place that is the second number, or behind that
+    /// clerk's others.
     Session(u32, u32, SessionRow),
     /// Behind the other records of the clerk at this place.
     Record(u32, RecordRow),

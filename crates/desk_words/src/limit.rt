@@ -1,6 +1,6 @@
 //! What the desk counts against a limit.
 
-/// What has a limit. `specs/Limits.antt` has the numbers.
+/// What has a limit (`desk_base`, *limits*).
 #[derive(Clone, Copy, Debug, PartialEq, Eq)]
 pub enum Which {
     /// Clerks, without the steward.

@@ -1,7 +1,7 @@
 //! What a request made.
 use desk_base::Text;
 
-/// What a steward made. A number beside a name is the version.
+/// What the steward made. A number beside a name is the version.
 #[derive(Debug, Drop)]
 pub enum Made {
     Clerk(Text),

@@ -43,13 +43,13 @@ pub enum Refusal {
     ValueLong(Str),
     /// So many attributes are uncovered, and the commit takes none.
     NotCertain(u64),
-    /// Two orders of the rules end in two records.
+    /// Two maximal runs end in two records.
     InConflict,
     /// The attribute with this name is not confirmed.
     NotConfirmed(Str),
     /// More than this number of these would stand.
     Limit(Which, u64),
-    /// This reader refuses the body with this code at these two places.
+    /// This reader refuses the body with this code and these two numbers (`docs/formats.md`).
     BadText(Reader, u64, u64, u64),
     /// The keeper failed.
     Unavailable,

@@ -1,7 +1,7 @@
-//! What a steward writes.
+//! What the steward writes.
 use desk_base::{List, Str};
 
-/// What a steward publishes. Nothing that is published is ever changed.
+/// What the steward publishes. Nothing that is published is ever changed.
 #[derive(Debug, Drop)]
 pub enum StewardWork {
     AddClerk {

@@ -32,7 +32,7 @@ pub enum Outcome {
         certain: bool,
         dissent: Option<(Text, u32)>,
     },
-    /// The least run that ends in another record than the first.
+    /// The least maximal run that ends in another record than the first.
     Conflict {
         second: List<(Text, u32)>,
     },

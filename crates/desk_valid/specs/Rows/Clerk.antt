@@ -12,33 +12,33 @@ pub record IsNamedApart (rows : Rows) (place : ℕ) (name : List ℕ) : Type 0 w
   pub clerk : 0 < place → IsTrue (is_name name)
   pub first : All (λ earlier. earlier.name ≢ name) (take place rows.clerks)
 
--- what a steward's request does
-abbrev pub IsStewards : Act → Type 0
-IsStewards Nothing = ⊤
-IsStewards Clerk = ⊤
-IsStewards Schema = ⊤
-IsStewards Master = ⊤
-IsStewards Rulebook = ⊤
-IsStewards Edition = ⊤
-IsStewards Region = ⊤
-IsStewards Opened = ⊥
-IsStewards Changed = ⊥
-IsStewards Committed = ⊥
-IsStewards Batched = ⊥
+-- nothing, or what a request of the steward does
+abbrev pub IsStewardsAct : Act → Type 0
+IsStewardsAct Nothing = ⊤
+IsStewardsAct Clerk = ⊤
+IsStewardsAct Schema = ⊤
+IsStewardsAct Master = ⊤
+IsStewardsAct Rulebook = ⊤
+IsStewardsAct Edition = ⊤
+IsStewardsAct Region = ⊤
+IsStewardsAct Opened = ⊥
+IsStewardsAct Changed = ⊥
+IsStewardsAct Committed = ⊥
+IsStewardsAct Batched = ⊥
 
--- what a clerk's request does
-abbrev pub IsClerks : Act → Type 0
-IsClerks Nothing = ⊤
-IsClerks Clerk = ⊥
-IsClerks Schema = ⊥
-IsClerks Master = ⊥
-IsClerks Rulebook = ⊥
-IsClerks Edition = ⊥
-IsClerks Region = ⊥
-IsClerks Opened = ⊤
-IsClerks Changed = ⊤
-IsClerks Committed = ⊤
-IsClerks Batched = ⊤
+-- nothing, or what a request of a clerk does
+abbrev pub IsClerksAct : Act → Type 0
+IsClerksAct Nothing = ⊤
+IsClerksAct Clerk = ⊥
+IsClerksAct Schema = ⊥
+IsClerksAct Master = ⊥
+IsClerksAct Rulebook = ⊥
+IsClerksAct Edition = ⊥
+IsClerksAct Region = ⊥
+IsClerksAct Opened = ⊤
+IsClerksAct Changed = ⊤
+IsClerksAct Committed = ⊤
+IsClerksAct Batched = ⊤
 
 -- the target is a place in the table that the act names: for a clerk above the steward's, for what a clerk does in the caller's own list
 abbrev pub HasTarget : Rows → ℕ → Act → ℕ → Type 0
@@ -61,6 +61,6 @@ pub record IsClerkRow (rows : Rows) (place : ℕ) (row : ClerkRow) : Type 0 wher
   pub number : row.last ≤ 999999999999
   pub started : (row.last ≡ 0) ↔ (row.act ≡ Nothing)
   pub digest : row.act ≡ Nothing → row.digest.bytes ≡ replicate 32 0
-  pub steward : place ≡ 0 → IsStewards row.act
-  pub clerk : 0 < place → IsClerks row.act
+  pub steward : place ≡ 0 → IsStewardsAct row.act
+  pub clerk : 0 < place → IsClerksAct row.act
   pub target : HasTarget rows place row.act row.target

@@ -2,16 +2,16 @@
 use Rattle.std.specs.Prelude.{◌≡◌, ◌≢◌, ℕ, ◌<◌, ◌≤◌, List, All, AllPairs, length, option_map, slice_get, Ok, IfSome}
 use Rattle.std.specs.List.Sorted.{IsStrictlyIncreasing}
 use Rattle.desk_words.specs.declared.rows.edition.EditionRow.{EditionRow}
-use Rattle.desk_words.specs.Tables.{Rows}
+use Rattle.desk_words.specs.Tables.{Published}
 use Rattle.fix_model.specs.declared.kit.Kit.{Kit}
 use Rattle.fix_model.specs.Entries.{entries}
 use Rattle.desk_valid.specs.Bindings.{Parts, binding, parts_of}
 use Rattle.desk_valid.specs.Versions.{IsVersion}
 
 -- the masters have another name each
-abbrev pub AreNamedApart : Rows → List ℕ → Type 0
-AreNamedApart rows masters =
-    AllPairs (λ one other. option_map (λ master. master.name) (slice_get rows.masters one) ≢ option_map (λ master. master.name) (slice_get rows.masters other)) masters
+abbrev pub AreNamedApart : Published → List ℕ → Type 0
+AreNamedApart published masters =
+    AllPairs (λ one other. option_map (λ master. master.name) (slice_get published.masters one) ≢ option_map (λ master. master.name) (slice_get published.masters other)) masters
 
 -- the folded attributes are attributes of the schema, and the parts bind to a kit whose index is not too wide
 pub record IsBinding (parts : Parts) (folded : List ℕ) : Type 0 where
@@ -21,12 +21,12 @@ pub record IsBinding (parts : Parts) (folded : List ℕ) : Type 0 where
   pub narrow : entries kit ≤ 2000000
 
 -- one of at most 64 rows, the next version of its name, of a rulebook and at most 8 masters that bind to a kit
-pub record IsEditionRow (rows : Rows) (place : ℕ) (row : EditionRow) : Type 0 where
+pub record IsEditionRow (published : Published) (place : ℕ) (row : EditionRow) : Type 0 where
   pub few : place < 64
-  pub version : IsVersion (λ one. one.name) rows.editions place row.name row.version
-  pub rulebook : row.rulebook < length rows.rulebooks
+  pub version : IsVersion (λ one. one.name) published.editions place row.name row.version
+  pub rulebook : row.rulebook < length published.rulebooks
   pub few_masters : length row.masters ≤ 8
-  pub masters : All (λ master. master < length rows.masters) row.masters
-  pub named_apart : AreNamedApart rows row.masters
+  pub masters : All (λ master. master < length published.masters) row.masters
+  pub named_apart : AreNamedApart published row.masters
   pub folded : IsStrictlyIncreasing row.folded
-  pub binds : IfSome (parts_of rows row) (λ parts. IsBinding parts row.folded)
+  pub binds : IfSome (parts_of published row) (λ parts. IsBinding parts row.folded)

@@ -1,4 +1,4 @@
-//! The records that a clerk keys.
+//! The sessions of clerks.
 use desk_base::{Duplicate, List, NoMemory, Text};
 
 /// How far a session has come.
