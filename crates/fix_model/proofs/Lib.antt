@@ -1,9 +1,11 @@
+pub mod Comparing
 pub mod Counts
 pub mod Covered
 pub mod Deciding
 pub mod Filters
 pub mod Hits
 pub mod Lengths
+pub mod Order
 pub mod Pairs
 pub mod Plain
 pub mod Ranges

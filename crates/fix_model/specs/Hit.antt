@@ -9,23 +9,35 @@ use Rattle.fix_model.specs.Alike.{AreAlike}
 use Rattle.fix_model.specs.Rules.{from_text, is_folded, master_text}
 use Rattle.fix_model.specs.States.{cell_at, is_covering, IsCovered, value_at}
 
--- the row agrees, and is the least that does
-pub record IsFirstRow (kit : Kit) (values : ℕ → List ℕ) (rule : Rule) (row : ℕ) : Type 0 where
-  pub agrees : RowAgrees kit values rule row
-  pub least : (other : ℕ) → RowAgrees kit values rule other → row ≤ other
+-- the row is the least of those that agree
+pub record IsFirstOf (Agrees : ℕ → Type 0) (row : ℕ) : Type 0 where
+  pub agrees : Agrees row
+  pub least : (other : ℕ) → Agrees other → row ≤ other
 
--- the row agrees and gives another text than the first one, and is the least that does
-pub record IsOtherRow (kit : Kit) (values : ℕ → List ℕ) (rule : Rule) (first row : ℕ) : Type 0 where
-  pub agrees : RowAgrees kit values rule row
-  pub differs : from_text kit rule row ≢ from_text kit rule first
-  pub least : (other : ℕ) → RowAgrees kit values rule other → from_text kit rule other ≢ from_text kit rule first → row ≤ other
+-- the row is the least of those that agree and give another text than the first one
+pub record IsOtherOf (text : ℕ → List ℕ) (Agrees : ℕ → Type 0) (first row : ℕ) : Type 0 where
+  pub agrees : Agrees row
+  pub differs : text row ≢ text first
+  pub least : (other : ℕ) → Agrees other → text other ≢ text first → row ≤ other
+
+-- of the rows that agree the least, and the least that gives another text, or none where all give the same
+pub record IsHitOf (text : ℕ → List ℕ) (Agrees : ℕ → Type 0) (hit : Hit) : Type 0 where
+  pub first : IsFirstOf Agrees hit.first
+  pub other : MatchOption hit.other
+      ((row : ℕ) → Agrees row → text row ≡ text hit.first)
+      (IsOtherOf text Agrees hit.first)
+
+-- the row is the least of the rule's master that agrees with the values at the keys
+abbrev pub IsFirstRow : Kit → (ℕ → List ℕ) → Rule → ℕ → Type 0
+IsFirstRow kit values rule = IsFirstOf (RowAgrees kit values rule)
+
+-- the row is the least that agrees with the values at the keys and gives another text than the first one
+abbrev pub IsOtherRow : Kit → (ℕ → List ℕ) → Rule → ℕ → ℕ → Type 0
+IsOtherRow kit values rule = IsOtherOf (from_text kit rule) (RowAgrees kit values rule)
 
 -- the least row that agrees, and the least of those that give another text, or none where all give the same
-pub record IsHit (kit : Kit) (values : ℕ → List ℕ) (rule : Rule) (hit : Hit) : Type 0 where
-  pub first : IsFirstRow kit values rule hit.first
-  pub other : MatchOption hit.other
-      ((row : ℕ) → RowAgrees kit values rule row → from_text kit rule row ≡ from_text kit rule hit.first)
-      (IsOtherRow kit values rule hit.first)
+abbrev pub IsHit : Kit → (ℕ → List ℕ) → Rule → Hit → Type 0
+IsHit kit values rule = IsHitOf (from_text kit rule) (RowAgrees kit values rule)
 
 -- no row agrees
 abbrev pub IsMissed : Kit → (ℕ → List ℕ) → Rule → Type 0

@@ -1,5 +1,6 @@
 pub mod Alike
 pub mod Application
+pub mod Comparison
 pub mod Entries
 pub mod FirstRun
 pub mod Fix

@@ -24,7 +24,7 @@ mod tests;
 
 pub use application::{fires, row_agrees};
 pub use book::{Book, Hit, enabled, value};
-pub use comparison::alike;
+pub use comparison::{alike, compare, text_order};
 pub use kit::{Kit, MAX_CONDS, MAX_KEYS, MAX_MASTERS, MAX_RULES, MAX_SET, MAX_WIDTH};
 pub use lent_book::{gives_other, some_row_agrees};
 pub use list_book::ListBook;
