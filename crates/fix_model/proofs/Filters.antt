@@ -1,7 +1,9 @@
 -- What holds of the items that pass a test.
-use Rattle.std.proofs.Common.{◌≡◌, inl, inr, List, [], ◌∷◌, Bool, true, ap, refl}
+use Rattle.std.proofs.Common.{◌≡◌, ◌<◌, ◌+◌, ◌∙◌, ◌++◌, ℕ, inl, inr, List, [], ◌∷◌, Bool, true, false, length, take, get_or, add-one, ap, refl}
+use Rattle.std.proofs.Math.Seq.{take-suc}
+use Rattle.std.proofs.lemmas.List.{append-nil}
 use Rattle.std.proofs.lemmas.Bool.{cases_Bool}
-use Rattle.std.proofs.lemmas.List.Elements.{All-from_recursion, recursion_from_All}
+use Rattle.std.proofs.lemmas.List.Elements.{All-from_recursion, filter-append, recursion_from_All}
 use Rattle.std.specs.Prelude.{All, filter}
 use Rattle.std.specs.List.{AllByRecursion}
 
@@ -35,3 +37,20 @@ all_pass test (a ∷ items) h = rw h.0 (ap (λ l. a ∷ l) (all_pass test items 
 
 pub filter-all : {A : Type 0} (test : A → Bool) (items : List A) → All (λ a. test a ≡ true) items → filter test items ≡ items
 filter-all test items h = all_pass test items (recursion_from_All (λ a. test a ≡ true) items h)
+
+module _ {A : Type 0} (test : A → Bool) (items : List A) (k : ℕ) (d : A) (within : k < length items) where
+  filter-take : filter test (take (k + 1) items) ≡ filter test (take k items) ++ filter test (get_or items k d ∷ [])
+  filter-take = rw (add-one, take-suc items k d within) (filter-append test (take k items) (get_or items k d ∷ []))
+
+  -- one item more that passes stands behind those before it
+  pub filter-take-passes : test (get_or items k d) ≡ true → filter test (take (k + 1) items) ≡ filter test (take k items) ++ get_or items k d ∷ []
+  filter-take-passes passes = filter-take ∙ rw passes refl
+
+  -- one that fails does not
+  pub filter-take-fails : test (get_or items k d) ≡ false → filter test (take (k + 1) items) ≡ filter test (take k items)
+  filter-take-fails fails = filter-take ∙ rw fails (append-nil (filter test (take k items)))
+
+-- a test fails where one that it implies fails
+pub fails_with : (test implied : Bool) → (test ≡ true → implied ≡ true) → implied ≡ false → test ≡ false
+fails_with true implied implies fails = absurd (let passes = implies refl in cc)
+fails_with false implied implies fails = refl

@@ -1,3 +1,4 @@
+pub mod Aims
 pub mod Comparing
 pub mod Counts
 pub mod Covered

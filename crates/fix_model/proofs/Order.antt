@@ -1,5 +1,5 @@
 -- The lexicographic order of two lists, read off item by item.
-use Rattle.std.proofs.Common.{◌≡◌, min, Bool, true, false, sym, inl, inr, ◌<◌, ◌≤◌, ◌+◌, ℕ, List, [], ◌∷◌, drop, length, get_or, map, refl, ap, ◌∙◌, arith, add-one, drop-cons, length-drop}
+use Rattle.std.proofs.Common.{◌≡◌, min, true, false, sym, ◌<◌, ◌+◌, ℕ, List, [], ◌∷◌, drop, length, get_or, map, refl, ap, ◌∙◌, arith, add-one, drop-cons, length-drop}
 use Rattle.std.specs.Cmp.Lexicographic.{slice_cmp}
 use Rattle.std.specs.Char.{to_ascii_lowercase}
 use Rattle.std.specs.Cmp.{nat_cmp_is}

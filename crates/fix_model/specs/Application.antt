@@ -1,5 +1,6 @@
 -- When a rule is applied with a master row, and what that changes.
 use Rattle.std.specs.Prelude.{◌≢◌, ℕ, ◌<◌, List, [], length, All, slice_set}
+use Rattle.desk_base.specs.Grid.{GridRows, cell_text}
 use Rattle.fix_model.specs.declared.rule.Rule.{Rule}
 use Rattle.fix_model.specs.declared.kit.Kit.{Kit}
 use Rattle.fix_model.specs.declared.state.Cell.TheVariants.{Fixed}
@@ -7,14 +8,18 @@ use Rattle.fix_model.specs.declared.state.State.{State}
 use Rattle.fix_model.specs.declared.state.Step.{Step}
 use Rattle.fix_model.specs.Alike.{AreAlike}
 use Rattle.fix_model.specs.Pattern.{Matches}
-use Rattle.fix_model.specs.Rules.{rule_at, master_of, master_text, from_text, is_folded}
+use Rattle.fix_model.specs.Rules.{rule_at, master_of, master_text, is_folded}
 use Rattle.fix_model.specs.States.{IsCovered, value_at}
 
--- the row is one of the rule's master, and neither its key cells nor its `from` cell is blank
-pub record IsUsable (kit : Kit) (rule : Rule) (row : ℕ) : Type 0 where
-  pub row_within : row < length (master_of kit rule).rows
-  pub keys : All (λ key. master_text kit rule row key.1 ≢ []) rule.keys
-  pub from : from_text kit rule row ≢ []
+-- the row is one of the master, and neither its cells at the rule's keys nor its `from` cell is blank
+pub record IsUsableIn (master : GridRows) (rule : Rule) (row : ℕ) : Type 0 where
+  pub row_within : row < length master.rows
+  pub keys : All (λ key. cell_text master row key.1 ≢ []) rule.keys
+  pub from : cell_text master row rule.from ≢ []
+
+-- the row is usable in the rule's master
+abbrev pub IsUsable : Kit → Rule → ℕ → Type 0
+IsUsable kit rule = IsUsableIn (master_of kit rule) rule
 
 -- the row is usable, and its cells at these keys are alike the values there
 pub record RowAgreesAt (kit : Kit) (values : ℕ → List ℕ) (rule : Rule) (keys : List (ℕ × ℕ)) (row : ℕ) : Type 0 where

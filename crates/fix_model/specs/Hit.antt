@@ -5,9 +5,8 @@ use Rattle.fix_model.specs.declared.kit.Kit.{Kit}
 use Rattle.fix_model.specs.declared.rule.Rule.{Rule}
 use Rattle.fix_model.specs.declared.state.State.{State}
 use Rattle.fix_model.specs.Application.{RowAgrees, RowAgreesAt}
-use Rattle.fix_model.specs.Alike.{AreAlike}
-use Rattle.fix_model.specs.Rules.{from_text, is_folded, master_text}
-use Rattle.fix_model.specs.States.{cell_at, is_covering, IsCovered, value_at}
+use Rattle.fix_model.specs.Rules.{from_text}
+use Rattle.fix_model.specs.States.{cell_at, is_covering, value_at}
 
 -- the row is the least of those that agree
 pub record IsFirstOf (Agrees : ℕ → Type 0) (row : ℕ) : Type 0 where
@@ -47,13 +46,13 @@ IsMissed kit values rule = (row : ℕ) → ¬ RowAgrees kit values rule row
 abbrev pub IsFound : Kit → (ℕ → List ℕ) → Rule → Option Hit → Type 0
 IsFound kit values rule answer = MatchOption answer (IsMissed kit values rule) (IsHit kit values rule)
 
+-- those of some keys whose attributes are covered
+abbrev pub covered_among : State → List (ℕ × ℕ) → List (ℕ × ℕ)
+covered_among state keys = filter (λ key. is_covering (cell_at state key.0)) keys
+
 -- the keys of a rule whose attributes are covered
 abbrev pub covered_keys : State → Rule → List (ℕ × ℕ)
-covered_keys state rule = filter (λ key. is_covering (cell_at state key.0)) rule.keys
-
--- the row's cell at this key is alike the value there, if the attribute is covered
-abbrev pub IsAlikeWhereCovered : Kit → State → Rule → ℕ → ℕ × ℕ → Type 0
-IsAlikeWhereCovered kit state rule row key = IsCovered state key.0 → AreAlike (is_folded kit key.0) (value_at kit state key.0) (master_text kit rule row key.1)
+covered_keys state rule = covered_among state rule.keys
 
 -- some usable row agrees with the values at the covered keys
 abbrev pub SomeRowAgrees : Kit → State → Rule → Type 0

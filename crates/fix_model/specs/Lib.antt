@@ -10,6 +10,7 @@ pub mod Order
 pub mod Pattern
 pub mod Rules
 pub mod Run
+pub mod Sought
 pub mod States
 pub mod Valid
 pub mod Plain

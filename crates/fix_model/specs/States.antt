@@ -1,10 +1,11 @@
 -- The record of a clerk and its covered attributes.
-use Rattle.std.specs.Prelude.{◌≡◌, ℕ, Bool, true, false, List, [], length, filter, map, not, All, IsTrue, slice_index_or, ⊤}
+use Rattle.std.specs.Prelude.{◌≡◌, ℕ, Bool, true, false, List, [], length, filter, map, not, All, IsTrue, slice_index_or, Option, Some, None, ⊤}
 use Rattle.std.specs.List.{range_with_len}
 use Rattle.fix_model.specs.declared.kit.Kit.{Kit}
 use Rattle.fix_model.specs.declared.state.Cell.{Cell}
 use Rattle.fix_model.specs.declared.state.Cell.TheVariants.{Uncovered, Confirmed, Fixed}
 use Rattle.fix_model.specs.declared.state.State.{State}
+use Rattle.fix_model.specs.declared.state.Step.{Step}
 use Rattle.fix_model.specs.Rules.{IsStepOf, step_text}
 
 -- the cell of an attribute, uncovered past the last
@@ -20,6 +21,12 @@ is_covering (Fixed step) = true
 -- the attribute was confirmed or fixed
 abbrev pub IsCovered : State → ℕ → Type 0
 IsCovered state attribute = IsTrue (is_covering (cell_at state attribute))
+
+-- the step that fixed a cell, if one did
+abbrev pub fixed_by : Cell → Option Step
+fixed_by Uncovered = None
+fixed_by Confirmed = None
+fixed_by (Fixed step) = Some step
 
 -- what an attribute of this cell shows: the text of the step that fixed it, else the typed text
 abbrev pub shown : Kit → Cell → List ℕ → List ℕ

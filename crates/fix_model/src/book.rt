@@ -9,7 +9,7 @@ ghost use Rattle.fix_model.specs.Valid.{IsValid, IsValidRule};
 
 use crate::pattern::matches;
 use crate::rule::Rule;
-use crate::state::{Cell, State, Step};
+use crate::state::{State, Step};
 use desk_base::{Steps, Text};
 
 /// What a look for master rows found: the least usable row that agrees with the record at the rule's
@@ -36,9 +36,9 @@ pub trait Book<L> {
         ensures valid { IsValid (kit self.now) };
 
     /// Whether keys and conditions compare this attribute without regard to ASCII case.
-    fn folds(&self, attr: u16) -> bool
-        requires { attr < (kit self.now).width }
-        ensures { result ≡ is_folded (kit self.now) attr };
+    fn folds(&self, attribute: u16) -> bool
+        requires { attribute < (kit self.now).width }
+        ensures { result ≡ is_folded (kit self.now) attribute };
 
     /// The text that the step gives to the head of its rule.
     fn text(&self, step: Step) -> &Text
@@ -47,34 +47,33 @@ pub trait Book<L> {
 
     /// Looks for the usable rows of the rule that agree with the state at all its keys, and counts one
     /// look. There is nothing exactly where no row agrees.
-    fn find(&self, rule: u16, state: &State, steps: &mut Steps<L>) -> Option<Hit>
+    fn find(&self, rule: u16, state: &State, counts: &mut Steps<L>) -> Option<Hit>
         requires rule_within { rule < length (kit self.now).rules }
         requires fits { Fits (kit self.now) state.now }
         requires covered { All (λ key. IsCovered state.now key.0) (rule_at (kit self.now) rule).keys }
         ensures found { IsFound (kit self.now) (value_at (kit self.now) state.now) (rule_at (kit self.now) rule) result }
-        ensures looks { steps.new.looks ≡ min (steps.old.looks + 1) (2 ^ 64 - 1) }
-        ensures compares { steps.old.compares ≤ steps.new.compares };
+        ensures looks { counts.new.looks ≡ min (counts.old.looks + 1) (2 ^ 64 - 1) }
+        ensures compares { counts.old.compares ≤ counts.new.compares };
 
     /// Whether some usable row of the rule agrees with the state at those keys that are covered. It
     /// counts one look.
-    fn agrees(&self, rule: u16, state: &State, steps: &mut Steps<L>) -> bool
+    fn agrees(&self, rule: u16, state: &State, counts: &mut Steps<L>) -> bool
         requires rule_within { rule < length (kit self.now).rules }
         requires fits { Fits (kit self.now) state.now }
         ensures agrees { IsTrue result ↔ SomeRowAgrees (kit self.now) state.now (rule_at (kit self.now) rule) }
-        ensures looks { steps.new.looks ≡ min (steps.old.looks + 1) (2 ^ 64 - 1) }
-        ensures compares { steps.old.compares ≤ steps.new.compares };
+        ensures looks { counts.new.looks ≡ min (counts.old.looks + 1) (2 ^ 64 - 1) }
+        ensures compares { counts.old.compares ≤ counts.new.compares };
 }
 
 /// The value of an attribute, counted from 0: the text of the step that fixed it, else the typed text.
-pub fn value<'a, L, B: Book<L>>(book: &'a B, state: &'a State, attr: u16) -> &'a Text
+pub fn value<'a, L, B: Book<L>>(book: &'a B, state: &'a State, attribute: u16) -> &'a Text
     requires fits { Fits (B.kit book.now) state.now }
-    requires attr_within { attr < (B.kit book.now).width }
-    ensures { result.now ≡ value_at (B.kit book.now) state.now attr }
+    requires attribute_within { attribute < (B.kit book.now).width }
+    ensures { result.now ≡ value_at (B.kit book.now) state.now attribute }
 {
-    let place = usize::from(attr);
-    match state.cells.as_slice()[place] {
-        Cell::Fixed(step) => book.text(step),
-        Cell::Confirmed | Cell::Uncovered => &state.typed.as_slice()[place],
+    match state.fixed_by(attribute) {
+        Some(step) => book.text(step),
+        None => &state.typed.as_slice()[usize::from(attribute)],
     }
 }
 

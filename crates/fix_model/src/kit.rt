@@ -5,29 +5,13 @@ ghost use Rattle.fix_model.specs.Pattern.{IsSized};
 ghost use Rattle.fix_model.specs.States.{Fits, value_at};
 ghost use Rattle.fix_model.specs.Rules.{rule_at, master_of, step_text, IsStepOf, is_folded};
 
-use crate::lent_book::LentBook;
 use crate::pattern::Pat;
 use crate::rule::Rule;
-use crate::state::{Cell, State, Step};
-use desk_base::{Duplicate, Grid, List, NoMemory, Text};
-
-/// The greatest number of attributes.
-pub const MAX_WIDTH: u16 = 48;
-
-/// The greatest number of rules in a kit.
-pub const MAX_RULES: usize = 200;
-
-/// The greatest number of masters in a kit.
-pub const MAX_MASTERS: usize = 8;
-
-/// The greatest number of keys in a rule.
-pub const MAX_KEYS: usize = 8;
-
-/// The greatest number of conditions in a rule.
-pub const MAX_CONDS: usize = 8;
-
-/// The greatest number of texts in a set.
-pub const MAX_SET: usize = 64;
+use crate::state::{State, Step};
+use desk_base::{
+    Duplicate, Grid, List, MAX_ATTRIBUTES, MAX_CONDITIONS, MAX_KEYS, MAX_MASTERS, MAX_RULES,
+    MAX_SET, NoMemory, Text,
+};
 
 /// Editing rules over the attributes of one schema, with the master data that they look into.
 #[derive(Debug, Drop)]
@@ -49,7 +33,7 @@ impl Kit {
         ensures { IsTrue result ↔ IsValid self.now }
     {
         self.width >= 1
-            && self.width <= MAX_WIDTH
+            && usize::from(self.width) <= MAX_ATTRIBUTES
             && self.rules.len() <= MAX_RULES
             && self.masters.len() <= MAX_MASTERS
             && self.folded.len() == usize::from(self.width)
@@ -104,35 +88,26 @@ impl Kit {
         self.master(rule).cell(step.row, rule.from)
     }
 
-    /// The value of an attribute.
-    pub fn value<'a>(&'a self, state: &'a State, attr: u16) -> &'a Text
+    /// The value of an attribute, as `value` has it over a book.
+    pub fn value<'a>(&'a self, state: &'a State, attribute: u16) -> &'a Text
         requires valid { IsValid self.now }
         requires fits { Fits self.now state.now }
-        requires attr_within { attr < self.now.width }
-        ensures { result.now ≡ value_at self.now state.now attr }
+        requires attribute_within { attribute < self.now.width }
+        ensures { result.now ≡ value_at self.now state.now attribute }
     {
-        let place = usize::from(attr);
-        match state.cells.as_slice()[place] {
-            Cell::Fixed(step) => self.step_text(step),
-            Cell::Confirmed | Cell::Uncovered => &state.typed.as_slice()[place],
+        match state.fixed_by(attribute) {
+            Some(step) => self.step_text(step),
+            None => &state.typed.as_slice()[usize::from(attribute)],
         }
     }
 
-    /// The kit as a book.
-    pub(crate) fn lend(&self) -> LentBook<'_>
-        requires { IsValid self.now }
-        ensures { result ≡ self.now }
-    {
-        LentBook::new(self)
-    }
-
     /// Whether keys and conditions compare this attribute without regard to ASCII case.
-    pub fn folds(&self, attr: u16) -> bool
+    pub fn folds(&self, attribute: u16) -> bool
         requires valid { IsValid self.now }
-        requires attr_within { attr < self.now.width }
-        ensures { result ≡ is_folded self.now attr }
+        requires attribute_within { attribute < self.now.width }
+        ensures { result ≡ is_folded self.now attribute }
     {
-        self.folded.as_slice()[usize::from(attr)]
+        self.folded.as_slice()[usize::from(attribute)]
     }
 }
 
@@ -152,7 +127,7 @@ fn has_valid_conds(rule: &Rule, width: u16) -> bool
     ensures { IsTrue result ↔ AreValidConds width rule.now.head rule.now.conds }
 {
     let conds = rule.conds.as_slice();
-    conds.len() <= MAX_CONDS
+    conds.len() <= MAX_CONDITIONS
         && conds.iter().all(|cond| cond.0 < width)
         && conds.iter().all(|cond| cond.0 != rule.head)
         && conds.iter().all(|cond| is_sized(&cond.1))

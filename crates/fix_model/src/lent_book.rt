@@ -1,17 +1,17 @@
 //! The plain book over a kit that is lent, which looks through all rows of a master.
-ghost use Rattle.std.specs.Prelude.{◌≡◌, ◌≢◌, ◌<◌, ◌↔◌, ℕ, All, length, IsTrue, MatchBool, MatchOption};
-ghost use Rattle.fix_model.specs.Application.{RowAgrees};
-ghost use Rattle.fix_model.specs.Hit.{IsFirstRow, IsMissed, IsOtherRow, SomeRowAgrees};
-ghost use Rattle.fix_model.specs.Rules.{from_text, master_of};
-ghost use Rattle.fix_model.specs.States.{Fits, IsCovered, value_at};
+ghost use Rattle.std.specs.Prelude.{◌≡◌, ◌↔◌, ℕ, IsTrue, MatchOption};
+ghost use Rattle.desk_base.specs.Grid.{cell_text};
+ghost use Rattle.fix_model.specs.Hit.{IsFirstOf, IsHitOf, IsOtherOf, SomeRowAgrees};
+ghost use Rattle.fix_model.specs.Sought.{HasColumns, Meets};
+ghost use Rattle.fix_model.specs.States.{Fits};
 ghost use Rattle.fix_model.specs.Valid.{IsValid, IsValidRule};
 
-use crate::application::row_agrees;
 use crate::book::{Book, Hit};
 use crate::kit::Kit;
+use crate::rows::Sought;
 use crate::rule::Rule;
 use crate::state::{State, Step};
-use desk_base::{Steps, Text};
+use desk_base::{Grid, Steps, Text};
 use std::marker::Model;
 
 /// A valid kit that is lent, as a book. Each look goes through the rows of the rule's master.
@@ -31,13 +31,13 @@ impl<'a> Model for LentBook<'a> {
     ghost invariant = { λ b. IsValid b.inside.now };
 }
 
-impl<'a> LentBook<'a> {
-    /// The book over this kit.
-    pub(crate) fn new(kit: &'a Kit) -> LentBook<'a>
-        requires { IsValid kit.now }
-        ensures { result ≡ kit.now }
+impl Kit {
+    /// The kit as a book.
+    pub(crate) fn lend(&self) -> LentBook<'_>
+        requires { IsValid self.now }
+        ensures { result ≡ self.now }
     {
-        LentBook { inside: kit }
+        LentBook { inside: self }
     }
 }
 
@@ -52,82 +52,64 @@ impl<'a, L> Book<L> for LentBook<'a> {
         self.inside.rules.as_slice()
     }
 
-    fn folds(&self, attr: u16) -> bool {
-        self.inside.folds(attr)
+    fn folds(&self, attribute: u16) -> bool {
+        self.inside.folds(attribute)
     }
 
     fn text(&self, step: Step) -> &Text {
         self.inside.step_text(step)
     }
 
-    fn find(&self, rule: u16, state: &State, steps: &mut Steps<L>) -> Option<Hit> {
-        steps.look();
+    fn find(&self, rule: u16, state: &State, counts: &mut Steps<L>) -> Option<Hit> {
+        counts.look();
         let rule = self.inside.rule(rule);
-        let first = first_row(self.inside, state, rule)?;
-        let other = other_row(self.inside, state, rule, first);
-        Some(Hit { first, other })
+        let sought = Sought::at(self.inside, state, rule);
+        hit_in(self.inside.master(rule), rule, &sought)
     }
 
-    fn agrees(&self, rule: u16, state: &State, steps: &mut Steps<L>) -> bool {
-        steps.look();
+    fn agrees(&self, rule: u16, state: &State, counts: &mut Steps<L>) -> bool {
+        counts.look();
         some_row_agrees(self.inside, state, self.inside.rule(rule))
     }
 }
 
-fn first_row(kit: &Kit, state: &State, rule: &Rule) -> Option<u32>
-    requires valid { IsValid kit.now }
-    requires rule_valid { IsValidRule kit.now rule.now }
-    requires fits { Fits kit.now state.now }
-    requires covered { All (λ key. IsCovered state.now key.0) rule.now.keys }
-    ensures { MatchOption result (IsMissed kit.now (value_at kit.now state.now) rule.now)
-        (IsFirstRow kit.now (value_at kit.now state.now) rule.now) }
+fn hit_in(master: &Grid, rule: &Rule, sought: &Sought<'_>) -> Option<Hit>
+    requires { HasColumns master.now rule.now sought.now }
+    ensures { MatchOption result ((row : ℕ) → ¬ Meets master.now rule.now sought.now row)
+        (IsHitOf (λ row. cell_text master.now row rule.now.from) (Meets master.now rule.now sought.now)) }
 {
-    'rows: for row in 0..kit.master(rule).rows() {
-        if row_agrees(kit, state, rule, row) {
+    let first = first_row(master, rule, sought)?;
+    let other = other_row(master, rule, sought, first);
+    Some(Hit { first, other })
+}
+
+fn first_row(master: &Grid, rule: &Rule, sought: &Sought<'_>) -> Option<u32>
+    requires { HasColumns master.now rule.now sought.now }
+    ensures { MatchOption result ((row : ℕ) → ¬ Meets master.now rule.now sought.now row)
+        (IsFirstOf (Meets master.now rule.now sought.now)) }
+{
+    'rows: for row in 0..master.rows() {
+        if sought.agrees(master, rule, row) {
             return Some(row);
         }
     }
     None
 }
 
-fn other_row(kit: &Kit, state: &State, rule: &Rule, first: u32) -> Option<u32>
-    requires valid { IsValid kit.now }
-    requires rule_valid { IsValidRule kit.now rule.now }
-    requires fits { Fits kit.now state.now }
-    requires covered { All (λ key. IsCovered state.now key.0) rule.now.keys }
-    requires first_row { IsFirstRow kit.now (value_at kit.now state.now) rule.now first }
+fn other_row(master: &Grid, rule: &Rule, sought: &Sought<'_>, first: u32) -> Option<u32>
+    requires columns { HasColumns master.now rule.now sought.now }
+    requires first_row { IsFirstOf (Meets master.now rule.now sought.now) first }
     ensures { MatchOption result
-        ((row : ℕ) → RowAgrees kit.now (value_at kit.now state.now) rule.now row
-        → from_text kit.now rule.now row ≡ from_text kit.now rule.now first)
-        (IsOtherRow kit.now (value_at kit.now state.now) rule.now first) }
+        ((row : ℕ) → Meets master.now rule.now sought.now row
+        → cell_text master.now row rule.now.from ≡ cell_text master.now first rule.now.from)
+        (IsOtherOf (λ row. cell_text master.now row rule.now.from) (Meets master.now rule.now sought.now) first) }
 {
-    'rows: for row in first..kit.master(rule).rows() {
-        if gives_other(kit, state, rule, first, row) {
+    'rows: for row in first..master.rows() {
+        if sought.gives_other(master, rule, first, row) {
             return Some(row);
         }
     }
     None
-}
-
-/// Whether the row agrees with the values at all keys, and gives another text than the first one.
-pub fn gives_other(kit: &Kit, state: &State, rule: &Rule, first: u32, row: u32) -> bool
-    requires valid { IsValid kit.now }
-    requires rule_valid { IsValidRule kit.now rule.now }
-    requires fits { Fits kit.now state.now }
-    requires covered { All (λ key. IsCovered state.now key.0) rule.now.keys }
-    requires first_within { first < length (master_of kit.now rule.now).rows }
-    requires row_within { row < length (master_of kit.now rule.now).rows }
-    ensures { MatchBool result
-        (RowAgrees kit.now (value_at kit.now state.now) rule.now row
-        × (from_text kit.now rule.now row ≢ from_text kit.now rule.now first))
-        (RowAgrees kit.now (value_at kit.now state.now) rule.now row
-        → from_text kit.now rule.now row ≡ from_text kit.now rule.now first) }
-{
-    let master = kit.master(rule);
-    if master.cell(row, rule.from).as_str() == master.cell(first, rule.from).as_str() {
-        return false;
-    }
-    row_agrees(kit, state, rule, row)
 }
 
 /// Whether some usable row of the rule agrees with the state at those keys that are covered. It goes
@@ -138,10 +120,6 @@ pub fn some_row_agrees(kit: &Kit, state: &State, rule: &Rule) -> bool
     requires fits { Fits kit.now state.now }
     ensures { IsTrue result ↔ SomeRowAgrees kit.now state.now rule.now }
 {
-    'rows: for row in 0..kit.master(rule).rows() {
-        if row_agrees(kit, state, rule, row) {
-            return true;
-        }
-    }
-    false
+    let sought = Sought::at(kit, state, rule);
+    first_row(kit.master(rule), rule, &sought).is_some()
 }

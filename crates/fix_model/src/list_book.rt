@@ -47,19 +47,19 @@ impl<L> Book<L> for ListBook {
         self.inside.rules.as_slice()
     }
 
-    fn folds(&self, attr: u16) -> bool {
-        self.inside.folds(attr)
+    fn folds(&self, attribute: u16) -> bool {
+        self.inside.folds(attribute)
     }
 
     fn text(&self, step: Step) -> &Text {
         self.inside.step_text(step)
     }
 
-    fn find(&self, rule: u16, state: &State, steps: &mut Steps<L>) -> Option<Hit> {
-        self.inside.lend().find(rule, state, steps)
+    fn find(&self, rule: u16, state: &State, counts: &mut Steps<L>) -> Option<Hit> {
+        self.inside.lend().find(rule, state, counts)
     }
 
-    fn agrees(&self, rule: u16, state: &State, steps: &mut Steps<L>) -> bool {
-        self.inside.lend().agrees(rule, state, steps)
+    fn agrees(&self, rule: u16, state: &State, counts: &mut Steps<L>) -> bool {
+        self.inside.lend().agrees(rule, state, counts)
     }
 }

@@ -26,8 +26,8 @@ pub fn matches(pat: &Pat, text: &Text, folded: bool) -> bool
     ensures { IsTrue result ↔ Matches folded pat.now text.now }
 {
     match pat {
-        Pat::Is(constant) => alike(constant, text, folded),
-        Pat::IsNot(constant) => !alike(constant, text, folded),
+        Pat::Is(constant) => alike(constant.as_str(), text.as_str(), folded),
+        Pat::IsNot(constant) => !alike(constant.as_str(), text.as_str(), folded),
         Pat::OneOf(texts) => is_among(texts, text, folded),
         Pat::NoneOf(texts) => !is_among(texts, text, folded),
         Pat::Any => true,
@@ -37,7 +37,10 @@ pub fn matches(pat: &Pat, text: &Text, folded: bool) -> bool
 fn is_among(texts: &List<Text>, text: &Text, folded: bool) -> bool
     ensures { IsTrue result ↔ IsAmong folded texts.now text.now }
 {
-    texts.as_slice().iter().any(|one| alike(one, text, folded))
+    texts
+        .as_slice()
+        .iter()
+        .any(|one| alike(one.as_str(), text.as_str(), folded))
 }
 
 impl Duplicate for Pat {

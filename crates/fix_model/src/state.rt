@@ -1,7 +1,7 @@
 //! A record while it is keyed.
 ghost use Rattle.std.specs.Prelude.{◌≡◌, ◌<◌, length, map, if◌then◌else◌, IfOk, IsTrue, ◌↔◌};
 ghost use Rattle.fix_model.specs.declared.kit.Kit.{Kit};
-ghost use Rattle.fix_model.specs.States.{confirmed_cell, Fits, IsCovered};
+ghost use Rattle.fix_model.specs.States.{cell_at, confirmed_cell, fixed_by, Fits, IsCovered};
 
 use desk_base::{Duplicate, List, NoMemory, Text};
 use std::alloc::Global;
@@ -55,12 +55,24 @@ impl State {
 
 impl State {
     /// Whether an attribute, counted from 0, is confirmed or fixed.
-    pub fn covers(&self, attr: u16) -> bool
-        ensures { IsTrue result ↔ IsCovered self.now attr }
+    pub fn covers(&self, attribute: u16) -> bool
+        ensures { IsTrue result ↔ IsCovered self.now attribute }
     {
-        match self.cells.as_slice().get(usize::from(attr)) {
+        match self.cells.as_slice().get(usize::from(attribute)) {
             Some(Cell::Confirmed | Cell::Fixed(_)) => true,
             Some(Cell::Uncovered) | None => false,
+        }
+    }
+}
+
+impl State {
+    /// The step that fixed an attribute, counted from 0, or none where no step did.
+    pub fn fixed_by(&self, attribute: u16) -> Option<Step>
+        ensures { result ≡ fixed_by (cell_at self.now attribute) }
+    {
+        match self.cells.as_slice().get(usize::from(attribute)) {
+            Some(Cell::Fixed(step)) => Some(*step),
+            Some(Cell::Confirmed | Cell::Uncovered) | None => None,
         }
     }
 }

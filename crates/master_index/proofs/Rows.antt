@@ -9,13 +9,15 @@ use Rattle.fix_model.specs.declared.kit.Kit.{Kit}
 use Rattle.fix_model.specs.declared.rule.Rule.{Rule}
 use Rattle.fix_model.specs.declared.state.State.{State}
 use Rattle.fix_model.specs.Alike.{compared, AreAlike}
-use Rattle.fix_model.specs.Application.{RowAgrees, RowAgreesAt}
+use Rattle.fix_model.specs.Application.{RowAgreesAt}
 use Rattle.fix_model.specs.Hit.{covered_keys}
 use Rattle.fix_model.specs.Rules.{master_of, master_text, is_folded}
 use Rattle.fix_model.specs.States.{IsCovered, cell_at, is_covering, value_at}
 use Rattle.fix_model.specs.Valid.{IsValidRule}
+use Rattle.fix_model.specs.Sought.{aims_of}
+use Rattle.fix_model.proofs.Aims.{RowAgreesAt-met}
 use Rattle.fix_model.proofs.Filters.{All_where-filter}
-use Rattle.master_index.specs.Index.{first_key, rows_alike}
+use Rattle.master_index.specs.Index.{AreCandidates, first_key, rows_alike}
 use Rattle.master_index.specs.RowMap.{has_key, is_blank}
 use Rattle.master_index.proofs.Ascending.{Contains-filter-range, AllPairs-filter-range}
 
@@ -54,14 +56,18 @@ module _ (kit : Kit) (values : ℕ → List ℕ) (rule : Rule) where
   first_within : IsValidRule kit rule → 0 < length rule.keys
   first_within valid = omega (arith, valid.keys.some)
 
-  -- a row that agrees is among them
-  pub Contains-agreeing : IsValidRule kit rule → (row : ℕ) → RowAgrees kit values rule row → Contains (rows_alike kit values rule) row
-  Contains-agreeing valid row agrees = Contains-rows_alike row agrees.usable.row_within (agrees.usable.keys 0 (0, 0) (first_within valid)) (agrees.alike 0 (0, 0) (first_within valid))
-
--- so is one that agrees at the covered keys, where the first key is covered
+-- a row that agrees at the covered keys is among them, where the first key is covered
 pub Contains-agreeing_covered : (kit : Kit) (state : State) (rule : Rule) → IsValidRule kit rule → IsCovered state (first_key rule).0 → (row : ℕ) → RowAgreesAt kit (value_at kit state) rule (covered_keys state rule) row → Contains (rows_alike kit (value_at kit state) rule) row
 Contains-agreeing_covered kit state rule valid covered row agrees =
     let alike = λ (key : ℕ × ℕ). AreAlike (is_folded kit key.0) (value_at kit state key.0) (master_text kit rule row key.1) in
     let covers = λ (key : ℕ × ℕ). is_covering (cell_at state key.0) in
     Contains-rows_alike kit (value_at kit state) rule row agrees.usable.row_within (agrees.usable.keys 0 (0, 0) (omega (arith, valid.keys.some)))
     (All_where-filter alike covers rule.keys agrees.alike 0 (0, 0) (omega (arith, valid.keys.some)) covered)
+
+-- so they are candidates for what a look seeks
+pub AreCandidates-rows_alike : (kit : Kit) (state : State) (rule : Rule) → IsValidRule kit rule → IsCovered state (first_key rule).0 → AreCandidates (master_of kit rule) rule (aims_of kit state rule) (rows_alike kit (value_at kit state) rule)
+AreCandidates-rows_alike kit state rule valid covered = record {
+  ascending = AllPairs-rows_alike kit (value_at kit state) rule;
+  within = All-rows_alike kit (value_at kit state) rule;
+  whole = λ row meets. Contains-agreeing_covered kit state rule valid covered row (RowAgreesAt-met kit state rule row meets);
+}

@@ -3,7 +3,7 @@
 /// Why there is no index of a kit.
 #[derive(Clone, Copy, Debug, PartialEq, Eq)]
 pub enum BuildFault {
-    /// The index would hold so many entries, more than `MAX_ENTRIES`.
+    /// The kit has so many entries, more than `MAX_ENTRIES`.
     TooWide(u64),
     /// There was no memory for it.
     NoMemory,

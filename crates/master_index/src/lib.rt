@@ -13,4 +13,4 @@ mod row_map;
 mod tests;
 
 pub use error::BuildFault;
-pub use map_book::{MAX_ENTRIES, MapBook};
+pub use map_book::MapBook;

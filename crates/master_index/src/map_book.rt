@@ -5,14 +5,11 @@ ghost use Rattle.fix_model.specs.Valid.{IsValid};
 
 use crate::error::BuildFault;
 use crate::index::Index;
-use crate::looks::{hit_among, some_among};
-use desk_base::{Steps, Text};
-use fix_model::{Book, Hit, Kit, Rule, State, Step, some_row_agrees};
+use crate::looks::{first_among, hit_among};
+use desk_base::{MAX_ENTRIES, Steps, Text};
+use fix_model::{Book, Hit, Kit, Rule, Sought, State, Step, some_row_agrees};
 use std::alloc::Global;
 use std::marker::Model;
-
-/// The greatest number of entries in an index.
-pub const MAX_ENTRIES: u64 = 2_000_000;
 
 /// A valid kit as a book, with an index of its masters. A look for the rows of a rule whose first key is
 /// covered goes through those rows alone that are alike the value there.
@@ -35,8 +32,8 @@ impl Model for MapBook {
 }
 
 impl MapBook {
-    /// The book over this kit. Where the index would hold more entries than `MAX_ENTRIES`, it is refused
-    /// with their number.
+    /// The book over this kit. Where the kit has more entries than `MAX_ENTRIES`, it is refused with their
+    /// number.
     pub fn build(alloc: Global, kit: Kit) -> Result<MapBook, BuildFault>
         requires { IsValid kit }
         ensures book { IfOk result (λ book. book ≡ kit) }
@@ -65,27 +62,30 @@ impl<L> Book<L> for MapBook {
         self.inside.rules.as_slice()
     }
 
-    fn folds(&self, attr: u16) -> bool {
-        self.inside.folds(attr)
+    fn folds(&self, attribute: u16) -> bool {
+        self.inside.folds(attribute)
     }
 
     fn text(&self, step: Step) -> &Text {
         self.inside.step_text(step)
     }
 
-    fn find(&self, rule: u16, state: &State, steps: &mut Steps<L>) -> Option<Hit> {
-        steps.look();
+    fn find(&self, rule: u16, state: &State, counts: &mut Steps<L>) -> Option<Hit> {
+        counts.look();
+        let this = self.inside.rule(rule);
+        let sought = Sought::at(&self.inside, state, this);
         let rows = self.index.rows_alike(&self.inside, rule, state);
-        hit_among(&self.inside, state, self.inside.rule(rule), rows)
+        hit_among(self.inside.master(this), this, &sought, rows)
     }
 
-    fn agrees(&self, rule: u16, state: &State, steps: &mut Steps<L>) -> bool {
-        steps.look();
+    fn agrees(&self, rule: u16, state: &State, counts: &mut Steps<L>) -> bool {
+        counts.look();
         let this = self.inside.rule(rule);
         if !state.covers(this.keys.as_slice()[0].0) {
             return some_row_agrees(&self.inside, state, this);
         }
+        let sought = Sought::at(&self.inside, state, this);
         let rows = self.index.rows_alike(&self.inside, rule, state);
-        some_among(&self.inside, state, this, rows)
+        first_among(self.inside.master(this), this, &sought, rows).is_some()
     }
 }

@@ -12,7 +12,7 @@ returns-then-enabled c =
         rule_within = omega (arith, c.from.ensures, c.len.ensures, c.if-from-len.false);
         enabled = rw is at enabled;
         uncovered = rw (← is) (λ covered. let heard = c.covers.ensures.1 covered in cc);
-        agrees = rw is at (rw keys at (c.row_agrees.ensures.0 told));
+        agrees = rw is at (rw keys at (c.agrees_where_covered.ensures.0 told));
       },
-      λ fires. c.row_agrees.ensures.1 (rw keys (rw is fires.agrees)),
+      λ fires. c.agrees_where_covered.ensures.1 (rw keys (rw is fires.agrees)),
     )

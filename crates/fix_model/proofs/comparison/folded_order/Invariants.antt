@@ -1,4 +1,4 @@
-use Rattle.std.proofs.Common.{◌≡◌, ℕ, drop}
+use Rattle.std.proofs.Common.{◌≡◌, drop}
 use Rattle.std.specs.Cmp.Lexicographic.{slice_cmp}
 use Rattle.fix_model.proofs.Order.{folded_cmp}
 use Rattle.fix_model.proofs.comparison.folded_order.Given as goal

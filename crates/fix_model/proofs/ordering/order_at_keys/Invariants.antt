@@ -2,7 +2,7 @@ use Rattle.std.proofs.Common.{◌≡◌, drop}
 use Rattle.std.specs.Cmp.Lexicographic.{slice_cmp}
 use Rattle.fix_model.specs.States.{value_at}
 use Rattle.fix_model.proofs.Comparing.{at_keys}
-use Rattle.fix_model.proofs.comparison.order_at_keys.Given as goal
+use Rattle.fix_model.proofs.ordering.order_at_keys.Given as goal
 
 abbrev pub invariant-keys : goal.invariant-keys
 invariant-keys l =

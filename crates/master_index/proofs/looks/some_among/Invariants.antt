@@ -1,8 +1,0 @@
-use Rattle.std.proofs.Common.{◌<◌, ℕ, get_or}
-use Rattle.fix_model.specs.Application.{RowAgreesAt}
-use Rattle.fix_model.specs.Hit.{covered_keys}
-use Rattle.fix_model.specs.States.{value_at}
-use Rattle.master_index.proofs.looks.some_among.Given as goal
-
-abbrev pub invariant-rows : goal.invariant-rows
-invariant-rows l = (k : ℕ) → k < l.row-index → ¬ RowAgreesAt l.kit (value_at l.kit l.state) l.rule (covered_keys l.state l.rule) (get_or l.rows k 0)
