@@ -7,8 +7,8 @@ ghost use Rattle.fixdesk_run.specs.Parts.{field};
 use crate::case::attributes::Attributes;
 use crate::case::masters::MAX_COLUMNS;
 use crate::case::parts::{Part, has_keys, items, read_field};
-use desk_base::{List, NoMemory, Text};
-use fix_model::{MAX_MASTERS, Pat, Rule};
+use desk_base::{List, MAX_MASTERS, NoMemory, Text};
+use fix_model::{Pat, Rule};
 use serde_json::Value;
 use std::alloc::Global;
 
