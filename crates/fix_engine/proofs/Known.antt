@@ -1,8 +1,9 @@
 -- What is remembered of the looks stays true along a run, and each look is made once.
-use Rattle.std.proofs.Common.{◌≡◌, ◌≢◌, ◌<◌, ◌+◌, ◌∙◌, ℕ, zero, suc, List, [], ◌∷◌, length, set, get_or, replicate, refl, sym, ap, length-set, eqb, eqb-true, inl, inr, add-one, ◌++◌}
-use Rattle.std.specs.Prelude.{Option}
+use Rattle.std.proofs.Common.{◌≡◌, ◌≢◌, ◌<◌, ◌≤◌, ◌+◌, ◌∙◌, ℕ, zero, suc, List, [], ◌∷◌, length, set, get_or, replicate, refl, sym, ap, length-set, eqb, eqb-true, inl, inr, add-one, ◌++◌, arith}
+use Rattle.std.specs.Prelude.{Option, vec_capacity}
 use Rattle.std.proofs.lemmas.Bool.{cases_Bool, eqb-false}
 use Rattle.std.proofs.lemmas.List.{get_or-set_same, get_or-set_other, length-replicate}
+use Rattle.desk_base.specs.Counts.{Counts}
 use Rattle.fix_model.specs.declared.book.Hit.{Hit}
 use Rattle.fix_model.specs.declared.kit.Kit.{Kit}
 use Rattle.fix_model.specs.declared.state.State.{State}
@@ -12,9 +13,10 @@ use Rattle.fix_model.specs.Rules.{rule_at}
 use Rattle.fix_model.specs.States.{value_at}
 use Rattle.fix_model.proofs.Counts.{length-filter-set}
 use Rattle.fix_model.proofs.Covered.{IsCovered-after, same_keys, IsFound-values}
-use Rattle.fix_engine.specs.declared.looks.Look.{Look}
-use Rattle.fix_engine.specs.declared.looks.Look.TheVariants.{Pending, Done}
-use Rattle.fix_engine.specs.Looks.{is_pending, pending_count, IsKnown, AreKnown}
+use Rattle.fix_engine.specs.declared.looks.Remembered.{Remembered}
+use Rattle.fix_engine.specs.declared.looks.Remembered.TheVariants.{Pending, Done}
+use Rattle.fix_engine.specs.declared.looks.Looks.{Looks}
+use Rattle.fix_engine.specs.Looks.{is_pending, pending_count, AreKnown, IsKnown, LooksAround}
 
 -- where nothing is remembered, nothing false is
 get_or-replicate_self : (count place : ℕ) → get_or (replicate count Pending) place Pending ≡ Pending
@@ -22,10 +24,12 @@ get_or-replicate_self zero place = refl
 get_or-replicate_self (suc count) zero = refl
 get_or-replicate_self (suc count) (suc place) = get_or-replicate_self count place
 
+-- all of them are pending
 pub pending_count-replicate : (count : ℕ) → pending_count (replicate count Pending) ≡ count
 pending_count-replicate zero = refl
 pending_count-replicate (suc count) = ap suc (pending_count-replicate count)
 
+-- and what is remembered of none is known
 pub AreKnown-replicate : (kit : Kit) (state : State) → AreKnown kit state (replicate (length kit.rules) Pending)
 AreKnown-replicate kit state = record {
   whole = length-replicate (length kit.rules) Pending;
@@ -33,36 +37,89 @@ AreKnown-replicate kit state = record {
 }
 
 -- what is remembered stays true after a step
-pub AreKnown-after : (kit : Kit) (state : State) (step : Step) (looks : List Look) → Fires kit state step → AreKnown kit state looks → AreKnown kit (after kit state step) looks
+pub AreKnown-after : (kit : Kit) (state : State) (step : Step) (looks : List Remembered) → Fires kit state step
+    → AreKnown kit state looks → AreKnown kit (after kit state step) looks
 AreKnown-after kit state step looks fires known = record {
   whole = known.whole;
   known = λ place answer within done.
       let before = known.known place answer within done in
       record {
-        covered = λ k d h. IsCovered-after kit state step fires (get_or (rule_at kit place).keys k d).0 (before.covered k d h);
-        found = IsFound-values kit (rule_at kit place) (value_at kit state) (value_at kit (after kit state step)) (same_keys kit state step fires (rule_at kit place) before.covered) answer before.found;
+        covered = λ k d h. IsCovered-after kit state step fires (get_or (rule_at kit place).keys k d).0
+            (before.covered k d h);
+        found = IsFound-values kit (rule_at kit place) (value_at kit state) (value_at kit (after kit state step))
+            (same_keys kit state step fires (rule_at kit place) before.covered) answer before.found;
       };
 }
 
 -- a new answer is remembered beside the others
-pub AreKnown-set : (kit : Kit) (state : State) (looks : List Look) (place : ℕ) (answer : Option Hit) → place < length looks → IsKnown kit state place answer → AreKnown kit state looks → AreKnown kit state (set looks place (Done answer))
+pub AreKnown-set : (kit : Kit) (state : State) (looks : List Remembered) (place : ℕ) (answer : Option Hit)
+    → place < length looks → IsKnown kit state place answer → AreKnown kit state looks
+    → AreKnown kit state (set looks place (Done answer))
 AreKnown-set kit state looks place answer within new known = record {
   whole = length-set looks place (Done answer) ∙ known.whole;
   known = λ other told there done. elim (cases_Bool (eqb other place)) [
     | inl same ↦
         let e : other ≡ place = eqb-true other place same in
-        let is : Done told ≡ Done answer = sym done ∙ ap (λ k. get_or (set looks place (Done answer)) k Pending) e ∙ get_or-set_same looks place (Done answer) Pending within in
+        let is : Done told ≡ Done answer = sym done ∙ ap (λ k. get_or (set looks place (Done answer)) k Pending) e
+        ∙ get_or-set_same looks place (Done answer) Pending within in
         let t : told ≡ answer = cc in
         rw (e, t) new
     | inr differs ↦
         let n : other ≢ place = eqb-false other place differs in
-        known.known other told (rw length-set at there) (sym (get_or-set_other looks place other (Done answer) Pending n) ∙ done)
+        known.known other told (rw length-set at there)
+        (sym (get_or-set_other looks place other (Done answer) Pending n) ∙ done)
   ];
 }
 
 -- and one fewer is pending
-pub pending_count-set : (looks : List Look) (place : ℕ) (answer : Option Hit) (d : Look) → place < length looks → get_or looks place d ≡ Pending → pending_count (set looks place (Done answer)) + 1 ≡ pending_count looks
-pending_count-set looks place answer d within is = length-filter-set is_pending looks place (Done answer) d within (rw is refl) refl
+pub pending_count-set : (looks : List Remembered) (place : ℕ) (answer : Option Hit) (d : Remembered)
+    → place < length looks → get_or looks place d ≡ Pending
+    → pending_count (set looks place (Done answer)) + 1 ≡ pending_count looks
+pending_count-set looks place answer d within is =
+    length-filter-set is_pending looks place (Done answer) d within (rw is refl) refl
+
+-- a look that is made and remembered
+pub LooksAround-new : (kit : Kit) (state : State) (old new : Looks) (before now : Counts) (place : ℕ)
+    (answer : Option Hit)
+    (past : Remembered) → place < length old.remembered.items → get_or old.remembered.items place past ≡ Pending
+    → IsKnown kit state place answer → AreKnown kit state old.remembered.items
+    → new.remembered.items ≡ set old.remembered.items place (Done answer)
+    → vec_capacity old.remembered ≤ vec_capacity new.remembered → now.looks ≤ before.looks + 1
+    → LooksAround kit state old new before now
+LooksAround-new kit state old new before now place answer past within pending found known is room one_more = record {
+  known = rw is (AreKnown-set kit state old.remembered.items place answer within found known);
+  looks = omega (
+    arith,
+    one_more,
+    pending_count-set old.remembered.items place answer past within pending,
+    ap
+        pending_count is,
+  );
+  room = room;
+}
+
+-- looks that follow on looks are looks all the same
+pub LooksAround-then : (kit : Kit) (state later : State) (old new newer : Looks)
+    (before after_these after_those : Counts)
+    → LooksAround kit state old new before after_these → LooksAround kit later new newer after_these after_those
+    → LooksAround kit later old newer before after_those
+LooksAround-then kit state later old new newer before after_these after_those these those = record {
+  known = those.known;
+  looks = omega (arith, these.looks, those.looks);
+  room = omega (arith, these.room, those.room);
+}
+
+-- and so they are after a step
+pub LooksAround-step : (kit : Kit) (state : State) (step : Step) (old new newer : Looks)
+    (before after_these after_those : Counts)
+    → Fires kit state step → LooksAround kit state old new before after_these
+    → LooksAround kit state new newer after_these after_those
+    → LooksAround kit (after kit state step) old newer before after_those
+LooksAround-step kit state step old new newer before after_these after_those fires these those = record {
+  known = AreKnown-after kit state step newer.remembered.items fires those.known;
+  looks = omega (arith, these.looks, those.looks);
+  room = omega (arith, these.room, those.room);
+}
 
 -- one more that is pending
 pub replicate-push : (count : ℕ) → replicate count Pending ++ Pending ∷ [] ≡ replicate (count + 1) Pending

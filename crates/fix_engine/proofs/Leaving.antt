@@ -20,7 +20,9 @@ use Rattle.fix_engine.specs.declared.leads.Lead.TheVariants.{Nothing, Keeps, Lea
 use Rattle.fix_engine.specs.Leads.{AreLeads, IsLead, leaving_row}
 
 -- what holds at each place of a list, and of one item more, holds at each place with it
-pub each-push : {A : Type 0} (P : ℕ → A → Type 0) (items : List A) (last d : A) → ((place : ℕ) → place < length items → P place (get_or items place d)) → P (length items) last → (place : ℕ) → place < length items + 1 → P place (get_or (items ++ last ∷ []) place d)
+pub each-push : {A : Type 0} (P : ℕ → A → Type 0) (items : List A) (last d : A)
+    → ((place : ℕ) → place < length items → P place (get_or items place d)) → P (length items) last → (place : ℕ)
+    → place < length items + 1 → P place (get_or (items ++ last ∷ []) place d)
 each-push P items last d each new place within = elim (cases_Bool (eqb place (length items))) [
   | inl same ↦ rw (eqb-true place (length items) same, get_or-append_seam items last [] d) new
   | inr other ↦
@@ -31,75 +33,125 @@ each-push P items last d each new place within = elim (cases_Bool (eqb place (le
 
 module _ (kit : Kit) (end : State) (place row : ℕ) where
   -- the other row that was found
-  other-leaves : (first : ℕ) (found : Option ℕ) → MatchOption found ((other : ℕ) → RowAgrees kit (value_at kit end) (rule_at kit place) other → from_text kit (rule_at kit place) other ≡ from_text kit (rule_at kit place) first) (IsOtherRow kit (value_at kit end) (rule_at kit place) first) → found ≡ Some row → IsOtherRow kit (value_at kit end) (rule_at kit place) first row
+  other-leaves : (first : ℕ) (found : Option ℕ)
+      → MatchOption found ((other : ℕ) → RowAgrees kit (value_at kit end) (rule_at kit place) other
+      → from_text kit (rule_at kit place) other ≡ from_text kit (rule_at kit place) first)
+      (IsOtherRow kit (value_at kit end) (rule_at kit place) first) → found ≡ Some row
+      → IsOtherRow kit (value_at kit end) (rule_at kit place) first row
   other-leaves first None all is = absurd cc
-  other-leaves first (Some other) found is = let same : other ≡ row = cc in subst (IsOtherRow kit (value_at kit end) (rule_at kit place) first) same found
+  other-leaves first (Some other) found is =
+      let same : other ≡ row = cc in
+      subst (IsOtherRow kit (value_at kit end) (rule_at kit place) first) same found
 
   -- the leaving row is one, and its rule is enabled
-  pub leaving_row-leaves : (lead : Lead) → IsLead kit end place lead → leaving_row lead ≡ Some row → IsEnabled kit end (rule_at kit place) × RowAgrees kit (value_at kit end) (rule_at kit place) row × (from_text kit (rule_at kit place) row ≢ value_at kit end (rule_at kit place).head)
+  pub leaving_row-leaves : (lead : Lead) → IsLead kit end place lead → leaving_row lead ≡ Some row
+      → IsEnabled kit end (rule_at kit place) × RowAgrees kit (value_at kit end) (rule_at kit place) row
+      × (from_text kit (rule_at kit place) row ≢ value_at kit end (rule_at kit place).head)
   leaving_row-leaves Nothing nothing is = absurd cc
   leaving_row-leaves (Leaves hit) leaves is =
-      let same : hit.first ≡ row = cc in
-      (leaves.0.enabled, subst (RowAgrees kit (value_at kit end) (rule_at kit place)) same leaves.0.found.first.agrees, subst (λ (m : ℕ). from_text kit (rule_at kit place) m ≢ value_at kit end (rule_at kit place).head) same leaves.1)
+      let same : hit.first ≡ row = cc in (
+        leaves.0.enabled,
+        subst (RowAgrees kit (value_at kit end) (rule_at kit place)) same leaves.0.found.first.agrees,
+        subst (λ (m : ℕ). from_text kit (rule_at kit place) m ≢ value_at kit end (rule_at kit place).head) same
+            leaves.1,
+      )
   leaving_row-leaves (Keeps hit) keeps is =
       let other = other-leaves hit.first hit.other keeps.0.found.other is in
       (keeps.0.enabled, other.agrees, λ same. other.differs (same ∙ sym keeps.1))
 
   -- and it is the least
-  leaving_row-least : (lead : Lead) → IsLead kit end place lead → leaving_row lead ≡ Some row → (other : ℕ) → RowAgrees kit (value_at kit end) (rule_at kit place) other → from_text kit (rule_at kit place) other ≢ value_at kit end (rule_at kit place).head → row ≤ other
+  leaving_row-least : (lead : Lead) → IsLead kit end place lead → leaving_row lead ≡ Some row → (other : ℕ)
+      → RowAgrees kit (value_at kit end) (rule_at kit place) other
+      → from_text kit (rule_at kit place) other ≢ value_at kit end (rule_at kit place).head → row ≤ other
   leaving_row-least Nothing nothing is other agrees differs = absurd cc
-  leaving_row-least (Leaves hit) leaves is other agrees differs = let same : hit.first ≡ row = cc in subst (λ (m : ℕ). m ≤ other) same (leaves.0.found.first.least other agrees)
-  leaving_row-least (Keeps hit) keeps is other agrees differs = (other-leaves hit.first hit.other keeps.0.found.other is).least other agrees (λ same. differs (same ∙ keeps.1))
+  leaving_row-least (Leaves hit) leaves is other agrees differs =
+      let same : hit.first ≡ row = cc in
+      subst (λ (m : ℕ). m ≤ other) same (leaves.0.found.first.least other agrees)
+  leaving_row-least (Keeps hit) keeps is other agrees differs =
+      (other-leaves hit.first hit.other keeps.0.found.other is).least other agrees (λ same. differs (same ∙ keeps.1))
 
-  some-other : (first : ℕ) (found : Option ℕ) → MatchOption found ((other : ℕ) → RowAgrees kit (value_at kit end) (rule_at kit place) other → from_text kit (rule_at kit place) other ≡ from_text kit (rule_at kit place) first) (IsOtherRow kit (value_at kit end) (rule_at kit place) first) → RowAgrees kit (value_at kit end) (rule_at kit place) row → from_text kit (rule_at kit place) row ≢ from_text kit (rule_at kit place) first → IsSome found
+  -- where a row agrees and gives another text than the first, there is an other row
+  some-other : (first : ℕ) (found : Option ℕ)
+      → MatchOption found ((other : ℕ) → RowAgrees kit (value_at kit end) (rule_at kit place) other
+      → from_text kit (rule_at kit place) other ≡ from_text kit (rule_at kit place) first)
+      (IsOtherRow kit (value_at kit end) (rule_at kit place) first)
+      → RowAgrees kit (value_at kit end) (rule_at kit place) row
+      → from_text kit (rule_at kit place) row ≢ from_text kit (rule_at kit place) first → IsSome found
   some-other first None all agrees differs = absurd (differs (all row agrees))
   some-other first (Some other) found agrees differs = refl
 
   -- where a row agrees and gives another value, there is a leaving row
-  pub leaving_row-some : (lead : Lead) → IsLead kit end place lead → IsEnabled kit end (rule_at kit place) → RowAgrees kit (value_at kit end) (rule_at kit place) row → from_text kit (rule_at kit place) row ≢ value_at kit end (rule_at kit place).head → IsSome (leaving_row lead)
+  pub leaving_row-some : (lead : Lead) → IsLead kit end place lead → IsEnabled kit end (rule_at kit place)
+      → RowAgrees kit (value_at kit end) (rule_at kit place) row
+      → from_text kit (rule_at kit place) row ≢ value_at kit end (rule_at kit place).head → IsSome (leaving_row lead)
   leaving_row-some Nothing nothing enabled agrees differs = absurd (nothing enabled row agrees)
   leaving_row-some (Leaves hit) leaves enabled agrees differs = refl
-  leaving_row-some (Keeps hit) keeps enabled agrees differs = some-other hit.first hit.other keeps.0.found.other agrees (λ same. differs (same ∙ keeps.1))
+  leaving_row-some (Keeps hit) keeps enabled agrees differs =
+      some-other hit.first hit.other keeps.0.found.other agrees (λ same. differs (same ∙ keeps.1))
 
 module _ (kit : Kit) (end : State) (leads : List Lead) (final : IsFinal kit end) (known : AreLeads kit end leads) where
   -- no step of a rule without a leaving row dissents
   pub no_dissent-of : (step : Step) → leaving_row (get_or leads step.rule Nothing) ≡ None → ¬ Dissents kit end step
   no_dissent-of step none dissents =
-      let some = leaving_row-some kit end step.rule step.row (get_or leads step.rule Nothing) (known.each step.rule dissents.rule_within) dissents.enabled dissents.agrees dissents.differs in
+      let some = leaving_row-some kit end step.rule step.row (get_or leads step.rule Nothing)
+      (known.each step.rule dissents.rule_within) dissents.enabled dissents.agrees dissents.differs in
       absurd cc
 
   -- the head of a rule that is enabled, and with which a row agrees, is covered where nothing fires
-  covered_there : (step : Step) → step.rule < length kit.rules → IsEnabled kit end (rule_at kit step.rule) → RowAgrees kit (value_at kit end) (rule_at kit step.rule) step.row → IsCovered end (rule_at kit step.rule).head
-  covered_there step within enabled agrees = elim (cases_Bool (is_covering (cell_at end (rule_at kit step.rule).head))) [
-    | inl covers ↦ covers
-    | inr none ↦ absurd (final step (record { rule_within = within; enabled = enabled; uncovered = λ covers. absurd cc; agrees = agrees }))
-  ]
+  covered_there : (step : Step) → step.rule < length kit.rules → IsEnabled kit end (rule_at kit step.rule)
+      → RowAgrees kit (value_at kit end) (rule_at kit step.rule) step.row → IsCovered end (rule_at kit step.rule).head
+  covered_there step within enabled agrees =
+      elim (cases_Bool (is_covering (cell_at end (rule_at kit step.rule).head))) [
+        | inl covers ↦ covers
+        | inr none ↦ absurd (final step (record {
+          rule_within = within;
+          enabled = enabled;
+          uncovered = λ covers. absurd cc;
+          agrees = agrees;
+        }))
+      ]
 
   -- the leaving row of the first rule that has one makes the least step that dissents
-  pub IsLeastDissent-first : (place row : ℕ) → place < length kit.rules → leaving_row (get_or leads place Nothing) ≡ Some row → ((earlier : ℕ) → earlier < place → leaving_row (get_or leads earlier Nothing) ≡ None) → IsLeastDissent kit end (record { rule = place; row = row })
+  pub IsLeastDissent-first : (place row : ℕ) → place < length kit.rules
+      → leaving_row (get_or leads place Nothing) ≡ Some row
+      → ((earlier : ℕ) → earlier < place → leaving_row (get_or leads earlier Nothing) ≡ None)
+      → IsLeastDissent kit end (record { rule = place; row = row })
   IsLeastDissent-first place row within is none =
       let leaves = leaving_row-leaves kit end place row (get_or leads place Nothing) (known.each place within) is in
       let first : Step = record { rule = place; row = row } in
       record {
-        dissents = record { rule_within = within; enabled = leaves.0; covered = covered_there first within leaves.0 leaves.1; agrees = leaves.1; differs = leaves.2 };
+        dissents = record {
+          rule_within = within;
+          enabled = leaves.0;
+          covered = covered_there first within leaves.0 leaves.1;
+          agrees = leaves.1;
+          differs = leaves.2;
+        };
         least = λ other dissents. elim (decide_less other.rule place) [
           | inl before ↦ absurd (no_dissent-of other (none other.rule before) dissents)
           | inr not_before ↦ elim (cases_Bool (eqb other.rule place)) [
             | inl same ↦ least_row other dissents (eqb-true other.rule place same)
-            | inr differs ↦ let apart = eqb-false other.rule place differs in inr (inl (behind other.rule place not_before apart))
+            | inr differs ↦ let apart = eqb-false other.rule place differs in inr
+                (inl (behind other.rule place not_before apart))
           ]
         ];
       }
     where
       behind : (m n : ℕ) → ¬ (m < n) → m ≢ n → n < m
-      behind m n not_before apart = elim (decide_less n m) [ inl less ↦ less | inr not_less ↦ absurd (apart (omega arith)) ]
+      behind m n not_before apart =
+          elim (decide_less n m) [ inl less ↦ less | inr not_less ↦ absurd (apart (omega arith)) ]
 
-      least_row : (other : Step) → Dissents kit end other → other.rule ≡ place → (record { rule = place; row = row } ≡ other) ⊎ IsBefore (record { rule = place; row = row }) other
+      least_row : (other : Step) → Dissents kit end other → other.rule ≡ place
+          → (record { rule = place; row = row } ≡ other) ⊎ IsBefore (record { rule = place; row = row }) other
       least_row other dissents same =
-          let lead : IsLead kit end other.rule (get_or leads other.rule Nothing) = known.each other.rule dissents.rule_within in
+          let lead : IsLead kit end other.rule (get_or leads other.rule Nothing) =
+          known.each other.rule dissents.rule_within in
           let there : leaving_row (get_or leads other.rule Nothing) ≡ Some row = rw same is in
-          let most : row ≤ other.row = leaving_row-least kit end other.rule row (get_or leads other.rule Nothing) lead there other.row dissents.agrees dissents.differs in
+          let most : row ≤ other.row =
+          leaving_row-least kit end other.rule row (get_or leads other.rule Nothing) lead there other.row
+          dissents.agrees dissents.differs in
           elim (cases_Bool (eqb row other.row)) [
-            | inl equal ↦ let e = eqb-true row other.row equal in let s : place ≡ other.rule = sym same in inl (rw (s, e) refl)
+            | inl equal ↦ let e = eqb-true row other.row equal in let s : place ≡ other.rule =
+                sym same in inl (rw (s, e) refl)
             | inr less ↦ let apart = eqb-false row other.row less in inr (inr (sym same, omega arith))
           ]

@@ -7,3 +7,5 @@ pub mod Verdicts
 pub mod Once
 pub mod Truth
 pub mod Known
+pub mod FirstRuns
+pub mod SecondRuns

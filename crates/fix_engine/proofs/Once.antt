@@ -29,18 +29,23 @@ IsRunBefore-asymmetric : (run other : List Step) → IsRunBefore run other → �
 IsRunBefore-asymmetric run [] one two = absurd one
 IsRunBefore-asymmetric [] (other ∷ others) one two = absurd two
 IsRunBefore-asymmetric (step ∷ rest) (other ∷ others) (inl one) (inl two) = IsBefore-asymmetric step other one two
-IsRunBefore-asymmetric (step ∷ rest) (other ∷ others) (inl one) (inr two) = IsBefore-irreflexive step other (sym two.0) one
-IsRunBefore-asymmetric (step ∷ rest) (other ∷ others) (inr one) (inl two) = IsBefore-irreflexive other step (sym one.0) two
-IsRunBefore-asymmetric (step ∷ rest) (other ∷ others) (inr one) (inr two) = IsRunBefore-asymmetric rest others one.1 two.1
+IsRunBefore-asymmetric (step ∷ rest) (other ∷ others) (inl one) (inr two) =
+    IsBefore-irreflexive step other (sym two.0) one
+IsRunBefore-asymmetric (step ∷ rest) (other ∷ others) (inr one) (inl two) =
+    IsBefore-irreflexive other step (sym one.0) two
+IsRunBefore-asymmetric (step ∷ rest) (other ∷ others) (inr one) (inr two) =
+    IsRunBefore-asymmetric rest others one.1 two.1
 
 -- two runs neither of which comes behind the other are one
-same_run : (run other : List Step) → (run ≡ other) ⊎ IsRunBefore run other → (other ≡ run) ⊎ IsRunBefore other run → run ≡ other
+same_run : (run other : List Step) → (run ≡ other) ⊎ IsRunBefore run other → (other ≡ run) ⊎ IsRunBefore other run
+    → run ≡ other
 same_run run other (inl same) two = same
 same_run run other (inr one) (inl same) = sym same
 same_run run other (inr one) (inr two) = absurd (IsRunBefore-asymmetric run other one two)
 
 -- and so are two such steps
-same_step : (step other : Step) → (step ≡ other) ⊎ IsBefore step other → (other ≡ step) ⊎ IsBefore other step → step ≡ other
+same_step : (step other : Step) → (step ≡ other) ⊎ IsBefore step other → (other ≡ step) ⊎ IsBefore other step
+    → step ≡ other
 same_step step other (inl same) two = same
 same_step step other (inr one) (inl same) = sym same
 same_step step other (inr one) (inr two) = absurd (IsBefore-asymmetric step other one two)
@@ -53,33 +58,49 @@ same_flag false true one two = one.1 (two.0 refl)
 same_flag false false one two = refl
 
 module _ (kit : Kit) (state : State) where
+  -- there is one first run at most
   pub IsFirstRun-unique : (run other : List Step) → IsFirstRun kit state run → IsFirstRun kit state other → run ≡ other
   IsFirstRun-unique run other one two = same_run run other (one.least other two.maximal) (two.least run one.maximal)
 
-  pub IsSecondRun-unique : (first run other : List Step) → IsSecondRun kit state first run → IsSecondRun kit state first other → run ≡ other
-  IsSecondRun-unique first run other one two = same_run run other (one.least other two.maximal two.differs) (two.least run one.maximal one.differs)
+  -- there is one second run at most
+  pub IsSecondRun-unique : (first run other : List Step) → IsSecondRun kit state first run
+      → IsSecondRun kit state first other → run ≡ other
+  IsSecondRun-unique first run other one two =
+      same_run run other (one.least other two.maximal two.differs) (two.least run one.maximal one.differs)
 
-  pub IsDissent-unique : (dissent other : Option Step) → IsDissent kit state dissent → IsDissent kit state other → dissent ≡ other
+  -- there is one dissent at most
+  pub IsDissent-unique : (dissent other : Option Step) → IsDissent kit state dissent → IsDissent kit state other
+      → dissent ≡ other
   IsDissent-unique None None one two = refl
   IsDissent-unique None (Some step) one two = absurd (one step two.dissents)
   IsDissent-unique (Some step) None one two = absurd (two step one.dissents)
-  IsDissent-unique (Some step) (Some other) one two = let same = same_step step other (one.least other two.dissents) (two.least step one.dissents) in cc
+  IsDissent-unique (Some step) (Some other) one two =
+      let same = same_step step other (one.least other two.dissents) (two.least step one.dissents) in cc
 
   -- where the fix is unique nothing ends in another record
-  pub IsFix-no_conflict : {certain : Bool} (first : List Step) (dissent : Option Step) → IsFix kit state first certain dissent → (run other : List Step) → ¬ IsConflict kit state run other
+  pub IsFix-no_conflict : {certain : Bool} (first : List Step) (dissent : Option Step)
+      → IsFix kit state first certain dissent → (run other : List Step) → ¬ IsConflict kit state run other
   IsFix-no_conflict first dissent fix run other conflict =
       let same = IsFirstRun-unique first run fix.is_first conflict.is_first in
       conflict.is_second.differs (rw (← same) (fix.unique other conflict.is_second.maximal))
 
 -- two answers are one
-pub IsAnswer-unique : (kit : Kit) (state : State) (verdict other : Verdict) (first second other_first other_second : List Step) → IsAnswer kit state first second verdict → IsAnswer kit state other_first other_second other → (first ≡ other_first) × (second ≡ other_second) × (verdict ≡ other)
-IsAnswer-unique kit state (Fix certain dissent) (Fix other_certain other_dissent) first second other_first other_second one two =
+pub IsAnswer-unique : (kit : Kit) (state : State) (verdict other : Verdict)
+    (first second other_first other_second : List Step) → IsAnswer kit state first second verdict
+    → IsAnswer kit state other_first other_second other → (first ≡ other_first) × (second ≡ other_second)
+    × (verdict ≡ other)
+IsAnswer-unique kit state (Fix certain dissent) (Fix other_certain other_dissent) first second other_first other_second
+    one two =
     let same = IsFirstRun-unique kit state first other_first one.0.is_first two.0.is_first in
     let flags : certain ≡ other_certain = same_flag certain other_certain one.0.is_certain (rw same two.0.is_certain) in
-    let steps : dissent ≡ other_dissent = IsDissent-unique kit (end_of kit state first) dissent other_dissent one.0.is_dissent (rw same two.0.is_dissent) in
+    let steps : dissent ≡ other_dissent =
+    IsDissent-unique kit (end_of kit state first) dissent other_dissent one.0.is_dissent (rw same two.0.is_dissent)
+    in
     (same, one.1 ∙ sym two.1, rw (flags, steps) refl)
-IsAnswer-unique kit state (Fix certain dissent) Conflict first second other_first other_second one two = absurd (IsFix-no_conflict kit state first dissent one.0 other_first other_second two)
-IsAnswer-unique kit state Conflict (Fix certain dissent) first second other_first other_second one two = absurd (IsFix-no_conflict kit state other_first dissent two.0 first second one)
+IsAnswer-unique kit state (Fix certain dissent) Conflict first second other_first other_second one two =
+    absurd (IsFix-no_conflict kit state first dissent one.0 other_first other_second two)
+IsAnswer-unique kit state Conflict (Fix certain dissent) first second other_first other_second one two =
+    absurd (IsFix-no_conflict kit state other_first dissent two.0 first second one)
 IsAnswer-unique kit state Conflict Conflict first second other_first other_second one two =
     let same = IsFirstRun-unique kit state first other_first one.is_first two.is_first in
     (same, IsSecondRun-unique kit state first second other_second one.is_second (rw same two.is_second), refl)

@@ -22,15 +22,17 @@ use Rattle.fix_model.proofs.States.{Fits-after}
 use Rattle.fix_engine.specs.declared.leads.Lead.{Lead}
 use Rattle.fix_engine.specs.declared.leads.Lead.TheVariants.{Nothing, Keeps as KeepsThere, Leaves}
 use Rattle.fix_engine.specs.declared.second_run.Turn.{Turn}
-use Rattle.fix_engine.specs.Departures.{AreDepartures, EndsElsewhere, IsFlagged, IsLedTo, Keeps, Supports}
+use Rattle.fix_engine.specs.Departures.{AreDepartures, EndsElsewhere, IsLedTo, Keeps, Supports}
+use Rattle.fix_engine.specs.Flags.{IsFlagged}
 use Rattle.fix_engine.specs.Leads.{IsLead}
-use Rattle.fix_engine.specs.Turns.{CanDepartSomewhere, IsLeastElsewhere, IsLeastOf, IsLeastOfAll, IsPassed, IsTurn}
+use Rattle.fix_engine.specs.Turns.{CanDepartSomewhere, IsLeastElsewhere, IsLeastOf, IsLeastOfAll, IsLeftFrom, IsPassed, IsTurn}
 use Rattle.fix_engine.proofs.Departures.{CanDepart-elsewhere, CanDepart-step, IsLedTo-after, elsewhere-behind, elsewhere-exists, stays_there}
 use Rattle.fix_engine.proofs.Ends.{IsEnabled-inside, RowAgrees-inside}
 use Rattle.fix_engine.proofs.Reach.{AreDepartures-after, head_stays, still_departs}
 
 -- a step of a rule comes first where its row does
-least_row : (place row : ℕ) (step : Step) → step.rule ≡ place → row ≤ step.row → (record { rule = place; row = row } ≡ step) ⊎ IsBefore (record { rule = place; row = row }) step
+least_row : (place row : ℕ) (step : Step) → step.rule ≡ place → row ≤ step.row
+    → (record { rule = place; row = row } ≡ step) ⊎ IsBefore (record { rule = place; row = row }) step
 least_row place row step is least = elim (eq-or-lt_of_le least) [
   | inl same ↦ inl (rw (← is, same) refl)
   | inr under ↦ inr (inr (sym is, under))
@@ -42,125 +44,187 @@ pub record IsOpen (kit : Kit) (state : State) (place : ℕ) : Type 0 where
   pub enabled : IsEnabled kit state (rule_at kit place)
   pub uncovered : ¬ IsCovered state (rule_at kit place).head
 
--- so it is where the rule that was read is enabled, and its head is not covered
-pub IsOpen-read : (kit : Kit) (state : State) (place : ℕ) (this : Rule) (covers enabled : Bool) → place < length kit.rules → this ≡ rule_at kit place → (IsTrue covers ↔ IsCovered state this.head) → covers ≡ false → (IsTrue enabled ↔ IsEnabled kit state this) → enabled ≡ true → IsOpen kit state place
-IsOpen-read kit state place this covers enabled within is covers_it open_head enables_it on = record {
-  within = within;
-  enabled = subst (λ (rule : Rule). IsEnabled kit state rule) is (enables_it.0 on);
-  uncovered = λ covered. let told = covers_it.1 (subst (λ (rule : Rule). IsCovered state rule.head) (sym is) covered) in absurd cc;
-}
-
 -- the rule that was read is the one at the place
-pub read_rule : (kit : Kit) (rules : List Rule) (place at_place : ℕ) (this : Rule) → rules ≡ kit.rules → at_place ≡ place → place < length kit.rules → this ≡ get_or rules at_place this → this ≡ rule_at kit place
+pub read_rule : (kit : Kit) (rules : List Rule) (place at_place : ℕ) (this : Rule) → rules ≡ kit.rules
+    → at_place ≡ place
+    → place < length kit.rules → this ≡ get_or rules at_place this → this ≡ rule_at kit place
 read_rule kit rules place at_place this all same within is =
     let read : this ≡ get_or kit.rules place this = rw (← all, ← same) is in
     read ∙ get_or_default kit.rules place this _ within
+
+-- a rule was read that may have its turn: it is enabled, its head is not covered, and this is its lead at the end
+pub record IsReady (kit : Kit) (end state : State) (place : ℕ) (this : Rule) (lead : Lead) : Type 0 where
+  pub read : this ≡ rule_at kit place
+  pub opened : IsOpen kit state place
+  pub led : IsLead kit end place lead
+
+-- so it is where the tests of the rule told so
+pub IsReady-read : (kit : Kit) (end state : State) (leads : List Lead) (place at_place : ℕ) (rules : List Rule)
+    (this : Rule)
+    (covers enabled : Bool) (lead : Lead) → IsLedTo kit state end leads → rules ≡ kit.rules → at_place ≡ place
+    → place < length kit.rules → this ≡ get_or rules at_place this → (IsTrue covers ↔ IsCovered state this.head)
+    → covers ≡ false → (IsTrue enabled ↔ IsEnabled kit state this) → enabled ≡ true → lead ≡ get_or leads place Nothing
+    → IsReady kit end state place this lead
+IsReady-read kit end state leads place at_place rules this covers enabled lead led all same within is covers_it unseen
+    enables_it on lead_is =
+    let read = read_rule kit rules place at_place this all same within is in
+    record {
+      read = read;
+      opened = record {
+        within = within;
+        enabled = subst (λ (rule : Rule). IsEnabled kit state rule) read (enables_it.0 on);
+        uncovered = λ covered.
+            let told = covers_it.1 (subst (λ (rule : Rule). IsCovered state rule.head) (sym read) covered) in
+            absurd cc;
+      };
+      led = rw lead_is (led.leads_there.each place within);
+    }
 
 -- the turn of a rule by a row
 abbrev pub turn_by : ℕ → ℕ → Bool → Turn
 turn_by place row departs = record { step = record { rule = place; row = row }; departs = departs }
 
-module _ (kit : Kit) (valid : IsValid kit) (end : State) (leads : List Lead) (state : State) (fits : Fits kit state) (led : IsLedTo kit state end leads) where
+module _ (kit : Kit) (valid : IsValid kit) (end : State) (leads : List Lead) (state : State) (fits : Fits kit state)
+    (led : IsLedTo kit state end leads) where
   -- ---- one rule
 
   -- a row that agrees at the state agrees at the end
-  agrees_at_end : (place : ℕ) (step : Step) → step.rule ≡ place → Fires kit state step → RowAgrees kit (value_at kit end) (rule_at kit place) step.row
-  agrees_at_end place step is fires = subst (λ (p : ℕ). RowAgrees kit (value_at kit end) (rule_at kit p) step.row) is (RowAgrees-inside kit state end led.inside (rule_at kit step.rule) step.row fires.enabled.keys fires.agrees)
+  agrees_at_end : (place : ℕ) (step : Step) → step.rule ≡ place → Fires kit state step
+      → RowAgrees kit (value_at kit end) (rule_at kit place) step.row
+  agrees_at_end place step is fires =
+      subst (λ (p : ℕ). RowAgrees kit (value_at kit end) (rule_at kit p) step.row) is
+      (RowAgrees-inside kit state end led.inside (rule_at kit step.rule) step.row fires.enabled.keys fires.agrees)
 
   -- where no row agrees at the end, no run begins with the rule
   pub IsPassed-nothing : (place : ℕ) → IsLead kit end place Nothing → IsPassed kit end state place
   IsPassed-nothing place nothing step rest is maximal elsewhere =
       let enabled = subst (λ (p : ℕ). IsEnabled kit state (rule_at kit p)) is maximal.0.0.enabled in
-      nothing (IsEnabled-inside kit state end led.inside (rule_at kit place) enabled) step.row (agrees_at_end place step is maximal.0.0)
-
-  -- what is known of the lead that was read
-  pub lead_read : (place at_place : ℕ) (lead : Lead) → at_place ≡ place → place < length kit.rules → get_or leads at_place Nothing ≡ lead → IsLead kit end place lead
-  lead_read place at_place lead same within is = subst (IsLead kit end place) (rw (← same) is) (led.leads_there.each place within)
+      nothing (IsEnabled-inside kit state end led.inside (rule_at kit place) enabled) step.row
+      (agrees_at_end place step is maximal.0.0)
 
   -- a row that agrees at the end fires at the state, where the rule is enabled and its head is not covered
-  fires_by : (place row : ℕ) → IsOpen kit state place → RowAgrees kit (value_at kit end) (rule_at kit place) row → Fires kit state (record { rule = place; row = row })
+  fires_by : (place row : ℕ) → IsOpen kit state place → RowAgrees kit (value_at kit end) (rule_at kit place) row
+      → Fires kit state (record { rule = place; row = row })
   fires_by place row open_there agrees = record {
     rule_within = open_there.within;
     enabled = open_there.enabled;
     uncovered = open_there.uncovered;
-    agrees = RowAgrees-values kit (rule_at kit place) (value_at kit end) (value_at kit state) (λ k d h. sym (led.inside.value (get_or (rule_at kit place).keys k d).0 (open_there.enabled.keys k d h))) row agrees;
+    agrees = RowAgrees-values kit (rule_at kit place) (value_at kit end) (value_at kit state)
+        (λ k d h. sym (led.inside.value (get_or (rule_at kit place).keys k d).0 (open_there.enabled.keys k d h))) row
+        agrees;
   }
 
   -- a rule whose first row departs has its turn by this row
-  pub turn-leaves : (place : ℕ) (hit : Hit) → IsOpen kit state place → IsLead kit end place (Leaves hit) → IsTurn kit end state (turn_by place hit.first true) × IsLeastOf kit end state place (record { rule = place; row = hit.first })
+  pub turn-leaves : (place : ℕ) (hit : Hit) → IsOpen kit state place → IsLead kit end place (Leaves hit)
+      → IsTurn kit end state (turn_by place hit.first true)
+      × IsLeastOf kit end state place (record { rule = place; row = hit.first })
   turn-leaves place hit open_there leaves = (
     record {
       fires = fires_by place hit.first open_there leaves.0.found.first.agrees;
       leaves = λ is. leaves.1;
       stays = λ is. absurd cc;
     },
-    λ step rest is maximal elsewhere. least_row place hit.first step is (leaves.0.found.first.least step.row (agrees_at_end place step is maximal.0.0)),
+    λ step rest is maximal elsewhere. least_row place hit.first step is
+        (leaves.0.found.first.least step.row (agrees_at_end place step is maximal.0.0)),
   )
 
   -- ---- a rule whose first row keeps to the end
 
-  module _ (flags : List Bool) (departures : AreDepartures kit end state flags) (place : ℕ) (hit : Hit) (keeps : IsLead kit end place (KeepsThere hit)) where
+  module _ (flags : List Bool) (departures : AreDepartures kit end state flags) (place : ℕ) (hit : Hit)
+      (keeps : IsLead kit end place (KeepsThere hit)) where
     -- such a rule supports the end
     supports_by : Supports kit end place
     supports_by = record { enabled = keeps.0.enabled; row = hit.first; first = keeps.0.found.first; keeps = keeps.1 }
 
     -- it has its turn by this row, where another attribute than its head can be departed at
-    pub turn-keeps : (other : ℕ) → IsOpen kit state place → IsFlagged flags other → other ≢ (rule_at kit place).head → IsTurn kit end state (turn_by place hit.first false) × IsLeastOf kit end state place (record { rule = place; row = hit.first })
+    pub turn-keeps : (other : ℕ) → IsOpen kit state place → IsFlagged flags other → other ≢ (rule_at kit place).head
+        → IsTurn kit end state (turn_by place hit.first false)
+        × IsLeastOf kit end state place (record { rule = place; row = hit.first })
     turn-keeps other open_there flagged apart =
         let step : Step = record { rule = place; row = hit.first } in
         let fires : Fires kit state step = fires_by place hit.first open_there keeps.0.found.first.agrees in (
           record {
             fires = fires;
             leaves = λ is. absurd cc;
-            stays = λ is. (supports_by, keeps.1, (other, still_departs kit valid end leads state step fits led fires supports_by keeps.1 other ((departures.each other).0 flagged) apart));
+            stays = λ is. (
+              supports_by,
+              keeps.1,
+              (
+                other,
+                still_departs kit valid end leads state step fits led fires
+                    supports_by keeps.1 other ((departures.each other).0 flagged) apart,
+              ),
+            );
           },
-          λ step rest is maximal elsewhere. least_row place hit.first step is (keeps.0.found.first.least step.row (agrees_at_end place step is maximal.0.0)),
+          λ step rest is maximal elsewhere. least_row place hit.first step is
+              (keeps.0.found.first.least step.row (agrees_at_end place step is maximal.0.0)),
         )
 
     module _ (only : (other : ℕ) → IsFlagged flags other → other ≡ (rule_at kit place).head) where
       -- where nothing else can be departed at, no run goes elsewhere behind a step that keeps to the end
-      departs_now : (step : Step) (rest : List Step) → step.rule ≡ place → IsMaximalRun kit state (step ∷ rest) → EndsElsewhere kit end state (step ∷ rest) → ¬ Keeps kit end step
+      departs_now : (step : Step) (rest : List Step) → step.rule ≡ place → IsMaximalRun kit state (step ∷ rest)
+          → EndsElsewhere kit end state (step ∷ rest) → ¬ Keeps kit end step
       departs_now step rest is maximal elsewhere same =
           let fires = maximal.0.0 in
           let supports : Supports kit end step.rule = subst (Supports kit end) (sym is) supports_by in
-          let left = CanDepart-elsewhere kit valid end leads (after kit state step) rest (Fits-after kit state step fits fires) (IsLedTo-after kit valid end leads state fits led step fires same) (maximal.0.1, maximal.1) elsewhere in
-          let flagged = (departures.each left.0).1 (CanDepart-step kit valid end state step left.0 fires supports same left.1) in
-          head_stays kit valid end leads state step fits led fires supports same left.0 left.1 (subst (λ (p : ℕ). left.0 ≡ (rule_at kit p).head) (sym is) (only left.0 flagged))
+          let left = CanDepart-elsewhere kit valid end leads (after kit state step) rest
+          (Fits-after kit state step fits fires) (IsLedTo-after kit valid end leads state fits led step fires same)
+          (maximal.0.1, maximal.1) elsewhere in
+          let flagged = (departures.each left.0).1
+          (CanDepart-step kit valid end state step left.0 fires supports same left.1) in
+          head_stays kit valid end leads state step fits led fires supports same left.0 left.1
+          (subst (λ (p : ℕ). left.0 ≡ (rule_at kit p).head) (sym is) (only left.0 flagged))
 
       -- so it departs by a row that gives another text than the first
-      gives_other : (step : Step) (rest : List Step) → step.rule ≡ place → IsMaximalRun kit state (step ∷ rest) → EndsElsewhere kit end state (step ∷ rest) → from_text kit (rule_at kit place) step.row ≢ from_text kit (rule_at kit place) hit.first
+      gives_other : (step : Step) (rest : List Step) → step.rule ≡ place → IsMaximalRun kit state (step ∷ rest)
+          → EndsElsewhere kit end state (step ∷ rest)
+          → from_text kit (rule_at kit place) step.row ≢ from_text kit (rule_at kit place) hit.first
       gives_other step rest is maximal elsewhere same =
-          departs_now step rest is maximal elsewhere (subst (λ (p : ℕ). from_text kit (rule_at kit p) step.row ≡ value_at kit end (rule_at kit p).head) (sym is) (same ∙ keeps.1))
+          departs_now step rest is maximal elsewhere
+          (subst (λ (p : ℕ). from_text kit (rule_at kit p) step.row ≡ value_at kit end (rule_at kit p).head)
+          (sym is) (same ∙ keeps.1))
 
       -- then the rule has its turn by the least such row
-      pub turn-other : (row : ℕ) → IsOpen kit state place → IsOtherRow kit (value_at kit end) (rule_at kit place) hit.first row → IsTurn kit end state (turn_by place row true) × IsLeastOf kit end state place (record { rule = place; row = row })
+      pub turn-other : (row : ℕ) → IsOpen kit state place
+          → IsOtherRow kit (value_at kit end) (rule_at kit place) hit.first row
+          → IsTurn kit end state (turn_by place row true)
+          × IsLeastOf kit end state place (record { rule = place; row = row })
       turn-other row open_there found = (
         record {
           fires = fires_by place row open_there found.agrees;
           leaves = λ is same. found.differs (same ∙ sym keeps.1);
           stays = λ is. absurd cc;
         },
-        λ step rest is maximal elsewhere. least_row place row step is (found.least step.row (agrees_at_end place step is maximal.0.0) (gives_other step rest is maximal elsewhere)),
+        λ step rest is maximal elsewhere. least_row place row step is
+            (found.least step.row (agrees_at_end place step is maximal.0.0)
+            (gives_other step rest is maximal elsewhere)),
       )
 
       -- and no run begins with the rule where there is none
-      pub IsPassed-keeping : ((row : ℕ) → RowAgrees kit (value_at kit end) (rule_at kit place) row → from_text kit (rule_at kit place) row ≡ from_text kit (rule_at kit place) hit.first) → IsPassed kit end state place
-      IsPassed-keeping all step rest is maximal elsewhere = gives_other step rest is maximal elsewhere (all step.row (agrees_at_end place step is maximal.0.0))
+      pub IsPassed-keeping : ((row : ℕ) → RowAgrees kit (value_at kit end) (rule_at kit place) row
+          → from_text kit (rule_at kit place) row ≡ from_text kit (rule_at kit place) hit.first)
+          → IsPassed kit end state place
+      IsPassed-keeping all step rest is maximal elsewhere =
+          gives_other step rest is maximal elsewhere (all step.row (agrees_at_end place step is maximal.0.0))
 
   -- ---- all rules
 
   -- the turn of a rule is the least of all, where the rules before it are passed
-  pub IsLeastOfAll-passed : (place : ℕ) (first : Step) → first.rule ≡ place → ((other : ℕ) → other < place → IsPassed kit end state other) → IsLeastOf kit end state place first → IsLeastOfAll kit end state first
-  IsLeastOfAll-passed place first is passed least step rest maximal elsewhere = elim (cases_Bool (leb place step.rule)) [
-    | inr under ↦ absurd (passed step.rule (leb-false place step.rule under) step rest refl maximal elsewhere)
-    | inl past ↦ elim (eq-or-lt_of_le (leb-true place step.rule past)) [
-      | inl same ↦ least step rest (sym same) maximal elsewhere
-      | inr later ↦ inr (inl (rw is later))
-    ]
-  ]
+  pub IsLeastOfAll-passed : (place : ℕ) (first : Step) → first.rule ≡ place
+      → ((other : ℕ) → other < place → IsPassed kit end state other) → IsLeastOf kit end state place first
+      → IsLeastOfAll kit end state first
+  IsLeastOfAll-passed place first is passed least step rest maximal elsewhere =
+      elim (cases_Bool (leb place step.rule)) [
+        | inr under ↦ absurd (passed step.rule (leb-false place step.rule under) step rest refl maximal elsewhere)
+        | inl past ↦ elim (eq-or-lt_of_le (leb-true place step.rule past)) [
+          | inl same ↦ least step rest (sym same) maximal elsewhere
+          | inr later ↦ inr (inl (rw is later))
+        ]
+      ]
 
   -- where all rules are passed, nothing can be departed at
-  pub departs_nowhere : ((place : ℕ) → place < length kit.rules → IsPassed kit end state place) → ¬ CanDepartSomewhere kit end state
+  pub departs_nowhere : ((place : ℕ) → place < length kit.rules → IsPassed kit end state place)
+      → ¬ CanDepartSomewhere kit end state
   departs_nowhere passed depart =
       let run = elsewhere-exists kit valid end state depart.0 fits depart.1 in
       ends_nowhere run.0 run.1.0 run.1.1
@@ -168,18 +232,26 @@ module _ (kit : Kit) (valid : IsValid kit) (end : State) (leads : List Lead) (st
       -- no maximal run ends elsewhere
       ends_nowhere : (run : List Step) → IsMaximalRun kit state run → ¬ EndsElsewhere kit end state run
       ends_nowhere [] maximal elsewhere = elsewhere (stays_there kit valid end leads state fits led maximal.1)
-      ends_nowhere (step ∷ rest) maximal elsewhere = passed step.rule maximal.0.0.rule_within step rest refl maximal elsewhere
+      ends_nowhere (step ∷ rest) maximal elsewhere =
+          passed step.rule maximal.0.0.rule_within step rest refl maximal elsewhere
 
   -- ---- the run goes on
 
   -- behind the least step the least run from there is the least
-  least_behind : (step : Step) (rest : List Step) → IsLeastOfAll kit end state step → ((other : List Step) → IsMaximalRun kit (after kit state step) other → EndsElsewhere kit end (after kit state step) other → (rest ≡ other) ⊎ IsRunBefore rest other) → (other : List Step) → IsMaximalRun kit state other → EndsElsewhere kit end state other → ((step ∷ rest) ≡ other) ⊎ IsRunBefore (step ∷ rest) other
-  least_behind step rest least then [] maximal elsewhere = absurd (elsewhere (stays_there kit valid end leads state fits led maximal.1))
+  least_behind : (step : Step) (rest : List Step) → IsLeastOfAll kit end state step
+      → ((other : List Step) → IsMaximalRun kit (after kit state step) other
+      → EndsElsewhere kit end (after kit state step) other → (rest ≡ other) ⊎ IsRunBefore rest other)
+      → (other : List Step) → IsMaximalRun kit state other → EndsElsewhere kit end state other
+      → ((step ∷ rest) ≡ other) ⊎ IsRunBefore (step ∷ rest) other
+  least_behind step rest least then [] maximal elsewhere =
+      absurd (elsewhere (stays_there kit valid end leads state fits led maximal.1))
   least_behind step rest least then (next ∷ others) maximal elsewhere = elim (least next others maximal elsewhere) [
     | inr before ↦ inr (inl before)
     | inl same ↦
-        let there : IsMaximalRun kit (after kit state step) others = subst (λ (x : Step). IsMaximalRun kit (after kit state x) others) (sym same) (maximal.0.1, maximal.1) in
-        let apart : EndsElsewhere kit end (after kit state step) others = subst (λ (x : Step). EndsElsewhere kit end (after kit state x) others) (sym same) elsewhere in
+        let there : IsMaximalRun kit (after kit state step) others =
+        subst (λ (x : Step). IsMaximalRun kit (after kit state x) others) (sym same) (maximal.0.1, maximal.1) in
+        let apart : EndsElsewhere kit end (after kit state step) others =
+        subst (λ (x : Step). EndsElsewhere kit end (after kit state x) others) (sym same) elsewhere in
         elim (then others there apart) [
           | inl equal ↦ inl (rw (same, equal) refl)
           | inr before ↦ inr (inr (same, before))
@@ -187,7 +259,8 @@ module _ (kit : Kit) (valid : IsValid kit) (end : State) (leads : List Lead) (st
   ]
 
   -- a turn that keeps to the end goes before the least run that ends elsewhere from there
-  pub IsLeastElsewhere-keeps : (step : Step) (rest : List Step) → Fires kit state step → IsLeastOfAll kit end state step → IsLeastElsewhere kit end (after kit state step) rest → IsLeastElsewhere kit end state (step ∷ rest)
+  pub IsLeastElsewhere-keeps : (step : Step) (rest : List Step) → Fires kit state step → IsLeastOfAll kit end state step
+      → IsLeastElsewhere kit end (after kit state step) rest → IsLeastElsewhere kit end state (step ∷ rest)
   IsLeastElsewhere-keeps step rest fires least next = record {
     maximal = ((fires, next.maximal.0), next.maximal.1);
     elsewhere = next.elsewhere;
@@ -195,25 +268,25 @@ module _ (kit : Kit) (valid : IsValid kit) (end : State) (leads : List Lead) (st
   }
 
   -- a turn that departs goes before the first run from there
-  pub IsLeastElsewhere-departs : (step : Step) (rest : List Step) → Fires kit state step → IsLeastOfAll kit end state step → ¬ Keeps kit end step → IsFirstRun kit (after kit state step) rest → IsLeastElsewhere kit end state (step ∷ rest)
+  pub IsLeastElsewhere-departs : (step : Step) (rest : List Step) → Fires kit state step
+      → IsLeastOfAll kit end state step → ¬ Keeps kit end step → IsFirstRun kit (after kit state step) rest
+      → IsLeastElsewhere kit end state (step ∷ rest)
   IsLeastElsewhere-departs step rest fires least departs first = record {
     maximal = ((fires, first.maximal.0), first.maximal.1);
     elsewhere = elsewhere-behind kit valid end state [] rest step fits tt fires departs first.maximal.0;
     least = least_behind step rest least (λ other maximal elsewhere. first.least other maximal);
   }
 
--- the end is one to depart from: the state lies on the way to it, and some of these departures is left
-pub record IsLeftFrom (kit : Kit) (state end : State) (leads : List Lead) (flags : List Bool) : Type 0 where
-  pub led : IsLedTo kit state end leads
-  pub departures : AreDepartures kit end state flags
-  pub somewhere : CanDepartSomewhere kit end state
-
 -- it is still one behind a turn that keeps to it, which takes the head out of the departures
-pub IsLeftFrom-after : (kit : Kit) (valid : IsValid kit) (state end : State) (leads : List Lead) (flags : List Bool) (turn : Turn) (head : ℕ) → Fits kit state → IsLeftFrom kit state end leads flags → IsTurn kit end state turn → turn.departs ≡ false → head ≡ (rule_at kit turn.step.rule).head → IsLeftFrom kit (after kit state turn.step) end leads (set flags head false)
+pub IsLeftFrom-after : (kit : Kit) (valid : IsValid kit) (state end : State) (leads : List Lead) (flags : List Bool)
+    (turn : Turn) (head : ℕ) → Fits kit state → IsLeftFrom kit state end leads flags → IsTurn kit end state turn
+    → turn.departs ≡ false → head ≡ (rule_at kit turn.step.rule).head
+    → IsLeftFrom kit (after kit state turn.step) end leads (set flags head false)
 IsLeftFrom-after kit valid state end leads flags turn head fits left is_turn stays same =
     let kept = is_turn.stays stays in
     record {
       led = IsLedTo-after kit valid end leads state fits left.led turn.step is_turn.fires kept.1;
-      departures = rw same (AreDepartures-after kit valid end leads state turn.step fits left.led is_turn.fires kept.0 kept.1 flags left.departures);
+      departures = rw same (AreDepartures-after kit valid end leads state turn.step fits left.led is_turn.fires kept.0
+          kept.1 flags left.departures);
       somewhere = kept.2;
     }

@@ -1,5 +1,5 @@
 -- Where a run can depart from the end of the first run: a step gives its head another value than it has there.
-use Rattle.std.specs.Prelude.{◌≡◌, ◌≢◌, ◌↔◌, ℕ, ◌<◌, Bool, true, false, List, [], ◌∷◌, length, map, All, IsTrue, IsSome, slice_index_or, ⊤}
+use Rattle.std.specs.Prelude.{◌≡◌, ◌≢◌, ◌↔◌, ℕ, ◌<◌, Bool, true, List, [], ◌∷◌, length, map, IsSome, slice_index_or, ⊤}
 use Rattle.fix_model.specs.declared.kit.Kit.{Kit}
 use Rattle.fix_model.specs.declared.rule.Rule.{Rule}
 use Rattle.fix_model.specs.declared.state.State.{State}
@@ -11,6 +11,7 @@ use Rattle.fix_model.specs.Run.{IsFinal, end_of}
 use Rattle.fix_model.specs.States.{IsCovered, is_covering, record_of, value_at}
 use Rattle.fix_engine.specs.declared.leads.Lead.{Lead}
 use Rattle.fix_engine.specs.declared.leads.Lead.TheVariants.{Nothing}
+use Rattle.fix_engine.specs.Flags.{HasFlags, IsFlagged}
 use Rattle.fix_engine.specs.Leads.{AreLeads, is_keeping, leaving_row}
 
 -- what is covered at a state is covered at the end, with the same value
@@ -18,12 +19,14 @@ pub record IsInside (kit : Kit) (state end : State) : Type 0 where
   pub covered : (attribute : ℕ) → IsCovered state attribute → IsCovered end attribute
   pub value : (attribute : ℕ) → IsCovered state attribute → value_at kit state attribute ≡ value_at kit end attribute
 
--- the state is on the way to the end, where nothing fires: a state between the two in which nothing fires covers all that the end covers, and the leads are those of the end
+-- the state is on the way to the end, where nothing fires: a state between the two in which nothing fires covers all
+-- that the end covers, and the leads are those of the end
 pub record IsLedTo (kit : Kit) (state end : State) (leads : List Lead) : Type 0 where
   pub final : IsFinal kit end
   pub typed : end.typed ≡ state.typed
   pub inside : IsInside kit state end
-  pub only : (other : State) → IsFinal kit other → IsInside kit state other → IsInside kit other end → IsInside kit end other
+  pub only : (other : State) → IsFinal kit other → IsInside kit state other → IsInside kit other end
+      → IsInside kit end other
   pub leads_there : AreLeads kit end leads
 
 -- the rule supports the end: it is enabled there, and the first row that agrees gives its head the value there
@@ -37,10 +40,17 @@ pub record Supports (kit : Kit) (end : State) (place : ℕ) : Type 0 where
 abbrev pub Keeps : Kit → State → Step → Type 0
 Keeps kit end step = step_text kit step ≡ value_at kit end (rule_at kit step.rule).head
 
--- a run of such steps, by rules that support the end
+-- the step fires, by a rule that supports the end, and keeps to it
+pub record IsSupportedStep (kit : Kit) (end state : State) (step : Step) : Type 0 where
+  pub fires : Fires kit state step
+  pub supports : Supports kit end step.rule
+  pub keeps : Keeps kit end step
+
+-- a run of such steps
 abbrev pub IsSupportedRun : Kit → State → State → List Step → Type 0
 IsSupportedRun kit end state [] = ⊤
-IsSupportedRun kit end state (step ∷ rest) = Fires kit state step × Supports kit end step.rule × Keeps kit end step × IsSupportedRun kit end (after kit state step) rest
+IsSupportedRun kit end state (step ∷ rest) =
+    IsSupportedStep kit end state step × IsSupportedRun kit end (after kit state step) rest
 
 -- behind such a run some step departs at the attribute
 pub record CanDepart (kit : Kit) (end state : State) (attribute : ℕ) : Type 0 where
@@ -55,18 +65,12 @@ pub record CanDepart (kit : Kit) (end state : State) (attribute : ℕ) : Type 0 
 abbrev pub EndsElsewhere : Kit → State → State → List Step → Type 0
 EndsElsewhere kit end state run = record_of kit (end_of kit state run) ≢ record_of kit end
 
--- the flag of the attribute is set
-abbrev pub IsFlagged : List Bool → ℕ → Type 0
-IsFlagged flags attribute = IsTrue (slice_index_or flags attribute false)
-
--- the keys and conditions of the rule are flagged
-pub record HasFlags (flags : List Bool) (rule : Rule) : Type 0 where
-  pub keys : All (λ key. IsFlagged flags key.0) rule.keys
-  pub conds : All (λ cond. IsFlagged flags cond.0) rule.conds
-
--- the flags are closed: where a rule supports the end, its head is not the one left out, and its keys and conditions are flagged, its head is flagged
+-- the flags are closed: where a rule supports the end, its head is not the one left out, and its keys and conditions
+-- are flagged, its head is flagged
 abbrev pub IsClosed : Kit → State → ℕ → List Bool → Type 0
-IsClosed kit end left_out flags = (place : ℕ) → place < length kit.rules → Supports kit end place → (rule_at kit place).head ≢ left_out → HasFlags flags (rule_at kit place) → IsFlagged flags (rule_at kit place).head
+IsClosed kit end left_out flags = (place : ℕ) → place < length kit.rules → Supports kit end place
+    → (rule_at kit place).head ≢ left_out → HasFlags flags (rule_at kit place)
+    → IsFlagged flags (rule_at kit place).head
 
 -- the flags are what some supported run covers that leaves this attribute out
 pub record IsReach (kit : Kit) (end state : State) (left_out : ℕ) (flags : List Bool) : Type 0 where
@@ -102,4 +106,5 @@ IsLeftSomehow kit leads attribute = (place : ℕ) × (place < length kit.rules) 
 
 -- some rule does so whose keys and conditions are flagged
 abbrev pub IsLeft : Kit → List Lead → List Bool → ℕ → Type 0
-IsLeft kit leads flags attribute = (place : ℕ) × (place < length kit.rules) × LeavesBy kit leads attribute place × HasFlags flags (rule_at kit place)
+IsLeft kit leads flags attribute =
+    (place : ℕ) × (place < length kit.rules) × (LeavesBy kit leads attribute place × HasFlags flags (rule_at kit place))

@@ -17,9 +17,12 @@ pub record IsHitAt (kit : Kit) (end : State) (place : ℕ) (hit : Hit) : Type 0 
 
 -- what the rule does at the end: nothing where it is not enabled or no row agrees, else by the first row that agrees
 abbrev pub IsLead : Kit → State → ℕ → Lead → Type 0
-IsLead kit end place Nothing = IsEnabled kit end (rule_at kit place) → IsMissed kit (value_at kit end) (rule_at kit place)
-IsLead kit end place (Keeps hit) = IsHitAt kit end place hit × (from_text kit (rule_at kit place) hit.first ≡ value_at kit end (rule_at kit place).head)
-IsLead kit end place (Leaves hit) = IsHitAt kit end place hit × (from_text kit (rule_at kit place) hit.first ≢ value_at kit end (rule_at kit place).head)
+IsLead kit end place Nothing = IsEnabled kit end (rule_at kit place)
+    → IsMissed kit (value_at kit end) (rule_at kit place)
+IsLead kit end place (Keeps hit) = IsHitAt kit end place hit
+    × (from_text kit (rule_at kit place) hit.first ≡ value_at kit end (rule_at kit place).head)
+IsLead kit end place (Leaves hit) = IsHitAt kit end place hit
+    × (from_text kit (rule_at kit place) hit.first ≢ value_at kit end (rule_at kit place).head)
 
 -- what is known of each rule
 pub record AreLeads (kit : Kit) (end : State) (leads : List Lead) : Type 0 where

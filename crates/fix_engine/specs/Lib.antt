@@ -1,8 +1,10 @@
-pub mod Coding
+pub mod Flags
+pub mod Runs
 pub mod Looks
-pub mod Plan
 pub mod Next
 pub mod Leads
 pub mod Departures
-pub mod Verdicts
 pub mod Turns
+pub mod Verdicts
+pub mod WorkSeen
+pub mod Coding

@@ -7,11 +7,15 @@ ghost use Rattle.fix_model.specs.Obeys.{Obeys, RecordAgrees, text_at};
 ghost use Rattle.fix_model.specs.Run.{IsMaximalRun, end_of};
 ghost use Rattle.fix_model.specs.States.{Fits, IsCovered, record_of, value_at};
 ghost use Rattle.fix_model.specs.Valid.{IsValid};
+ghost use Rattle.fix_engine.specs.declared.verdict.Verdict.{Verdict as VerdictOf};
 ghost use Rattle.fix_engine.specs.Verdicts.{IsAnswer};
+ghost use Rattle.fix_engine.specs.WorkSeen.{IsRoomFor};
 
+use crate::deciding::decide;
 use crate::verdict::Verdict;
-use desk_base::Text;
-use fix_model::{Kit, State, Step};
+use crate::work::Work;
+use desk_base::{Steps, Text};
+use fix_model::{Book, Kit, State, Step};
 
 /// There is one first run at most.
 pub fn one_first_run(kit: &Kit, state: &State, run: &[Step], other: &[Step])
@@ -63,6 +67,21 @@ pub fn one_answer(
     ensures second { second.now ≡ other_second.now }
     ensures verdict { verdict ≡ other }
 {}
+
+/// Every state has an answer: it is the one that `decide` gives whoever has room for the kit.
+pub fn every_state_has_an_answer<L, B: Book<L>>(
+    work: &mut Work,
+    book: &B,
+    state: &mut State,
+    counts: &mut Steps<L>,
+)
+    requires fits { Fits (B.kit book.now) state.old }
+    requires room { IsRoomFor work.old (B.kit book.now) }
+    ensures { (first second : List StepOf) × (verdict : VerdictOf)
+        × IsAnswer (B.kit book.now) state.old first second verdict }
+{
+    let _ = decide(work, book, state, counts);
+}
 
 /// Maximal runs that end in one record cover the same attributes.
 pub fn one_record_covers_alike(kit: &Kit, state: &State, run: &[Step], other: &[Step])

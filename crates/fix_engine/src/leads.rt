@@ -1,5 +1,5 @@
 //! What the rules do at the end of the first run.
-ghost use Rattle.std.specs.Prelude.{◌≡◌, ◌+◌, ◌<◌, ◌≤◌, ◌↔◌, length, IsTrue, vec_capacity};
+ghost use Rattle.std.specs.Prelude.{◌≡◌, ◌<◌, ◌≤◌, ◌↔◌, length, IsTrue, IfOk, slice_index_or, vec_capacity};
 ghost use Rattle.fix_model.specs.declared.kit.Kit.{Kit as KitOf};
 ghost use Rattle.fix_model.specs.declared.state.State.{State as StateOf};
 ghost use Rattle.fix_model.specs.Fix.{IsDissent};
@@ -8,11 +8,12 @@ ghost use Rattle.fix_model.specs.Run.{IsFinal};
 ghost use Rattle.fix_model.specs.States.{Fits};
 ghost use Rattle.fix_engine.specs.Departures.{Keeps};
 ghost use Rattle.fix_engine.specs.Leads.{AreLeads, IsLead, is_keeping, leaving_row};
-ghost use Rattle.fix_engine.specs.Looks.{AreKnown, pending_count};
+ghost use Rattle.fix_engine.specs.Looks.{Knows, LooksAround};
 
-use crate::looks::{Look, look_up};
+use crate::looks::Looks;
 use desk_base::Steps;
 use fix_model::{Book, Hit, State, Step, enabled, value};
+use std::alloc::{AllocError, Global};
 
 /// What a rule does at the end of the first run, where no step fires.
 #[derive(Clone, Copy, Debug, PartialEq, Eq)]
@@ -48,56 +49,99 @@ impl Lead {
     }
 }
 
-/// Finds what each rule does at the state. Each rule is looked up at most once.
-pub fn find_leads<L, B: Book<L>>(
-    leads: &mut Vec<Lead>,
-    looks: &mut [Look],
-    book: &B,
-    state: &State,
-    steps: &mut Steps<L>,
-)
-    requires fits { Fits (B.kit book.now) state.now }
-    requires known { AreKnown (B.kit book.now) state.now looks.old }
-    requires room { length (B.kit book.now).rules ≤ vec_capacity leads.old }
-    ensures leads { AreLeads (B.kit book.now) state.now leads.new.items }
-    ensures looks { steps.new.looks + pending_count looks.new ≤ steps.old.looks + pending_count looks.old }
-    ensures room { vec_capacity leads.old ≤ vec_capacity leads.new }
-{
-    leads.clear();
-    'rules: for rule in 0..book.rules().len() as u16 {
-        let lead = lead_of(looks, book, state, rule, steps);
-        leads.push(lead).unwrap();
+/// The lead of each rule.
+#[derive(Debug, Drop)]
+pub struct Leads {
+    pub(crate) leads: Vec<Lead>,
+}
+
+impl Leads {
+    /// Room for so many rules.
+    pub(crate) fn new(alloc: Global, rules: u16) -> Result<Leads, AllocError>
+        ensures { IfOk result (λ made. rules ≤ vec_capacity made.leads) }
+    {
+        Ok(Leads {
+            leads: Vec::with_capacity(alloc, usize::from(rules))?,
+        })
+    }
+
+    /// Finds what each rule does at the state. Each rule is looked up at most once.
+    pub(crate) fn find<L, B: Book<L>>(
+        &mut self,
+        looks: &mut Looks,
+        book: &B,
+        state: &State,
+        counts: &mut Steps<L>,
+    )
+        requires knows { Knows (B.kit book.now) state.now looks.old }
+        requires room { length (B.kit book.now).rules ≤ vec_capacity self.old.leads }
+        ensures leads { AreLeads (B.kit book.now) state.now self.new.leads.items }
+        ensures looks { LooksAround (B.kit book.now) state.now looks.old looks.new counts.old counts.new }
+        ensures room { vec_capacity self.old.leads ≤ vec_capacity self.new.leads }
+    {
+        self.leads.clear();
+        'rules: for rule in 0..book.rules().len() as u16 {
+            let lead = looks.lead_of(book, state, rule, counts);
+            self.leads.push(lead).unwrap();
+        }
+    }
+
+    /// What a rule does, nothing past the last rule.
+    pub(crate) fn lead(&self, rule: u16) -> Lead
+        ensures { result ≡ slice_index_or self.now.leads.items rule Lead.Nothing }
+    {
+        match self.leads.get(usize::from(rule)) {
+            Some(lead) => *lead,
+            None => Lead::Nothing,
+        }
+    }
+
+    /// The least step that dissents where these leads were found, and nothing fires.
+    pub(crate) fn dissent(&self) -> Option<Step>
+        requires { length self.now.leads.items ≤ 200 }
+        ensures { (kit : KitOf) (end : StateOf) → IsFinal kit end → AreLeads kit end self.now.leads.items
+            → IsDissent kit end result }
+    {
+        'rules: for (rule, lead) in self.leads.iter().enumerate() {
+            if let Some(row) = lead.leaving_row() {
+                return Some(Step {
+                    rule: rule as u16,
+                    row,
+                });
+            }
+        }
+        None
     }
 }
 
-fn lead_of<L, B: Book<L>>(
-    looks: &mut [Look],
-    book: &B,
-    state: &State,
-    rule: u16,
-    steps: &mut Steps<L>,
-) -> Lead
-    requires rule_within { rule < length (B.kit book.now).rules }
-    requires fits { Fits (B.kit book.now) state.now }
-    requires known { AreKnown (B.kit book.now) state.now looks.old }
-    ensures lead { IsLead (B.kit book.now) state.now rule result }
-    ensures known { AreKnown (B.kit book.now) state.now looks.new }
-    ensures looks { steps.new.looks + pending_count looks.new ≤ steps.old.looks + pending_count looks.old }
-{
-    if !enabled::<L, B>(book, state, &book.rules()[usize::from(rule)]) {
-        return Lead::Nothing;
-    }
-    let Some(hit) = look_up(looks, book, state, rule, steps) else {
-        return Lead::Nothing;
-    };
-    let first = Step {
-        rule,
-        row: hit.first,
-    };
-    if keeps::<L, B>(book, state, first) {
-        Lead::Keeps(hit)
-    } else {
-        Lead::Leaves(hit)
+impl Looks {
+    fn lead_of<L, B: Book<L>>(
+        &mut self,
+        book: &B,
+        state: &State,
+        rule: u16,
+        counts: &mut Steps<L>,
+    ) -> Lead
+        requires rule_within { rule < length (B.kit book.now).rules }
+        requires knows { Knows (B.kit book.now) state.now self.old }
+        ensures lead { IsLead (B.kit book.now) state.now rule result }
+        ensures looks { LooksAround (B.kit book.now) state.now self.old self.new counts.old counts.new }
+    {
+        if !enabled::<L, B>(book, state, &book.rules()[usize::from(rule)]) {
+            return Lead::Nothing;
+        }
+        let Some(hit) = self.look_up(book, state, rule, counts) else {
+            return Lead::Nothing;
+        };
+        let first = Step {
+            rule,
+            row: hit.first,
+        };
+        if keeps::<L, B>(book, state, first) {
+            Lead::Keeps(hit)
+        } else {
+            Lead::Leaves(hit)
+        }
     }
 }
 
@@ -109,20 +153,4 @@ fn keeps<L, B: Book<L>>(book: &B, state: &State, step: Step) -> bool
 {
     let head = book.rules()[usize::from(step.rule)].head;
     book.text(step).as_str() == value::<L, B>(book, state, head).as_str()
-}
-
-/// The least step that dissents where these leads were found, and nothing fires.
-pub fn dissent(leads: &[Lead]) -> Option<Step>
-    requires { length leads.now ≤ 200 }
-    ensures { (kit : KitOf) (end : StateOf) → IsFinal kit end → AreLeads kit end leads.now → IsDissent kit end result }
-{
-    'rules: for (rule, lead) in leads.iter().enumerate() {
-        if let Some(row) = lead.leaving_row() {
-            return Some(Step {
-                rule: rule as u16,
-                row,
-            });
-        }
-    }
-    None
 }

@@ -9,6 +9,7 @@
 mod deciding;
 mod departing;
 mod first_run;
+mod flags;
 pub mod laws;
 mod leads;
 mod looks;

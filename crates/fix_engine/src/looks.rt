@@ -1,45 +1,74 @@
 //! The looks into a book, each made at most once for a rule.
-ghost use Rattle.std.specs.Prelude.{◌≡◌, ◌+◌, ◌<◌, ◌≤◌, All, length};
+ghost use Rattle.std.specs.Prelude.{◌≡◌, ◌<◌, ◌≤◌, All, length, replicate, IfOk, vec_capacity};
 ghost use Rattle.fix_model.specs.Hit.{IsFound};
 ghost use Rattle.fix_model.specs.Rules.{rule_at};
-ghost use Rattle.fix_model.specs.States.{Fits, IsCovered, value_at};
-ghost use Rattle.fix_engine.specs.Looks.{AreKnown, pending_count};
+ghost use Rattle.fix_model.specs.States.{IsCovered, value_at};
+ghost use Rattle.fix_engine.specs.Looks.{Knows, LooksAround};
 
 use desk_base::Steps;
-use fix_model::{Book, Hit, State};
+use fix_model::{Book, Hit, Rule, State};
+use std::alloc::{AllocError, Global};
 
-/// What is known of a rule's rows.
+/// What is remembered of a rule's rows.
 #[derive(Clone, Copy, Debug, PartialEq, Eq)]
-pub enum Look {
-    /// The rule was not looked up yet.
+pub enum Remembered {
+    /// Nothing: the rule was not looked up yet.
     Pending,
     /// What the look found.
     Done(Option<Hit>),
 }
 
-/// What a look for the rule finds. It is made where it was not made yet, and remembered.
-pub fn look_up<L, B: Book<L>>(
-    looks: &mut [Look],
-    book: &B,
-    state: &State,
-    rule: u16,
-    steps: &mut Steps<L>,
-) -> Option<Hit>
-    requires rule_within { rule < length (B.kit book.now).rules }
-    requires fits { Fits (B.kit book.now) state.now }
-    requires known { AreKnown (B.kit book.now) state.now looks.old }
-    requires covered { All (λ key. IsCovered state.now key.0) (rule_at (B.kit book.now) rule).keys }
-    ensures found { IsFound (B.kit book.now) (value_at (B.kit book.now) state.now) (rule_at (B.kit book.now) rule) result }
-    ensures known { AreKnown (B.kit book.now) state.now looks.new }
-    ensures looks { steps.new.looks + pending_count looks.new ≤ steps.old.looks + pending_count looks.old }
-{
-    let place = usize::from(rule);
-    match looks[place] {
-        Look::Done(answer) => answer,
-        Look::Pending => {
-            let answer = book.find(rule, state, steps);
-            looks[place] = Look::Done(answer);
-            answer
+/// What is remembered of the looks, for each rule.
+#[derive(Debug, Drop)]
+pub struct Looks {
+    pub(crate) remembered: Vec<Remembered>,
+}
+
+impl Looks {
+    /// Room for so many rules.
+    pub(crate) fn new(alloc: Global, rules: u16) -> Result<Looks, AllocError>
+        ensures { IfOk result (λ looks. rules ≤ vec_capacity looks.remembered) }
+    {
+        Ok(Looks {
+            remembered: Vec::with_capacity(alloc, usize::from(rules))?,
+        })
+    }
+
+    /// Remembers no look, for as many rules.
+    pub(crate) fn forget(&mut self, rules: &[Rule])
+        requires { length rules.now ≤ vec_capacity self.old.remembered }
+        ensures forgotten { self.new.remembered.items ≡ replicate (length rules.now) Remembered.Pending }
+        ensures room { vec_capacity self.old.remembered ≤ vec_capacity self.new.remembered }
+    {
+        self.remembered.clear();
+        'rules: for _ in rules {
+            self.remembered.push(Remembered::Pending).unwrap();
+        }
+    }
+
+    /// What a look for the rule finds. It is made where it was not made yet, and remembered.
+    pub(crate) fn look_up<L, B: Book<L>>(
+        &mut self,
+        book: &B,
+        state: &State,
+        rule: u16,
+        counts: &mut Steps<L>,
+    ) -> Option<Hit>
+        requires rule_within { rule < length (B.kit book.now).rules }
+        requires knows { Knows (B.kit book.now) state.now self.old }
+        requires covered { All (λ key. IsCovered state.now key.0) (rule_at (B.kit book.now) rule).keys }
+        ensures found { IsFound (B.kit book.now) (value_at (B.kit book.now) state.now)
+            (rule_at (B.kit book.now) rule) result }
+        ensures looks { LooksAround (B.kit book.now) state.now self.old self.new counts.old counts.new }
+    {
+        let place = usize::from(rule);
+        match self.remembered[place] {
+            Remembered::Done(answer) => answer,
+            Remembered::Pending => {
+                let answer = book.find(rule, state, counts);
+                self.remembered[place] = Remembered::Done(answer);
+                answer
+            }
         }
     }
 }

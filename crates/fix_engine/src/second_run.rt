@@ -1,15 +1,13 @@
 //! The second run: the least that ends in another record than the first.
-ghost use Rattle.std.specs.Prelude.{◌≡◌, ◌≢◌, ◌+◌, ◌<◌, ◌≤◌, ◌++◌, ℕ, true, false, List, length, MatchBool, MatchOption, vec_capacity};
+ghost use Rattle.std.specs.Prelude.{◌≡◌, ◌+◌, ◌<◌, ◌≤◌, true, false, length, MatchOption, vec_capacity};
 ghost use Rattle.fix_model.specs.declared.state.State.{State as StateOf};
-ghost use Rattle.fix_model.specs.declared.state.Step.{Step as StepOf};
-ghost use Rattle.fix_model.specs.FirstRun.{IsFirstRun};
-ghost use Rattle.fix_model.specs.Run.{end_of};
 ghost use Rattle.fix_model.specs.States.{Fits, uncovered_count};
 ghost use Rattle.fix_model.specs.Valid.{IsValid};
-ghost use Rattle.fix_engine.specs.Departures.{AreDepartures, IsFlagged, IsLedTo};
-ghost use Rattle.fix_engine.specs.Turns.{CanDepartSomewhere, IsLeastElsewhere, IsLeastOf, IsLeastOfAll, IsPassed, IsTurn};
+ghost use Rattle.fix_engine.specs.Departures.{AreDepartures, IsLedTo};
+ghost use Rattle.fix_engine.specs.Turns.{BeginsElsewhere, CanDepartSomewhere, IsLeastOf, IsLeastOfAll, IsLeftFrom, IsPassed, IsTurn};
 
-use crate::leads::Lead;
+use crate::flags::has_other;
+use crate::leads::{Lead, Leads};
 use crate::runs::make;
 use fix_model::{Book, State, Step, enabled};
 
@@ -20,132 +18,109 @@ pub struct Turn {
     pub departs: bool,
 }
 
-/// Makes the steps of the second run up to its departure, behind the steps that are there.
-pub fn depart<L, B: Book<L>>(
-    run: &mut Vec<Step>,
-    departures: &mut [bool],
-    leads: &[Lead],
-    book: &B,
-    state: &mut State,
-)
-    requires valid { IsValid (B.kit book.now) }
-    requires fits { Fits (B.kit book.now) state.old }
-    requires leads { length leads.now ≡ length (B.kit book.now).rules }
-    requires led { (end : StateOf) × IsLedTo (B.kit book.now) state.old end leads.now
-        × AreDepartures (B.kit book.now) end state.old departures.old
-        × CanDepartSomewhere (B.kit book.now) end state.old }
-    requires departures { length departures.old ≡ (B.kit book.now).width }
-    requires room { length run.old.items + uncovered_count state.old ≤ vec_capacity run.old }
-    ensures departed { (end : StateOf) → IsLedTo (B.kit book.now) state.old end leads.now
-        → AreDepartures (B.kit book.now) end state.old departures.old
-        → CanDepartSomewhere (B.kit book.now) end state.old
-        → (rest : List StepOf) × (run.new.items ≡ run.old.items ++ rest)
-        × (state.new ≡ end_of (B.kit book.now) state.old rest)
-        × ((more : List StepOf) → IsFirstRun (B.kit book.now) state.new more
-        → IsLeastElsewhere (B.kit book.now) end state.old (rest ++ more)) }
-    ensures fits { Fits (B.kit book.now) state.new }
-    ensures typed { state.new.typed ≡ state.old.typed }
-    ensures room { length run.new.items + uncovered_count state.new ≤ vec_capacity run.new }
-    ensures capacity { vec_capacity run.old ≤ vec_capacity run.new }
-{
-    'turns: while let Some(turn) = next_turn(leads, departures, book, state) {
-        make::<L, B>(book, state, turn.step);
-        run.push(turn.step).unwrap();
-        if turn.departs {
-            return;
+impl Turn {
+    fn departing(rule: u16, row: u32) -> Turn
+        ensures { result ≡ record { step = record { rule = rule; row = row }; departs = true } }
+    {
+        Turn {
+            step: Step { rule, row },
+            departs: true,
         }
-        let head = book.rules()[usize::from(turn.step.rule)].head;
-        departures[usize::from(head)] = false;
+    }
+
+    fn keeping(rule: u16, row: u32) -> Turn
+        ensures { result ≡ record { step = record { rule = rule; row = row }; departs = false } }
+    {
+        Turn {
+            step: Step { rule, row },
+            departs: false,
+        }
     }
 }
 
-/// The next step of the second run, or none where no run ends in another record.
-fn next_turn<L, B: Book<L>>(
-    leads: &[Lead],
-    departures: &[bool],
-    book: &B,
-    state: &State,
-) -> Option<Turn>
-    requires fits { Fits (B.kit book.now) state.now }
-    requires leads { length leads.now ≡ length (B.kit book.now).rules }
-    ensures { (end : StateOf) → IsLedTo (B.kit book.now) state.now end leads.now
-        → AreDepartures (B.kit book.now) end state.now departures.now
-        → MatchOption result (¬ CanDepartSomewhere (B.kit book.now) end state.now)
-        (λ turn. IsTurn (B.kit book.now) end state.now turn × IsLeastOfAll (B.kit book.now) end state.now turn.step) }
-{
-    let count = book.rules().len() as u16;
-    'rules: for rule in 0..count {
-        if let Some(turn) = turn_of(leads, departures, book, state, rule) {
-            return Some(turn);
-        }
-    }
-    None
-}
-
-/// The step of the second run by a rule, or none where no run that ends in another record goes on by it.
-fn turn_of<L, B: Book<L>>(
-    leads: &[Lead],
-    departures: &[bool],
-    book: &B,
-    state: &State,
-    rule: u16,
-) -> Option<Turn>
-    requires fits { Fits (B.kit book.now) state.now }
-    requires leads { length leads.now ≡ length (B.kit book.now).rules }
-    requires rule_within { rule < length (B.kit book.now).rules }
-    ensures { (end : StateOf) → IsLedTo (B.kit book.now) state.now end leads.now
-        → AreDepartures (B.kit book.now) end state.now departures.now
-        → MatchOption result (IsPassed (B.kit book.now) end state.now rule)
-        (λ turn. IsTurn (B.kit book.now) end state.now turn × (turn.step.rule ≡ rule)
-        × IsLeastOf (B.kit book.now) end state.now rule turn.step) }
-{
-    let this = &book.rules()[usize::from(rule)];
-    if state.covers(this.head) || !enabled::<L, B>(book, state, this) {
-        return None;
-    }
-    let lead = leads[usize::from(rule)];
-    match lead {
-        Lead::Nothing => None,
-        Lead::Leaves(hit) => Some(departing(rule, hit.first)),
-        Lead::Keeps(hit) => {
-            if has_other(departures, this.head) {
-                return Some(keeping(rule, hit.first));
+impl Leads {
+    /// Makes the steps of the second run up to its departure, behind the steps that are there.
+    pub(crate) fn depart<L, B: Book<L>>(
+        &self,
+        run: &mut Vec<Step>,
+        departures: &mut [bool],
+        book: &B,
+        state: &mut State,
+    )
+        requires valid { IsValid (B.kit book.now) }
+        requires fits { Fits (B.kit book.now) state.old }
+        requires left { (end : StateOf)
+            × IsLeftFrom (B.kit book.now) state.old end self.now.leads.items departures.old }
+        requires room { length run.old.items + uncovered_count state.old ≤ vec_capacity run.old }
+        ensures departed { (end : StateOf)
+            → IsLeftFrom (B.kit book.now) state.old end self.now.leads.items departures.old
+            → BeginsElsewhere (B.kit book.now) end state.old state.new run.old.items run.new.items }
+        ensures fits { Fits (B.kit book.now) state.new }
+        ensures typed { state.new.typed ≡ state.old.typed }
+        ensures room { length run.new.items + uncovered_count state.new ≤ vec_capacity run.new }
+        ensures capacity { vec_capacity run.old ≤ vec_capacity run.new }
+    {
+        'turns: while let Some(turn) = self.next_turn(departures, book, state) {
+            make::<L, B>(book, state, turn.step);
+            run.push(turn.step).unwrap();
+            if turn.departs {
+                return;
             }
-            match hit.other {
-                Some(row) => Some(departing(rule, row)),
-                None => None,
+            let head = book.rules()[usize::from(turn.step.rule)].head;
+            departures[usize::from(head)] = false;
+        }
+    }
+
+    /// The next step of the second run, or none where no run ends in another record.
+    fn next_turn<L, B: Book<L>>(&self, departures: &[bool], book: &B, state: &State) -> Option<Turn>
+        requires { Fits (B.kit book.now) state.now }
+        ensures { (end : StateOf) → IsLedTo (B.kit book.now) state.now end self.now.leads.items
+            → AreDepartures (B.kit book.now) end state.now departures.now
+            → MatchOption result (¬ CanDepartSomewhere (B.kit book.now) end state.now)
+            (λ turn. IsTurn (B.kit book.now) end state.now turn
+            × IsLeastOfAll (B.kit book.now) end state.now turn.step) }
+    {
+        let count = book.rules().len() as u16;
+        'rules: for rule in 0..count {
+            if let Some(turn) = self.turn_of(departures, book, state, rule) {
+                return Some(turn);
             }
         }
+        None
     }
-}
 
-fn departing(rule: u16, row: u32) -> Turn
-    ensures { result ≡ record { step = record { rule = rule; row = row }; departs = true } }
-{
-    Turn {
-        step: Step { rule, row },
-        departs: true,
-    }
-}
-
-fn keeping(rule: u16, row: u32) -> Turn
-    ensures { result ≡ record { step = record { rule = rule; row = row }; departs = false } }
-{
-    Turn {
-        step: Step { rule, row },
-        departs: false,
-    }
-}
-
-/// Whether another attribute than this one is flagged.
-fn has_other(flags: &[bool], attribute: u16) -> bool
-    ensures { MatchBool result ((other : ℕ) × IsFlagged flags.now other × (other ≢ attribute))
-        ((other : ℕ) → IsFlagged flags.now other → other ≡ attribute) }
-{
-    'flags: for (place, flag) in flags.iter().enumerate() {
-        if *flag && place != usize::from(attribute) {
-            return true;
+    /// The step of the second run by a rule, or none where no run that ends in another record goes on by it.
+    fn turn_of<L, B: Book<L>>(
+        &self,
+        departures: &[bool],
+        book: &B,
+        state: &State,
+        rule: u16,
+    ) -> Option<Turn>
+        requires fits { Fits (B.kit book.now) state.now }
+        requires rule_within { rule < length (B.kit book.now).rules }
+        ensures { (end : StateOf) → IsLedTo (B.kit book.now) state.now end self.now.leads.items
+            → AreDepartures (B.kit book.now) end state.now departures.now
+            → MatchOption result (IsPassed (B.kit book.now) end state.now rule)
+            (λ turn. IsTurn (B.kit book.now) end state.now turn × (turn.step.rule ≡ rule)
+            × IsLeastOf (B.kit book.now) end state.now rule turn.step) }
+    {
+        let this = &book.rules()[usize::from(rule)];
+        if state.covers(this.head) || !enabled::<L, B>(book, state, this) {
+            return None;
+        }
+        match self.lead(rule) {
+            Lead::Nothing => None,
+            Lead::Leaves(hit) => Some(Turn::departing(rule, hit.first)),
+            Lead::Keeps(hit) => {
+                if has_other(departures, this.head) {
+                    return Some(Turn::keeping(rule, hit.first));
+                }
+                match hit.other {
+                    Some(row) => Some(Turn::departing(rule, row)),
+                    None => None,
+                }
+            }
         }
     }
-    false
 }

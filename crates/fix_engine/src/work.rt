@@ -1,21 +1,20 @@
 //! The room that the engine works in, taken once.
-ghost use Rattle.std.specs.Prelude.{◌≡◌, [], IfOk, OnErr};
+ghost use Rattle.std.specs.Prelude.{◌≡◌, [], IfOk};
 
-use crate::leads::Lead;
-use crate::looks::Look;
+use crate::leads::Leads;
+use crate::looks::Looks;
+use crate::runs::Runs;
 use desk_base::NoMemory;
-use fix_model::{Cell, Step};
-use std::alloc::{AllocError, Global};
+use fix_model::Step;
+use std::alloc::Global;
 use std::marker::Model;
 
 /// Room for the calls of the engine, which take no memory themselves.
 #[derive(Debug, Drop)]
 pub struct Work {
-    pub(crate) run: Vec<Step>,
-    pub(crate) other_run: Vec<Step>,
-    pub(crate) looks: Vec<Look>,
-    pub(crate) leads: Vec<Lead>,
-    pub(crate) saved: Vec<Cell>,
+    pub(crate) runs: Runs,
+    pub(crate) looks: Looks,
+    pub(crate) leads: Leads,
     pub(crate) reach: Vec<bool>,
     pub(crate) departures: Vec<bool>,
     pub(crate) attributes: u16,
@@ -24,16 +23,24 @@ pub struct Work {
 
 impl Model for Work {
     ghost use Rattle.std.specs.Prelude.{vec_capacity};
-    ghost use Rattle.fix_engine.specs.Plan.{HasRoom, Plan};
-    ghost use Rattle.fix_engine.specs.Coding.{plan_code};
+    ghost use Rattle.fix_engine.specs.WorkSeen.{HasRoom, WorkSeen};
+    ghost use Rattle.fix_engine.specs.Coding.{work_seen_code};
 
-    ghost Value = { Plan };
+    ghost Value = { WorkSeen };
 
-    ghost coded = { plan_code };
+    ghost coded = { work_seen_code };
 
-    ghost view = { λ w. record { first = w.run.items; second = w.other_run.items; width = w.attributes; rules = w.rule_count } };
+    ghost view = { λ w. record {
+      first = w.runs.first.items;
+      second = w.runs.second.items;
+      width = w.attributes;
+      rules = w.rule_count;
+    } };
 
-    ghost invariant = { λ w. HasRoom w.attributes w.rule_count (vec_capacity w.run) (vec_capacity w.other_run) (vec_capacity w.saved) (vec_capacity w.reach) (vec_capacity w.departures) (vec_capacity w.looks) (vec_capacity w.leads) };
+    ghost invariant = { λ w. HasRoom w.attributes w.rule_count
+        (vec_capacity w.runs.first) (vec_capacity w.runs.second) (vec_capacity w.runs.saved)
+        (vec_capacity w.reach) (vec_capacity w.departures)
+        (vec_capacity w.looks.remembered) (vec_capacity w.leads.leads) };
 }
 
 impl Work {
@@ -41,24 +48,12 @@ impl Work {
     pub fn new(alloc: Global, width: u16, rules: u16) -> Result<Work, NoMemory>
         ensures { IfOk result (λ work. work ≡ record { first = []; second = []; width = width; rules = rules }) }
     {
-        match Work::reserve(alloc, width, rules) {
-            Ok(work) => Ok(work),
-            Err(_) => Err(NoMemory),
-        }
-    }
-
-    fn reserve(alloc: Global, width: u16, rules: u16) -> Result<Work, AllocError>
-        ensures { IfOk result (λ work. work ≡ record { first = []; second = []; width = width; rules = rules }) }
-    {
-        let places = usize::from(width);
         Ok(Work {
-            run: Vec::with_capacity(alloc, places)?,
-            other_run: Vec::with_capacity(alloc, places)?,
-            looks: Vec::with_capacity(alloc, usize::from(rules))?,
-            leads: Vec::with_capacity(alloc, usize::from(rules))?,
-            saved: Vec::with_capacity(alloc, places)?,
-            reach: Vec::with_capacity(alloc, places)?,
-            departures: Vec::with_capacity(alloc, places)?,
+            runs: Runs::new(alloc, width)?,
+            looks: Looks::new(alloc, rules)?,
+            leads: Leads::new(alloc, rules)?,
+            reach: Vec::with_capacity(alloc, usize::from(width))?,
+            departures: Vec::with_capacity(alloc, usize::from(width))?,
             attributes: width,
             rule_count: rules,
         })
@@ -68,13 +63,13 @@ impl Work {
     pub fn first(&self) -> &[Step]
         ensures { result.now ≡ self.now.first }
     {
-        self.run.as_slice()
+        self.runs.first.as_slice()
     }
 
     /// The second run that the last call left, empty where it left none.
     pub fn second(&self) -> &[Step]
         ensures { result.now ≡ self.now.second }
     {
-        self.other_run.as_slice()
+        self.runs.second.as_slice()
     }
 }

@@ -10,6 +10,8 @@ returns c =
     let run = c.args.run.now in
     let other = c.args.other.now in
     λ attribute. (
-      (IsInside-alike kit c.requires.valid state run other c.requires.fits c.requires.run.0 c.requires.other c.requires.alike).covered attribute,
-      (IsInside-alike kit c.requires.valid state other run c.requires.fits c.requires.other.0 c.requires.run (sym c.requires.alike)).covered attribute,
+      (IsInside-alike kit c.requires.valid state run other c.requires.fits c.requires.run.0 c.requires.other
+          c.requires.alike).covered attribute,
+      (IsInside-alike kit c.requires.valid state other run c.requires.fits c.requires.other.0 c.requires.run
+          (sym c.requires.alike)).covered attribute,
     )

@@ -1,0 +1,24 @@
+use Rattle.std.proofs.Common.{ap, arith, below_more, length}
+use Rattle.fix_engine.specs.Turns.{IsPassed}
+use Rattle.fix_engine.proofs.Turns.{IsLeastOfAll-passed, departs_nowhere}
+use Rattle.fix_engine.proofs.leads.Leads.next_turn.Goals as goal
+
+pub rules-preserved : goal.rules-preserved
+rules-preserved g c = λ end led departures.
+    below_more (IsPassed (g.B.Book.kit c.args.book.now) end c.args.state.now) c.rules.rule
+    (c.rules.invariant end led departures) (c.in_default.ensures end led departures)
+
+pub returns-in-Some : goal.returns-in-Some
+returns-in-Some g c = λ end led departures.
+    let kit = g.B.Book.kit c.args.book.now in
+    let turn = c.in-Some.ensures end led departures in (
+      turn.0,
+      IsLeastOfAll-passed kit c.rules-2.ensures.valid end c.args.self.now.leads.items c.args.state.now c.requires
+          led c.rules.rule c.in-Some.turn.step turn.1 (c.rules.invariant end led departures) turn.2,
+    )
+
+pub returns : goal.returns
+returns g c = λ end led departures.
+    let kit = g.B.Book.kit c.args.book.now in
+    departs_nowhere kit c.rules-2.ensures.valid end c.args.self.now.leads.items c.args.state.now c.requires led
+    (λ place within. c.rules.invariant end led departures place (omega (arith, ap length c.rules-2.ensures.rules)))

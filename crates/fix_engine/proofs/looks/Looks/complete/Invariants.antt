@@ -1,0 +1,22 @@
+use Rattle.std.proofs.Common.{◌≤◌, ◌+◌, length}
+use Rattle.std.specs.Prelude.{vec_capacity}
+use Rattle.fix_model.specs.States.{Fits, uncovered_count}
+use Rattle.fix_engine.specs.Looks.{LooksAround}
+use Rattle.fix_engine.proofs.FirstRuns.{IsBeginning}
+use Rattle.fix_engine.proofs.looks.Looks.complete.Given as goal
+
+-- the steps so far lead to the state, and are the beginning of the first run
+abbrev pub invariant-steps : goal.invariant-steps
+invariant-steps g l =
+    let kit = g.B.Book.kit l.book in
+    record {
+      beginning : IsBeginning kit l.fn.state l.state l.fn.run.items l.run.items;
+      fits : Fits kit l.state;
+      looks : LooksAround kit l.state l.fn.self l.self l.fn.counts l.counts;
+      places : length l.run.items + uncovered_count l.state ≤ vec_capacity l.run;
+      room : vec_capacity l.fn.run ≤ vec_capacity l.run;
+    }
+
+-- each step covers an attribute more
+abbrev pub decreases-steps : goal.decreases-steps
+decreases-steps g l = uncovered_count l.state
