@@ -10,7 +10,7 @@ returns-in-Pending-clause-looks g c =
     let within : c.from-place.result < length c.args.self.now.remembered.items =
     rw (place_is, known.whole) c.requires.rule_within in
     LooksAround-new (g.B.Book.kit c.args.book.now) c.args.state.now c.args.self.now _ c.args.counts.now
-    c.find-answer.new.steps
+    c.find-answer.new.counts
     c.from-place.result c.find-answer.result c.index.result.now
     within (search (rules, c.index.ensures, c.in-Pending.is))
     (rw place_is (record { covered = c.requires.covered; found = c.find-answer.ensures.found }))
