@@ -3,7 +3,6 @@ pub mod Counts
 pub mod Faults
 pub mod Grid
 pub mod Lending
-pub mod Limits
 pub mod Roomy
 pub mod Memory
 pub mod Places

@@ -1,7 +1,7 @@
 -- The names that clerks and published things have, and the words that attributes and rules have.
 use Rattle.std.specs.Prelude.{ℕ, Bool, false, ◌&&◌, ◌||◌, ◌==◌, nat_le, List, [], ◌∷◌, length}
 use Rattle.std.specs.List.{list_all}
-use Rattle.desk_base.specs.Limits.{MAX_WORD}
+use Rattle.desk_base.specs.declared.limits.TheConstants.{MAX_WORD}
 use Rattle.std.specs.Char.{is_ascii_alphabetic, is_ascii_alphanumeric, is_ascii_digit, is_ascii_lowercase}
 
 -- the first byte passes the test

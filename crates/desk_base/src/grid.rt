@@ -22,7 +22,7 @@ pub struct Grid {
 impl Model for Grid {
     ghost use Rattle.std.specs.Prelude.{◌≡◌, ◌*◌, ◌≤◌, length};
     ghost use Rattle.desk_base.specs.Grid.{GridRows, grid_rows_code, rows_of};
-    ghost use Rattle.desk_base.specs.Limits.{MAX_ROWS};
+    ghost use Rattle.desk_base.specs.declared.limits.TheConstants.{MAX_ROWS};
 
     ghost Value = { GridRows };
 

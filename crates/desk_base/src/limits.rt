@@ -1,4 +1,4 @@
-//! The limits of the desk, each once. `specs/Limits.antt` has them for definitions.
+//! The limits of the desk, each once. Definitions of every crate take these constants.
 
 /// The most bytes of a cell.
 pub const MAX_TEXT: usize = 200;

@@ -17,7 +17,7 @@ pub struct Text {
 
 impl Model for Text {
     ghost use Rattle.std.specs.Prelude.{ℕ, List, ◌≤◌, length, string_bytes};
-    ghost use Rattle.desk_base.specs.Limits.{MAX_TEXT};
+    ghost use Rattle.desk_base.specs.declared.limits.TheConstants.{MAX_TEXT};
 
     ghost Value = { List ℕ };
 

@@ -1,5 +1,5 @@
 //! The forms of names and words.
-ghost use Rattle.std.specs.Prelude.{◌≡◌};
+ghost use Rattle.std.specs.Prelude.{◌≡◌, ◌≤◌, length, IsTrue};
 ghost use Rattle.std.specs.List.{list_all};
 ghost use Rattle.std.specs.Char.{is_ascii_lowercase};
 ghost use Rattle.desk_base.specs.Words.{begins_with, is_word_byte, starts_word, is_word, is_name_byte, is_name};
@@ -59,7 +59,8 @@ fn has_name_bytes(bytes: &[u8]) -> bool
 /// Whether these bytes are a word, the form of attributes and rules: 1 to 32 bytes, an ASCII letter or
 /// `_`, then letters, digits or `_`.
 pub fn is_word(bytes: &[u8]) -> bool
-    ensures { result ≡ is_word bytes.now }
+    ensures form { result ≡ is_word bytes.now }
+    ensures short { IsTrue result → length bytes.now ≤ MAX_WORD }
 {
     begins_word(bytes) && has_word_bytes(bytes) && bytes.len() <= MAX_WORD
 }
@@ -67,7 +68,8 @@ pub fn is_word(bytes: &[u8]) -> bool
 /// Whether these bytes are a name, the form of clerks, schemas, masters, rulebooks and editions: 1 to 32
 /// bytes, a small ASCII letter, then small letters, digits or `_`.
 pub fn is_name(bytes: &[u8]) -> bool
-    ensures { result ≡ is_name bytes.now }
+    ensures form { result ≡ is_name bytes.now }
+    ensures short { IsTrue result → length bytes.now ≤ MAX_WORD }
 {
     begins_name(bytes) && has_name_bytes(bytes) && bytes.len() <= MAX_WORD
 }

@@ -5,7 +5,8 @@ use Rattle.std.specs.List.{list_all}
 use Rattle.std.specs.Str.{is_utf8}
 use Rattle.std.proofs.lemmas.Bool.{cases_Bool, lt-ltb, le-ltb, ltb-false, eq-eqb, eqb-true}
 use Rattle.desk_base.specs.Grid.{GridRows}
-use Rattle.master_rows.specs.Header.{is_column, stands_among, columns_fault, header_fault}
+use Rattle.desk_base.specs.Places.{has_text}
+use Rattle.master_rows.specs.Header.{is_column, columns_fault, header_fault}
 use Rattle.master_rows.specs.Row.{cells_fault, row_fault, rows_fault, first_fault}
 use Rattle.master_rows.specs.Sheet.{read_records}
 use Rattle.master_rows.specs.Draft.{IsFaultless, HasNoFault, records_taken}
@@ -17,11 +18,11 @@ pub columns_fault-bad : (earlier later : List (List ℕ)) (column : List ℕ) �
 columns_fault-bad earlier later column bad = rw bad refl
 
 -- a column that stands among the earlier ones
-pub columns_fault-twice : (earlier later : List (List ℕ)) (column : List ℕ) → is_column column ≡ true → stands_among earlier column ≡ true → columns_fault earlier (column ∷ later) ≡ Some (ColumnTwice (length earlier + 1))
+pub columns_fault-twice : (earlier later : List (List ℕ)) (column : List ℕ) → is_column column ≡ true → has_text earlier column ≡ true → columns_fault earlier (column ∷ later) ≡ Some (ColumnTwice (length earlier + 1))
 columns_fault-twice earlier later column good twice = rw (good, twice) refl
 
 -- another column
-pub columns_fault-next : (earlier later : List (List ℕ)) (column : List ℕ) → is_column column ≡ true → stands_among earlier column ≡ false → columns_fault earlier (column ∷ later) ≡ columns_fault (earlier ++ column ∷ []) later
+pub columns_fault-next : (earlier later : List (List ℕ)) (column : List ℕ) → is_column column ≡ true → has_text earlier column ≡ false → columns_fault earlier (column ∷ later) ≡ columns_fault (earlier ++ column ∷ []) later
 columns_fault-next earlier later column good new = rw (good, new) refl
 
 -- a cell that is too long

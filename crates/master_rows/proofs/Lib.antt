@@ -1,3 +1,4 @@
+pub mod Stops
 pub mod Records
 pub mod Faults
 pub mod Memory

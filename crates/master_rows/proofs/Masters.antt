@@ -14,7 +14,8 @@ use Rattle.std.proofs.lemmas.List.Folds.{list_any_none}
 use Rattle.std.proofs.lemmas.List.Sums.{list_all-from_AllPass}
 use Rattle.std.proofs.lemmas.List.Quantifiers.{all_pairs_push}
 use Rattle.master_rows.specs.Mark.{begins_with_mark, begins_with_two_marks}
-use Rattle.master_rows.specs.Header.{is_column, stands_among, columns_fault, header_fault}
+use Rattle.desk_base.specs.Places.{has_text}
+use Rattle.master_rows.specs.Header.{is_column, columns_fault, header_fault}
 use Rattle.master_rows.specs.Row.{cells_fault, rows_fault}
 use Rattle.master_rows.specs.Sheet.{read_sheet, sheet_records, read_records, master_records, unless}
 use Rattle.master_rows.specs.Master.{IsColumn, IsCell, IsRow, IsMaster}
@@ -62,25 +63,25 @@ neither false b h = (refl, h)
 neither true b h = absurd cc
 
 -- a text that none of the others equals does not stand among them
-stands_among-none : (earlier : List (List ℕ)) (column : List ℕ) → ((k : ℕ) (d : List ℕ) → k < length earlier → get_or earlier k d ≢ column) → stands_among earlier column ≡ false
-stands_among-none earlier column differs = list_any_none (bytes_eq column) earlier (λ k d within. bytes_eq-differ column (get_or earlier k d) (λ same. differs k d within (sym same)))
+has_text-none : (earlier : List (List ℕ)) (column : List ℕ) → ((k : ℕ) (d : List ℕ) → k < length earlier → get_or earlier k d ≢ column) → has_text earlier column ≡ false
+has_text-none earlier column differs = list_any_none (bytes_eq column) earlier (λ k d within. bytes_eq-differ column (get_or earlier k d) (λ same. differs k d within (sym same)))
 
 -- and differs from each, where it does not
-stands_among-differs : (earlier : List (List ℕ)) (column : List ℕ) → stands_among earlier column ≡ false → (k : ℕ) (d : List ℕ) → k < length earlier → get_or earlier k d ≢ column
-stands_among-differs [] column new k d within = absurd (omega arith)
-stands_among-differs (text ∷ earlier) column new zero d within = bytes_eq-refused column text (neither _ _ new).0
-stands_among-differs (text ∷ earlier) column new (suc k) d within = stands_among-differs earlier column (neither _ _ new).1 k d (omega arith)
+has_text-differs : (earlier : List (List ℕ)) (column : List ℕ) → has_text earlier column ≡ false → (k : ℕ) (d : List ℕ) → k < length earlier → get_or earlier k d ≢ column
+has_text-differs [] column new k d within = absurd (omega arith)
+has_text-differs (text ∷ earlier) column new zero d within = bytes_eq-refused column text (neither _ _ new).0
+has_text-differs (text ∷ earlier) column new (suc k) d within = has_text-differs earlier column (neither _ _ new).1 k d (omega arith)
 
 -- columns without a fault are columns that differ
 columns_fault-none : (earlier later : List (List ℕ)) → columns_fault earlier later ≡ None → list_all is_utf8 later ≡ true → AllPairs (λ one other. one ≢ other) earlier → All IsColumn later × AllPairs (λ one other. one ≢ other) (earlier ++ later)
 columns_fault-none earlier [] none utf8 differ = (All-nil IsColumn, rw append-nil differ)
 columns_fault-none earlier (column ∷ later) none utf8 differ = elim (cases_Bool (is_column column)) [
   | inr bad ↦ absurd (let e = sym (columns_fault-bad earlier later column bad) ∙ none in cc)
-  | inl good ↦ elim (cases_Bool (stands_among earlier column)) [
+  | inl good ↦ elim (cases_Bool (has_text earlier column)) [
     | inl twice ↦ absurd (let e = sym (columns_fault-twice earlier later column good twice) ∙ none in cc)
     | inr new ↦
         let texts = both _ _ utf8 in
-        let grown = all_pairs_push (λ one other. one ≢ other) earlier column differ (stands_among-differs earlier column new) in
+        let grown = all_pairs_push (λ one other. one ≢ other) earlier column differ (has_text-differs earlier column new) in
         let rest = columns_fault-none (earlier ++ column ∷ []) later (sym (columns_fault-next earlier later column good new) ∙ none) texts.1 grown in
         (All-cons IsColumn column later (IsColumn-passed column texts.0 good) rest.0, rw append_assoc at rest.1)
   ]
@@ -91,7 +92,7 @@ columns_fault-differ : (earlier later : List (List ℕ)) → All IsColumn later 
 columns_fault-differ earlier [] columns differ = refl
 columns_fault-differ earlier (column ∷ later) columns differ =
     let good = is_column-IsColumn column (All-head IsColumn column later columns) in
-    let new = stands_among-none earlier column (λ k d within.
+    let new = has_text-none earlier column (λ k d within.
     let inside : length earlier < length (earlier ++ column ∷ later) = omega (arith, length-append earlier (column ∷ later)) in
     rw (get_or-append earlier (column ∷ later) d k within, get_or-append_seam earlier column later d) at (differ k (length earlier) d within inside)) in
     columns_fault-next earlier later column good new ∙ columns_fault-differ (earlier ++ column ∷ []) later (All-tail IsColumn column later columns) (rw append_assoc differ)

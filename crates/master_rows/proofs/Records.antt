@@ -1,18 +1,13 @@
 -- The fields of a record, one by one, and what they hold.
-use Rattle.std.proofs.Common.{◌≡◌, ℕ, zero, suc, ◌<◌, List, [], ◌∷◌, ◌++◌, false, Bor, length, get_or, take, drop, refl, ap, arith, inl, inr}
-use Rattle.std.specs.Prelude.{Some, None, IsUtf8}
+use Rattle.std.proofs.Common.{◌≡◌, ℕ, zero, suc, ◌+◌, ◌<◌, true, false, List, [], ◌∷◌, ◌++◌, Bor, length, get_or, take, drop, refl, ap, arith}
+use Rattle.std.specs.Prelude.{Some, None}
+use Rattle.std.specs.List.{list_all}
 use Rattle.std.specs.Str.{is_utf8}
-use Rattle.std.proofs.lemmas.Bool.{cases_Bool}
-use Rattle.std.proofs.lemmas.Str.{IsUtf8-from_is_utf8}
+use Rattle.std.proofs.Math.ListN.{get_or-map}
+use Rattle.std.proofs.lemmas.List.{length-map}
+use Rattle.std.proofs.lemmas.List.Folds.{list_all_at, list_all_more}
 use Rattle.csv.specs.Records.{field_at}
 use Rattle.master_rows.specs.Fields.{bytes_of}
-
--- what is no UTF-8 fails the test
-pub is_utf8-fails : (bytes : List ℕ) → (IsUtf8 bytes → ⊥) → is_utf8 bytes ≡ false
-is_utf8-fails bytes refused = elim (cases_Bool (is_utf8 bytes)) [
-  | inl passed ↦ absurd (refused (IsUtf8-from_is_utf8 bytes passed))
-  | inr failed ↦ failed
-]
 
 -- the front of the fields grows by the next of them
 pub take-field_at : (fields : List (List ℕ)) (place : ℕ) (field : List ℕ) → field_at fields place ≡ Some field → take (suc place) fields ≡ take place fields ++ field ∷ []
@@ -39,3 +34,18 @@ pub take-texts : (fields : List (Bor (List ℕ))) (place : ℕ) (d : Bor (List �
 take-texts [] place d within = absurd (omega arith)
 take-texts (x ∷ rest) zero d within = refl
 take-texts (x ∷ rest) (suc place) d within = ap (λ l. x.now ∷ l) (take-texts rest place d (omega arith))
+
+-- where a field is no UTF-8, not all are
+pub list_all-other : (fields : List (Bor (List ℕ))) (place : ℕ) (d : Bor (List ℕ)) → place < length fields
+    → is_utf8 (get_or fields place d).now ≡ false → list_all is_utf8 (bytes_of fields) ≡ false
+list_all-other fields place d within other =
+    let inside : place < length (bytes_of fields) = rw length-map within in
+    list_all_at is_utf8 (bytes_of fields) place d.now inside (rw (get_or-map (λ (field : Bor (List ℕ)). field.now) fields place d) other)
+
+-- where the fields before a place are UTF-8 and the field there is, so are those up to it
+pub list_all-next : (fields : List (Bor (List ℕ))) (place : ℕ) (d : Bor (List ℕ)) → place < length fields
+    → list_all is_utf8 (take place (bytes_of fields)) ≡ true → is_utf8 (get_or fields place d).now ≡ true
+    → list_all is_utf8 (take (place + 1) (bytes_of fields)) ≡ true
+list_all-next fields place d within before utf8 =
+    let inside : place < length (bytes_of fields) = rw length-map within in
+    rw (list_all_more is_utf8 (bytes_of fields) place d.now inside, before, get_or-map (λ (field : Bor (List ℕ)). field.now) fields place d) utf8

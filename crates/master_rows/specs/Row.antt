@@ -2,6 +2,7 @@
 use Rattle.std.specs.Prelude.{ℕ, ◌+◌, not, ◌==◌, nat_lt, List, [], ◌∷◌, length, Option, Some, None, if◌then◌else◌}
 use Rattle.std.specs.List.{list_all}
 use Rattle.std.specs.Str.{is_utf8}
+use Rattle.desk_base.specs.declared.limits.TheConstants.{MAX_TEXT, MAX_ROWS}
 use Rattle.master_rows.specs.declared.error.SheetFault.{SheetFault}
 use Rattle.master_rows.specs.declared.error.SheetFault.TheVariants.{NotUtf8, Ragged, CellLong, TooManyRows}
 
@@ -9,12 +10,12 @@ use Rattle.master_rows.specs.declared.error.SheetFault.TheVariants.{NotUtf8, Rag
 abbrev pub cells_fault : ℕ → ℕ → List (List ℕ) → Option SheetFault
 cells_fault row column [] = None
 cells_fault row column (cell ∷ later) =
-    if nat_lt 200 (length cell) then Some (CellLong row column) else cells_fault row (column + 1) later
+    if nat_lt MAX_TEXT (length cell) then Some (CellLong row column) else cells_fault row (column + 1) later
 
 -- the first fault of a row with this number, under so many columns
 abbrev pub row_fault : ℕ → ℕ → List (List ℕ) → Option SheetFault
 row_fault columns row cells =
-    if nat_lt 20000 row then Some TooManyRows
+    if nat_lt MAX_ROWS row then Some TooManyRows
     else if not (length cells == columns) then Some (Ragged row)
     else if not (list_all is_utf8 cells) then Some (NotUtf8 row)
     else cells_fault row 1 cells

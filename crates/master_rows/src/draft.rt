@@ -3,7 +3,7 @@ ghost use Rattle.std.specs.Prelude.{◌≡◌, ◌≢◌, ℕ, List, [], ◌∷�
 ghost use Rattle.csv.specs.Records.{fields_of};
 ghost use Rattle.master_rows.specs.Sheet.{read_records, sheet_records};
 
-use crate::error::SheetFault;
+use crate::error::{SheetFault, stopped};
 use crate::fields::fields_of;
 use crate::header::header_columns;
 use crate::master::Master;
@@ -86,8 +86,11 @@ impl Draft {
             .flexible(true)
             .from_reader(alloc, sheet);
         let mut draft = Draft::new(alloc);
-        for record in reader.into_byte_records() {
-            draft.take(&record?)?;
+        'records: for next in reader.into_byte_records() {
+            match next {
+                Ok(row) => draft.take(&row)?,
+                Err(error) => return Err(stopped(error)),
+            }
         }
         Ok(draft)
     }

@@ -1,5 +1,5 @@
 //! The fields of a record, as slices of it.
-ghost use Rattle.std.specs.Prelude.{◌≡◌, IfOk};
+ghost use Rattle.std.specs.Prelude.{◌≡◌, IfOk, IfSome, is_some};
 ghost use Rattle.std.specs.List.{list_all};
 ghost use Rattle.std.specs.Str.{is_utf8};
 ghost use Rattle.csv.specs.Records.{fields_of};
@@ -16,27 +16,26 @@ pub(crate) fn fields_of(alloc: Global, source: &ByteRecord) -> Result<Vec<&[u8]>
     let mut fields = Vec::new(alloc);
     for place in 0..source.len() {
         if let Some(field) = source.get(place) {
-            if fields.push(field).is_err() {
-                return Err(NoMemory);
-            }
+            fields.push(field)?;
         }
     }
     Ok(fields)
 }
 
-/// Whether a field is UTF-8.
-fn is_text(field: &[u8]) -> bool
-    ensures { result ≡ is_utf8 field.now }
+/// The fields as strings, where all of them are UTF-8.
+pub(crate) fn strings_of<'a>(
+    alloc: Global,
+    fields: &[&'a [u8]],
+) -> Result<Option<Vec<&'a str>>, NoMemory>
+    ensures utf8 { IfOk result (λ strings. is_some strings ≡ list_all is_utf8 (bytes_of fields.now)) }
+    ensures strings { IfOk result (λ strings. IfSome strings (λ found. bytes_of found.items ≡ bytes_of fields.now)) }
 {
-    match std::str::from_utf8(field) {
-        Ok(_) => true,
-        Err(_) => false,
+    let mut strings = Vec::new(alloc);
+    'fields: for field in fields {
+        match std::str::from_utf8(field) {
+            Ok(string) => strings.push(string)?,
+            Err(_) => return Ok(None),
+        }
     }
-}
-
-/// Whether all fields are UTF-8.
-pub(crate) fn are_texts(fields: &[&[u8]]) -> bool
-    ensures { result ≡ list_all is_utf8 (bytes_of fields.now) }
-{
-    fields.iter().all(|field| is_text(field))
+    Ok(Some(strings))
 }

@@ -4,27 +4,23 @@ ghost use Rattle.master_rows.specs.Row.{cells_fault, row_fault};
 ghost use Rattle.master_rows.specs.Fields.{bytes_of};
 
 use crate::error::SheetFault;
-use crate::fields::are_texts;
-use desk_base::{Grid, List, MAX_ROWS, Text, TextFault};
+use crate::fields::strings_of;
+use desk_base::{Grid, List, MAX_ROWS, MAX_TEXT, Text};
 use std::alloc::Global;
 
 /// The texts of a row's cells, tested one by one.
-fn tested_cells(alloc: Global, row: u64, fields: &[&[u8]]) -> Result<List<Text>, SheetFault>
-    ensures cells { IfOk result (λ cells. cells ≡ bytes_of fields.now) }
+fn tested_cells(alloc: Global, row: u64, texts: &[&str]) -> Result<List<Text>, SheetFault>
+    ensures cells { IfOk result (λ cells. cells ≡ bytes_of texts.now) }
     ensures faultless { IfOk result (λ cells. cells_fault row 1 cells ≡ None) }
     ensures fault { IfErr result (λ fault. fault ≢ SheetFault.NoMemory
-        → cells_fault row 1 (bytes_of fields.now) ≡ Some fault) }
+        → cells_fault row 1 (bytes_of texts.now) ≡ Some fault) }
 {
     let mut cells = List::new(alloc);
-    for field in fields {
-        match Text::new(alloc, field) {
-            Ok(cell) => cells.push(cell)?,
-            Err(TextFault::TooLong) => {
-                return Err(SheetFault::CellLong(row, cells.len() as u64 + 1));
-            }
-            // It was found to be UTF-8.
-            Err(_) => return Err(SheetFault::NoMemory),
+    for text in texts {
+        if text.len() > MAX_TEXT {
+            return Err(SheetFault::CellLong(row, cells.len() as u64 + 1));
         }
+        cells.push(Text::of(alloc, text)?)?;
     }
     Ok(cells)
 }
@@ -49,8 +45,8 @@ pub(crate) fn next_row(
     if fields.len() != usize::from(grid.columns()) {
         return Err(SheetFault::Ragged(row));
     }
-    if !are_texts(fields) {
+    let Some(texts) = strings_of(alloc, fields)? else {
         return Err(SheetFault::NotUtf8(row));
-    }
-    tested_cells(alloc, row, fields)
+    };
+    tested_cells(alloc, row, texts.as_slice())
 }

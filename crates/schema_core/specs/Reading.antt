@@ -1,8 +1,9 @@
 -- What a text reads as: a schema, or the first test that it fails.
 use Rattle.std.specs.Prelude.{codes, ℕ, ◌+◌, ◌==◌, nat_lt, Bool, true, not, ◌&&◌, ◌||◌, if◌then◌else◌, List, [], ◌∷◌, ◌++◌, length, Option, Some, None, option_map, option_and_then, Result, Ok, Err}
-use Rattle.std.specs.List.{list_any}
 use Rattle.std.specs.Option.{option_or, option_map_or}
 use Rattle.std.specs.Str.{bytes_eq, is_utf8}
+use Rattle.desk_base.specs.declared.limits.TheConstants.{MAX_ATTRIBUTES}
+use Rattle.desk_base.specs.Places.{has_text}
 use Rattle.toml.specs.Data.{Data, Items, no_items, item, Members, no_members, member, get_member, as_str, as_array}
 use Rattle.toml.specs.Parse.{parse_document}
 use Rattle.desk_base.specs.Words.{is_name, is_word}
@@ -32,7 +33,7 @@ texts_of value = option_and_then texts_in (as_array value)
 abbrev pub attribute_fault : List (List ℕ) → List ℕ → Option SchemaFault
 attribute_fault earlier attribute =
     if not (is_word attribute) then Some (BadName (length earlier + 1))
-    else if list_any (bytes_eq attribute) earlier then Some (Twice (length earlier + 1))
+    else if has_text earlier attribute then Some (Twice (length earlier + 1))
     else None
 
 -- the first fault among attributes that stand behind these
@@ -44,7 +45,7 @@ first_fault earlier (attribute ∷ rest) = option_or (attribute_fault earlier at
 abbrev pub schema_with : List ℕ → List (List ℕ) → Result Schema SchemaFault
 schema_with name attributes =
     if not (is_name name) then Err (BadName 0)
-    else if length attributes == 0 || nat_lt 48 (length attributes) then Err (BadCount (length attributes))
+    else if length attributes == 0 || nat_lt MAX_ATTRIBUTES (length attributes) then Err (BadCount (length attributes))
     else option_map_or Err (first_fault [] attributes) (Ok (record { name = name; attributes = attributes }))
 
 -- the schema of a string and an array of strings

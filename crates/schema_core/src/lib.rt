@@ -12,4 +12,4 @@ mod schema;
 mod tests;
 
 pub use fault::SchemaFault;
-pub use schema::{MAX_ATTRIBUTES, Schema};
+pub use schema::Schema;

@@ -1,14 +1,13 @@
 //! From bytes to a schema, one test after the other.
-ghost use Rattle.std.specs.Prelude.{◌≡◌, ◌≢◌, ◌≤◌, [], length, map, option_map, Some, None, Ok, Err, IfOk, IfErr};
-ghost use Rattle.std.specs.List.{list_any};
-ghost use Rattle.std.specs.Str.{bytes_eq};
+ghost use Rattle.std.specs.Prelude.{◌≡◌, ◌≢◌, ◌≤◌, [], length, map, option_map, Some, None, Ok, Err, IfOk, IfErr, IfNone};
+ghost use Rattle.desk_base.specs.declared.limits.TheConstants.{MAX_WORD};
 ghost use Rattle.toml.specs.Data.{get_member};
 ghost use Rattle.toml.specs.View.{view, items_view, table_view};
-ghost use Rattle.schema_core.specs.Reading.{document_of, is_known_key, keys_known, texts_in, texts_of, attribute_fault, first_fault, schema_with, schema_of_values, schema_of_document};
+ghost use Rattle.schema_core.specs.Reading.{document_of, is_known_key, keys_known, texts_in, attribute_fault, first_fault, schema_with, schema_of_values, schema_of_document};
 
 use crate::fault::SchemaFault;
-use crate::schema::{MAX_ATTRIBUTES, Schema};
-use desk_base::{List, Text, is_name, is_word};
+use crate::schema::Schema;
+use desk_base::{List, MAX_ATTRIBUTES, Text, has_text, is_name, is_word};
 use std::alloc::Global;
 use toml::{Table, Value};
 
@@ -92,9 +91,7 @@ fn strings_in<'a>(alloc: Global, items: &'a [Value]) -> Result<Vec<&'a str>, Sch
         let Some(string) = item.as_str() else {
             return Err(SchemaFault::WrongKind(2));
         };
-        if strings.push(string).is_err() {
-            return Err(SchemaFault::NoMemory);
-        }
+        strings.push(string)?;
     }
     Ok(strings)
 }
@@ -113,7 +110,7 @@ fn schema_with(alloc: Global, name: &str, attributes: &[&str]) -> Result<Schema,
         return Err(SchemaFault::BadCount(attributes.len() as u64));
     }
     let attributes = attributes_of(alloc, attributes)?;
-    let name = text_of(alloc, name)?;
+    let name = Text::of(alloc, name)?;
     Ok(Schema { name, attributes })
 }
 
@@ -130,38 +127,22 @@ fn attributes_of(alloc: Global, strings: &[&str]) -> Result<List<Text>, SchemaFa
         if let Some(fault) = attribute_fault(attributes.as_slice(), string) {
             return Err(fault);
         }
-        attributes.push(text_of(alloc, string)?)?;
+        attributes.push(Text::of(alloc, string)?)?;
     }
     Ok(attributes)
 }
 
 /// What is wrong with an attribute behind the earlier ones.
 fn attribute_fault(earlier: &[Text], attribute: &str) -> Option<SchemaFault>
-    ensures { result ≡ attribute_fault earlier.now attribute.now }
+    ensures fault { result ≡ attribute_fault earlier.now attribute.now }
+    ensures short { IfNone result (length attribute.now ≤ MAX_WORD) }
 {
     let position = earlier.len() as u64 + 1;
     if !is_word(attribute.as_bytes()) {
         Some(SchemaFault::BadName(position))
-    } else if stands_among(earlier, attribute) {
+    } else if has_text(earlier, attribute) {
         Some(SchemaFault::Twice(position))
     } else {
         None
-    }
-}
-
-fn stands_among(texts: &[Text], string: &str) -> bool
-    ensures { result ≡ list_any (bytes_eq string.now) texts.now }
-{
-    texts.iter().any(|text| string == text.as_str())
-}
-
-/// The text of a name or a word.
-fn text_of(alloc: Global, string: &str) -> Result<Text, SchemaFault>
-    ensures text { IfOk result (λ text. text ≡ string.now) }
-    ensures fault { IfErr result (λ fault. fault ≡ SchemaFault.NoMemory) }
-{
-    match Text::new(alloc, string.as_bytes()) {
-        Ok(text) => Ok(text),
-        Err(_) => Err(SchemaFault::NoMemory),
     }
 }

@@ -8,9 +8,6 @@ use crate::reading::{parse, schema_of};
 use desk_base::{Duplicate, List, NoMemory, Text};
 use std::alloc::Global;
 
-/// The greatest number of attributes of a schema.
-pub const MAX_ATTRIBUTES: usize = 48;
-
 /// The name of a schema, and the attributes of its records in their order.
 #[derive(Debug, Drop)]
 pub struct Schema {

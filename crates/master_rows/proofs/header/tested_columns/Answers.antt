@@ -7,36 +7,36 @@ use Rattle.master_rows.proofs.header.tested_columns.Goals as goal
 
 pub returns-then-not-is_column-clause-fault : goal.returns-then-not-is_column-clause-fault
 returns-then-not-is_column-clause-fault c =
-    let bad = sym c.is_column.ensures ∙ c.if-not-is_column.true in
-    let texts = bytes_of c.args.fields.now in
-    let place = c.loop-field.field-index in
-    let field = get_or c.args.fields.now place (record { ref_ptr = (0, 0); now = [] }) in
-    rw c.len.ensures (λ _. c.loop-field.invariant.1
-    ∙ ap (columns_fault c.loop-field.columns) (drop-texts c.args.fields.now place _ c.loop-field-test.true)
-    ∙ columns_fault-bad c.loop-field.columns (drop (suc place) texts) field.now bad)
+    let bad = sym c.is_column.ensures.form ∙ c.if-not-is_column.true in
+    let texts = bytes_of c.args.texts.now in
+    let place = c.loop-text.text-index in
+    let text = get_or c.args.texts.now place (record { ref_ptr = (0, 0); now = [] }) in
+    rw c.len.ensures (λ _. c.loop-text.invariant.1
+    ∙ ap (columns_fault c.loop-text.columns) (drop-texts c.args.texts.now place _ c.loop-text-test.true)
+    ∙ columns_fault-bad c.loop-text.columns (drop (suc place) texts) text.now bad)
 
-pub returns-then-stands_among-clause-fault : goal.returns-then-stands_among-clause-fault
-returns-then-stands_among-clause-fault c =
-    let good = sym c.is_column.ensures ∙ c.if-not-is_column.false in
-    let twice = sym (rw c.as_slice.ensures at c.stands_among.ensures) ∙ c.if-stands_among.true in
-    let texts = bytes_of c.args.fields.now in
-    let place = c.loop-field.field-index in
-    let field = get_or c.args.fields.now place (record { ref_ptr = (0, 0); now = [] }) in
-    rw c.len.ensures (λ _. c.loop-field.invariant.1
-    ∙ ap (columns_fault c.loop-field.columns) (drop-texts c.args.fields.now place _ c.loop-field-test.true)
-    ∙ columns_fault-twice c.loop-field.columns (drop (suc place) texts) field.now good twice)
+pub returns-then-has_text-clause-fault : goal.returns-then-has_text-clause-fault
+returns-then-has_text-clause-fault c =
+    let good = sym c.is_column.ensures.form ∙ c.if-not-is_column.false in
+    let twice = sym (rw c.as_slice.ensures at c.has_text.ensures) ∙ c.if-has_text.true in
+    let texts = bytes_of c.args.texts.now in
+    let place = c.loop-text.text-index in
+    let text = get_or c.args.texts.now place (record { ref_ptr = (0, 0); now = [] }) in
+    rw c.len.ensures (λ _. c.loop-text.invariant.1
+    ∙ ap (columns_fault c.loop-text.columns) (drop-texts c.args.texts.now place _ c.loop-text-test.true)
+    ∙ columns_fault-twice c.loop-text.columns (drop (suc place) texts) text.now good twice)
 
-pub loop-field-preserved : goal.loop-field-preserved
-loop-field-preserved c =
-    let good = sym c.is_column.ensures ∙ c.if-not-is_column.false in
-    let new = sym (rw c.as_slice.ensures at c.stands_among.ensures) ∙ c.if-stands_among.false in
-    let texts = bytes_of c.args.fields.now in
-    let place = c.loop-field.field-index in
-    let field = get_or c.args.fields.now place (record { ref_ptr = (0, 0); now = [] }) in
-    let grown = rw c.in-Ok.ensures.text at c.in_ok-push-in-Ok.ensures.pushed in
+pub loop-text-preserved : goal.loop-text-preserved
+loop-text-preserved c =
+    let good = sym c.is_column.ensures.form ∙ c.if-not-is_column.false in
+    let new = sym (rw c.as_slice.ensures at c.has_text.ensures) ∙ c.if-has_text.false in
+    let texts = bytes_of c.args.texts.now in
+    let place = c.loop-text.text-index in
+    let text = get_or c.args.texts.now place (record { ref_ptr = (0, 0); now = [] }) in
+    let grown = rw c.in_ok-of.ensures at c.in_ok-push.ensures.pushed in
     rw (grown, add-one place) (
-      ap (λ (front : List (List ℕ)). front ++ field.now ∷ []) c.loop-field.invariant.0 ∙ sym (take-texts c.args.fields.now place _ c.loop-field-test.true),
-      c.loop-field.invariant.1
-          ∙ ap (columns_fault c.loop-field.columns) (drop-texts c.args.fields.now place _ c.loop-field-test.true)
-          ∙ columns_fault-next c.loop-field.columns (drop (suc place) texts) field.now good new,
+      ap (λ (front : List (List ℕ)). front ++ text.now ∷ []) c.loop-text.invariant.0 ∙ sym (take-texts c.args.texts.now place _ c.loop-text-test.true),
+      c.loop-text.invariant.1
+          ∙ ap (columns_fault c.loop-text.columns) (drop-texts c.args.texts.now place _ c.loop-text-test.true)
+          ∙ columns_fault-next c.loop-text.columns (drop (suc place) texts) text.now good new,
     )

@@ -2,7 +2,7 @@ use Rattle.std.proofs.Common.{◌+◌, ◌<◌, ◌≡◌, ◌++◌, ◌∷◌, 
 use Rattle.std.proofs.Math.Nat.{suc-mul}
 use Rattle.desk_base.proofs.Rows.{length-rows_of, rows_of-append}
 use Rattle.desk_base.specs.Grid.{rows_of}
-use Rattle.desk_base.specs.Limits.{MAX_ROWS}
+use Rattle.desk_base.specs.declared.limits.TheConstants.{MAX_ROWS}
 use Rattle.desk_base.proofs.grid.Grid.push_row.Goals as goal
 
 pub invariant_of-self-2 : goal.invariant_of-self-2

@@ -1,0 +1,11 @@
+use Rattle.std.proofs.Common.{◌≡◌, true, take}
+use Rattle.std.specs.List.{list_all}
+use Rattle.std.specs.Str.{is_utf8}
+use Rattle.master_rows.specs.Fields.{bytes_of}
+use Rattle.master_rows.proofs.fields.strings_of.Given as goal
+
+abbrev pub invariant-fields : goal.invariant-fields
+invariant-fields l = record {
+  taken : bytes_of l.strings.items ≡ take l.field-index (bytes_of l.fields);
+  utf8 : list_all is_utf8 (take l.field-index (bytes_of l.fields)) ≡ true;
+}
