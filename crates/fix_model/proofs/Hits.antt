@@ -58,3 +58,18 @@ module _ (P Q : ℕ → Type 0) (to : (row : ℕ) → P row → Q row) (back : (
 pub is_some-first : (P : ℕ → Type 0) (first : Option ℕ) → MatchOption first ((row : ℕ) → ¬ P row) (IsFirstOf P) → IsTrue (is_some first) ↔ ((row : ℕ) × P row)
 is_some-first P None none = (λ never. absurd (let e = never in cc), λ some. absurd (none some.0 some.1))
 is_some-first P (Some row) first = (λ told. (row, first.agrees), λ some. refl)
+
+module _ (text same : ℕ → List ℕ) (P : ℕ → Type 0) (equal : (row : ℕ) → text row ≡ same row) where
+  other-text : (first row : ℕ) → IsOtherOf text P first row → IsOtherOf same P first row
+  other-text first row other = record {
+    agrees = other.agrees;
+    differs = λ alike. other.differs (rw (equal row, equal first) alike);
+    least = λ next agrees differs. other.least next agrees (λ alike. differs (rw (equal next, equal first) at alike));
+  }
+
+  -- what there is to find rests on the texts of the rows alone
+  pub IsHitOf-text : (hit : Hit) → IsHitOf text P hit → IsHitOf same P hit
+  IsHitOf-text hit found = record {
+    first = found.first;
+    other = match_option (IsOtherOf text P hit.first) (IsOtherOf same P hit.first) hit.other (λ all row agrees. rw (equal row, equal hit.first) at (all row agrees)) (other-text hit.first) found.other;
+  }

@@ -1,5 +1,10 @@
 pub mod Ascending
+pub mod Grouping
+pub mod Halving
 pub mod Keys
 pub mod Maps
+pub mod Parts
+pub mod RowOrder
 pub mod Rows
+pub mod Sharing
 pub mod Twins

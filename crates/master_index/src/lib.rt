@@ -4,13 +4,21 @@
 //! `specs/Index.antt` that each rule has its map.
 #![tactic(auto)]
 
+mod entries;
 mod error;
 mod index;
 mod looks;
 mod map_book;
 mod row_map;
+mod search;
+mod shelf;
+mod sorted_book;
+mod sorting;
 #[cfg(test)]
 mod tests;
+mod triples;
 
 pub use error::BuildFault;
 pub use map_book::MapBook;
+pub use shelf::{MAX_HELD, Shelf, Shelved};
+pub use sorted_book::SortedBook;

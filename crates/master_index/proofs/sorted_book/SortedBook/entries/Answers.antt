@@ -1,0 +1,30 @@
+use Rattle.std.proofs.Common.{◌≡◌, ◌<◌, [], length, get_or, arith}
+use Rattle.std.proofs.lemmas.List.{get_or_read}
+use Rattle.fix_model.specs.Rules.{rule_at}
+use Rattle.master_index.specs.Triples.{owner_of}
+use Rattle.master_index.proofs.Parts.{AreEntriesOf-shared}
+use Rattle.master_index.proofs.sorted_book.SortedBook.entries.Goals as goal
+
+pub place-requires : goal.place-requires
+place-requires c =
+    let within : c.args.rule < length c.self.inside.inside.rules = rw (← c.self.view_is) at c.requires in
+    omega (arith, within, c.self.invariant.1.places)
+
+pub bounds-as_slice-place : goal.bounds-as_slice-place
+bounds-as_slice-place c =
+    let within : c.args.rule < length c.self.inside.inside.rules = rw (← c.self.view_is) at c.requires in
+    let has = c.self.invariant.1.each c.args.rule within in
+    rw (c.place.ensures, c.as_slice.ensures) (omega (arith, has.place_within, c.self.invariant.2.size))
+
+pub returns : goal.returns
+returns c =
+    let kit = c.self.inside.inside in
+    let triples = c.self.inside.triples in
+    let parts = c.self.inside.parts in
+    let within : c.args.rule < length kit.rules = rw (← c.self.view_is) at c.requires in
+    let has = c.self.invariant.1.each c.args.rule within in
+    let place = get_or triples.places c.args.rule 0 in
+    let inside : place < length parts = omega (arith, has.place_within, c.self.invariant.2.size) in
+    let item : c.index-as_slice-place.result ≡ get_or parts place [] = get_or_read parts place c.index-as_slice-place.result inside (rw (c.as_slice.ensures, c.place.ensures) at c.index-as_slice-place.is) [] in
+    let are = AreEntriesOf-shared kit (rule_at kit c.args.rule) (rule_at kit (owner_of triples c.args.rule)) (get_or parts place []) has.shares (c.self.invariant.2.each place has.place_within) in
+    rw (c.as_slice-2.ensures, item, ← c.self.view_is) are
