@@ -2,13 +2,11 @@
 #![tactic(auto)]
 
 use desk_base::{Both, StdSink, StdSource};
+use fixdesk_run::{Status, run};
 use std::alloc::AllocError;
 use std::env;
 use std::io::ErrorKind;
 use std::process::ExitCode;
-
-/// The status where memory is wanted for the words.
-const NO_MEMORY: u8 = 5;
 
 fn main(rt: HostRuntime) -> ExitCode {
     let mut link = Both {
@@ -22,7 +20,7 @@ fn main(rt: HostRuntime) -> ExitCode {
         Err(_) => Ok(Vec::new(rt.alloc())),
     };
     match words {
-        Ok(words) => ExitCode::from(fixdesk_run::run(rt.alloc(), &words, &mut link)),
-        Err(AllocError) => ExitCode::from(NO_MEMORY),
+        Ok(words) => ExitCode::from(run(rt.alloc(), &words, &mut link)),
+        Err(AllocError) => ExitCode::from(Status::NoMemory.code()),
     }
 }

@@ -3,10 +3,10 @@ use Rattle.std.proofs.Common.{◌≡◌, ◌∙◌, ℕ, List, sym, ap, refl, ar
 use Rattle.serde_json.specs.Data.{Data}
 use Rattle.fix_engine.proofs.Once.{IsAnswer-unique}
 use Rattle.fixdesk_run.specs.declared.case.Case.{Case}
-use Rattle.fixdesk_run.specs.declared.status.Refusal.{Refusal}
-use Rattle.fixdesk_run.specs.declared.status.Refusal.TheVariants.{TooLong, NotJson, NotACase}
-use Rattle.fixdesk_run.specs.Answer.{IsAnswer}
-use Rattle.fixdesk_run.specs.Case.{IsCaseIn, IsValueOf}
+use Rattle.fixdesk_run.specs.declared.reply.InputRefusal.{InputRefusal}
+use Rattle.fixdesk_run.specs.declared.reply.InputRefusal.TheVariants.{TooLong, NotJson, NotACase}
+use Rattle.fixdesk_run.specs.Case.Answer.{IsAnswer}
+use Rattle.fixdesk_run.specs.Case.Cases.{IsCaseIn, IsValueOf}
 use Rattle.fixdesk_run.specs.Once.{IsAnswered, IsRefusalOf, IsRefused, refusal_line}
 
 -- a text has one JSON value
@@ -22,7 +22,8 @@ one_case bytes case other (value, is, read) (again, also, found) =
     cc
 
 -- a text that is a case is refused for no reason
-pub no_refusal : (bytes : List ℕ) (text : List ℕ) → IsAnswered bytes text → (refusal : Refusal) → ¬ IsRefusalOf bytes refusal
+pub no_refusal : (bytes : List ℕ) (text : List ℕ) → IsAnswered bytes text → (refusal : InputRefusal)
+    → ¬ IsRefusalOf bytes refusal
 no_refusal bytes text (few, (case, is, answer)) TooLong long = omega arith
 no_refusal bytes text (few, (case, (value, json, read), answer)) NotJson (short, none) = none value json
 no_refusal bytes text (few, (case, (value, json, read), answer)) NotACase (short, (again, also, none)) =
@@ -42,7 +43,8 @@ one_text bytes text other (few, (case, is, answer)) (short, (again, also, found)
     one_answer again text other (rw same at answer) found
 
 -- a text is refused for one reason
-same_refusal : (bytes : List ℕ) (refusal other : Refusal) → IsRefusalOf bytes refusal → IsRefusalOf bytes other → refusal ≡ other
+same_refusal : (bytes : List ℕ) (refusal other : InputRefusal) → IsRefusalOf bytes refusal → IsRefusalOf bytes other
+    → refusal ≡ other
 same_refusal bytes TooLong TooLong long also = refl
 same_refusal bytes TooLong NotJson long (short, none) = absurd (omega arith)
 same_refusal bytes TooLong NotACase long (short, (value, json, none)) = absurd (omega arith)

@@ -1,9 +1,7 @@
 pub mod Determined
-pub mod Distinct
 pub mod Floats
 pub mod Keys
 pub mod Reading
 pub mod Replies
 pub mod Showing
 pub mod Taking
-pub mod Words

@@ -1,4 +1,8 @@
-pub mod Parts
 pub mod Case
-pub mod Answer
+pub mod Link
+pub mod Status
+pub mod Task
+pub mod Input
+pub mod Usage
 pub mod Once
+pub mod Run

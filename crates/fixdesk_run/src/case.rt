@@ -1,8 +1,13 @@
-//! The case of one run: the record that is keyed, and the rules and master data that fix it.
+//! The case of one run: the record that is keyed, and the rules and master data that fix it. Nothing here knows
+//! of links and commands.
+pub mod answer;
 mod attributes;
+mod fault;
+mod kits;
 mod masters;
 mod parts;
 pub mod read;
+mod records;
 mod rules;
 
 use desk_base::{List, Text};

@@ -1,24 +1,44 @@
 //! Taking the input of a command.
 ghost use Rattle.std.specs.Prelude.{◌≡◌, ◌≤◌, length, IfOk, OnErr, IsErrOf};
 ghost use Rattle.desk_base.specs.Faults.{Rose};
-ghost use Rattle.fixdesk_run.specs.Once.{Takes, TakesPart};
+ghost use Rattle.fixdesk_run.specs.declared.input.InputFault.TheVariants as faults;
+ghost use Rattle.fixdesk_run.specs.Input.{Takes, TakesPart};
 
-use desk_base::{Failed, Source};
-use std::alloc::Global;
+use desk_base::{Failed, MAX_INPUT, Source};
+use std::alloc::{AllocError, Global};
+use thiserror::Error;
 
 /// The most bytes that are taken of an input: one more than it may have.
-pub const MOST: usize = 1_048_577;
+pub const MOST: usize = MAX_INPUT + 1;
 
 /// How many bytes a read asks for.
 const PIECE: usize = 65_536;
 
 /// Why an input was not taken.
-#[derive(Clone, Copy, Debug, PartialEq, Eq)]
+#[derive(Clone, Copy, Debug, PartialEq, Eq, Error)]
 pub enum InputFault {
     /// A read failed.
+    #[error("a read failed")]
     Failed,
     /// There was no memory.
+    #[error("there was no memory")]
     NoMemory,
+}
+
+impl From<Failed> for InputFault {
+    ghost from_gives = { λ _ fault. fault ≡ faults.Failed };
+
+    fn from(_failed: Failed) -> InputFault {
+        InputFault::Failed
+    }
+}
+
+impl From<AllocError> for InputFault {
+    ghost from_gives = { λ _ fault. fault ≡ faults.NoMemory };
+
+    fn from(_want: AllocError) -> InputFault {
+        InputFault::NoMemory
+    }
 }
 
 /// Takes all bytes that are left, or the first 1,048,577 of them.
@@ -28,11 +48,10 @@ pub fn input_of<S: Source>(alloc: Global, input: &mut S) -> Result<Vec<u8>, Inpu
     ensures cause { IsErrOf result InputFault.Failed
         → Rose (S.read_faults input.old) (S.read_faults input.new) }
     ensures later { S.read_faults input.old ≤ S.read_faults input.new }
+    ensures steady { S.is_steady input.old → ¬ IsErrOf result InputFault.Failed }
 {
-    match vec![in alloc; 0u8; PIECE] {
-        Ok(mut piece) => take_pieces(alloc, input, piece.as_mut_slice()),
-        Err(_) => Err(InputFault::NoMemory),
-    }
+    let mut piece = vec![in alloc; 0u8; PIECE]?;
+    take_pieces(alloc, input, piece.as_mut_slice())
 }
 
 fn take_pieces<S: Source>(
@@ -46,20 +65,16 @@ fn take_pieces<S: Source>(
     ensures cause { IsErrOf result InputFault.Failed
         → Rose (S.read_faults input.old) (S.read_faults input.new) }
     ensures later { S.read_faults input.old ≤ S.read_faults input.new }
+    ensures steady { S.is_steady input.old → ¬ IsErrOf result InputFault.Failed }
 {
     let mut bytes = Vec::new(alloc);
     'pieces: while bytes.len() < MOST {
         let room = PIECE.min(MOST - bytes.len());
-        let count = match input.read(&mut piece[..room]) {
-            Ok(count) => count,
-            Err(Failed) => return Err(InputFault::Failed),
-        };
+        let count = input.read(&mut piece[..room])?;
         if count == 0 {
             return Ok(bytes);
         }
-        if bytes.extend_from_slice(&piece[..count]).is_err() {
-            return Err(InputFault::NoMemory);
-        }
+        bytes.extend_from_slice(&piece[..count])?;
     }
     Ok(bytes)
 }

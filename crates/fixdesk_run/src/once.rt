@@ -4,32 +4,38 @@ ghost use Rattle.fix_model.specs.States.{Fits};
 ghost use Rattle.fix_model.specs.Valid.{IsValid};
 ghost use Rattle.fixdesk_run.specs.declared.case.Case.{Case as CaseOf};
 ghost use Rattle.fix_engine.specs.Verdicts as engine;
-ghost use Rattle.fixdesk_run.specs.Answer.{IsAnswer, answer_line};
-ghost use Rattle.fixdesk_run.specs.Case.{PartsFit};
-ghost use Rattle.fixdesk_run.specs.Once.{IsReplyTo, EndsOnce, seen};
+ghost use Rattle.fixdesk_run.specs.Case.Answer.{IsAnswer, answer_line};
+ghost use Rattle.fixdesk_run.specs.Case.Cases.{PartsFit};
+ghost use Rattle.fixdesk_run.specs.Input.{most};
+ghost use Rattle.fixdesk_run.specs.Link.{seen};
+ghost use Rattle.fixdesk_run.specs.Once.{IsReplyTo, EndsOnce};
+ghost use Rattle.fixdesk_run.specs.Run.{IsFaultless, TakesText};
+ghost use Rattle.fixdesk_run.specs.Status.{status_code};
+ghost use Rattle.fixdesk_run.specs.declared.task.Task.TheVariants.{Once};
 
-use crate::answer::{conflict_line, fix_line};
 use crate::case::Case;
+use crate::case::answer::{conflict_line, fix_line};
 use crate::case::read::{CaseFault, case_of};
 use crate::input::{InputFault, MOST, input_of};
-use crate::status::{Refusal, Reply, Status};
+use crate::reply::{CaseReply, InputRefusal};
+use crate::status::Status;
 use desk_base::{Both, Failed, NoMemory, Sink, Source, Steps, Text, write_all};
 use fix_engine::{Verdict, Work, apply, decide};
 use fix_model::{Book, ListBook, State};
 use std::alloc::{AllocError, Global};
 
 /// What the bytes that were taken are answered with.
-pub fn reply_to(alloc: Global, bytes: &[u8]) -> Result<Reply, NoMemory>
-    requires { length bytes.now ≤ 1048577 }
+pub fn reply_to(alloc: Global, bytes: &[u8]) -> Result<CaseReply, NoMemory>
+    requires { length bytes.now ≤ most }
     ensures { IfOk result (λ reply. IsReplyTo bytes.now reply) }
 {
     if bytes.len() >= MOST {
-        return Ok(Reply::Refused(Refusal::TooLong));
+        return Ok(CaseReply::Refused(InputRefusal::TooLong));
     }
     match case_of(alloc, bytes) {
-        Ok(case) => Ok(Reply::Answered(answer_to(alloc, case)?)),
-        Err(CaseFault::NotJson) => Ok(Reply::Refused(Refusal::NotJson)),
-        Err(CaseFault::NotACase) => Ok(Reply::Refused(Refusal::NotACase)),
+        Ok(case) => Ok(CaseReply::Answered(answer_to(alloc, case)?)),
+        Err(CaseFault::NotJson) => Ok(CaseReply::Refused(InputRefusal::NotJson)),
+        Err(CaseFault::NotACase) => Ok(CaseReply::Refused(InputRefusal::NotACase)),
         Err(CaseFault::NoMemory) => Err(NoMemory),
     }
 }
@@ -64,10 +70,7 @@ pub fn answer_over<B: Book<()>>(
     let mut work = Work::new(alloc, book.width(), book.rules().len() as u16)?;
     let mut steps = Steps::new(());
     let verdict = decide(&mut work, book, &mut state, &mut steps);
-    match line_over::<B>(alloc, attributes, book, state, &work, verdict) {
-        Ok(text) => Ok(text),
-        Err(_) => Err(NoMemory),
-    }
+    Ok(line_over::<B>(alloc, attributes, book, state, &work, verdict)?)
 }
 
 /// The line that shows the verdict of the state, with the runs that the work has.
@@ -110,6 +113,9 @@ pub fn once<S: Source, W: Sink>(alloc: Global, link: &mut Both<S, W>) -> Status
         EndsOnce (seen link.old) (seen link.new) result }
     ensures read_faults { S.read_faults link.old.source ≤ S.read_faults link.new.source }
     ensures write_faults { W.write_faults link.old.sink ≤ W.write_faults link.new.sink }
+    ensures complete { S.is_steady link.old.source
+        → TakesText (W.takes link.old.sink) (Some Once) (S.left link.old.source)
+        → IsFaultless (Some Once) (status_code result) }
 {
     let bytes = match input_of(alloc, &mut link.source) {
         Ok(bytes) => bytes,

@@ -1,13 +1,13 @@
 //! Parts of a JSON value, where it has the form that is wanted.
-ghost use Rattle.std.specs.Prelude.{◌≡◌, Option, option_map, map, IfOk};
+ghost use Rattle.std.specs.Prelude.{◌≡◌, Option, Some, None, option_map, map, IfOk, IsErrOf};
 ghost use Rattle.std.specs.Cmp.Lexicographic.{pointwise};
 ghost use Rattle.std.specs.Str.{bytes_eq};
 ghost use Rattle.serde_json.specs.Data.{Data};
 ghost use Rattle.serde_json.specs.View.{view, members_view};
-ghost use Rattle.fixdesk_run.specs.Case.{text_in};
-ghost use Rattle.fixdesk_run.specs.Parts.{items_in, each, list_in, field, keys_of, has_keys};
+ghost use Rattle.fixdesk_run.specs.Case.Parts.{each, field, has_keys, items_in, keys_of, list_in, text_in};
 
-use desk_base::{List, NoMemory, Text, TextFault};
+use crate::case::fault::PartFault;
+use desk_base::{List, MAX_TEXT, Text};
 use serde_json::{Map, Value};
 use std::alloc::Global;
 
@@ -16,44 +16,42 @@ pub trait Part<C>: Sized {
     /// What a value states, if it has the form of this part.
     ghost part_in: { C → Data → Option Self };
 
-    /// Reads the part from a value. There is none exactly where the value has not its form.
-    fn read(alloc: Global, context: &C, value: &Value) -> Result<Option<Self>, NoMemory>
-        ensures part { IfOk result (λ part. part ≡ part_in context.now (view value.now)) };
+    /// Reads the part from a value.
+    fn read(alloc: Global, context: &C, value: &Value) -> Result<Self, PartFault>
+        ensures part { IfOk result (λ part. part_in context.now (view value.now) ≡ Some part) }
+        ensures none { IsErrOf result PartFault.WrongForm → part_in context.now (view value.now) ≡ None };
 }
 
 /// The items of an array.
-pub fn items(value: &Value) -> Option<&[Value]>
-    ensures { option_map (λ items. map view items.now) result ≡ items_in (view value.now) }
+pub fn items(value: &Value) -> Result<&[Value], PartFault>
+    ensures items { IfOk result (λ items. items_in (view value.now) ≡ Some (map view items.now)) }
+    ensures none { IsErrOf result PartFault.WrongForm → items_in (view value.now) ≡ None }
 {
     match value.as_array() {
-        Some(list) => Some(list.as_slice()),
-        None => None,
+        Some(list) => Ok(list.as_slice()),
+        None => Err(PartFault::WrongForm),
     }
 }
 
 impl<C> Part<C> for Text {
     ghost part_in = { λ _. text_in };
 
-    fn read(alloc: Global, _context: &C, value: &Value) -> Result<Option<Text>, NoMemory> {
+    fn read(alloc: Global, _context: &C, value: &Value) -> Result<Text, PartFault> {
         let Some(text) = value.as_str() else {
-            return Ok(None);
+            return Err(PartFault::WrongForm);
         };
-        match Text::new(alloc, text.as_bytes()) {
-            Ok(text) => Ok(Some(text)),
-            Err(TextFault::TooLong) => Ok(None),
-            Err(TextFault::NotUtf8 | TextFault::NoMemory) => Err(NoMemory),
+        if text.len() > MAX_TEXT {
+            return Err(PartFault::WrongForm);
         }
+        Ok(Text::of(alloc, text)?)
     }
 }
 
 impl<C, T: Part<C> + Drop> Part<C> for List<T> {
     ghost part_in = { λ context. list_in (T.part_in context) };
 
-    fn read(alloc: Global, context: &C, value: &Value) -> Result<Option<List<T>>, NoMemory> {
-        match items(value) {
-            Some(values) => read_each(alloc, context, values),
-            None => Ok(None),
-        }
+    fn read(alloc: Global, context: &C, value: &Value) -> Result<List<T>, PartFault> {
+        read_each(alloc, context, items(value)?)
     }
 }
 
@@ -62,17 +60,15 @@ fn read_each<C, T: Part<C> + Drop>(
     alloc: Global,
     context: &C,
     values: &[Value],
-) -> Result<Option<List<T>>, NoMemory>
-    ensures { IfOk result (λ parts. parts ≡ each (T.part_in context.now) (map view values.now)) }
+) -> Result<List<T>, PartFault>
+    ensures parts { IfOk result (λ parts. each (T.part_in context.now) (map view values.now) ≡ Some parts) }
+    ensures none { IsErrOf result PartFault.WrongForm → each (T.part_in context.now) (map view values.now) ≡ None }
 {
     let mut parts = List::new(alloc);
     'values: for value in values {
-        let Some(part) = T::read(alloc, context, value)? else {
-            return Ok(None);
-        };
-        parts.push(part)?;
+        parts.push(T::read(alloc, context, value)?)?;
     }
-    Ok(Some(parts))
+    Ok(parts)
 }
 
 /// Reads a part from the value at a key of an object.
@@ -81,12 +77,13 @@ pub fn read_field<C, T: Part<C>>(
     context: &C,
     key: &str,
     value: &Value,
-) -> Result<Option<T>, NoMemory>
-    ensures { IfOk result (λ part. part ≡ field key.now (T.part_in context.now) (view value.now)) }
+) -> Result<T, PartFault>
+    ensures part { IfOk result (λ part. field key.now (T.part_in context.now) (view value.now) ≡ Some part) }
+    ensures none { IsErrOf result PartFault.WrongForm → field key.now (T.part_in context.now) (view value.now) ≡ None }
 {
     match value.get(key) {
         Some(found) => T::read(alloc, context, found),
-        None => Ok(None),
+        None => Err(PartFault::WrongForm),
     }
 }
 
@@ -101,7 +98,8 @@ pub fn has_keys(value: &Value, keys: &[&str]) -> bool
 }
 
 fn are_keys(members: &Map<String, Value>, keys: &[&str]) -> bool
-    ensures { result ≡ pointwise bytes_eq (keys_of (members_view members.now.entries)) (map (λ key. key.now) keys.now) }
+    ensures { result
+        ≡ pointwise bytes_eq (keys_of (members_view members.now.entries)) (map (λ key. key.now) keys.now) }
 {
     let mut place = 0;
     'names: for name in members.keys() {

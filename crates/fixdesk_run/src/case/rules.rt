@@ -1,38 +1,17 @@
 //! The rules of a case.
-ghost use Rattle.std.specs.Prelude.{◌≡◌, ◌<◌, ℕ, List, option_map, map, IfOk, IfSome};
+ghost use Rattle.std.specs.Prelude.{◌≡◌, ◌<◌, ℕ, List, option_map, map, IfOk, IsErrOf, Some, None};
 ghost use Rattle.serde_json.specs.View.{view};
-ghost use Rattle.fixdesk_run.specs.Case.{place_in, number_in, column_in, master_in, key_in, key_of, pattern_with, pattern_of, cond_in, cond_of, rule_in, rule_of};
-ghost use Rattle.fixdesk_run.specs.Parts.{field};
+ghost use Rattle.fixdesk_run.specs.Case.Parts.{field};
+ghost use Rattle.fixdesk_run.specs.Case.Rules.{column_in, cond_in, cond_of, key_in, key_of, master_in, number_in};
+ghost use Rattle.fixdesk_run.specs.Case.Rules.{pattern_of, pattern_with, rule_in, rule_of};
 
 use crate::case::attributes::Attributes;
-use crate::case::masters::MAX_COLUMNS;
+use crate::case::fault::PartFault;
 use crate::case::parts::{Part, has_keys, items, read_field};
-use desk_base::{List, MAX_MASTERS, NoMemory, Text};
+use desk_base::{List, MAX_COLUMNS, MAX_MASTERS, Text};
 use fix_model::{Pat, Rule};
 use serde_json::Value;
 use std::alloc::Global;
-
-/// The place of the attribute that the value names, from 0.
-pub fn place(attributes: &Attributes, value: &Value) -> Option<u16>
-    ensures { result ≡ place_in attributes.now (view value.now) }
-{
-    match value.as_str() {
-        Some(word) => attributes.place(word),
-        None => None,
-    }
-}
-
-impl Part<Attributes> for u16 {
-    ghost part_in = { place_in };
-
-    fn read(
-        _alloc: Global,
-        attributes: &Attributes,
-        value: &Value,
-    ) -> Result<Option<u16>, NoMemory> {
-        Ok(place(attributes, value))
-    }
-}
 
 /// The place from 0 that a whole number from 1 up to the greatest stands for.
 fn number(greatest: u16, value: &Value) -> Option<u16>
@@ -44,85 +23,114 @@ fn number(greatest: u16, value: &Value) -> Option<u16>
     }
 }
 
-fn column(value: &Value) -> Option<u16>
-    ensures { result ≡ column_in (view value.now) }
+/// A column, read of a value.
+fn column(value: &Value) -> Result<u16, PartFault>
+    ensures column { IfOk result (λ column. column_in (view value.now) ≡ Some column) }
+    ensures none { IsErrOf result PartFault.WrongForm → column_in (view value.now) ≡ None }
 {
-    number(MAX_COLUMNS, value)
+    match number(MAX_COLUMNS as u16, value) {
+        Some(column) => Ok(column),
+        None => Err(PartFault::WrongForm),
+    }
 }
 
-fn master(value: &Value) -> Option<u16>
-    ensures { result ≡ master_in (view value.now) }
+/// The column at a key of an object.
+fn column_at(key: &str, value: &Value) -> Result<u16, PartFault>
+    ensures column { IfOk result (λ column. field key.now column_in (view value.now) ≡ Some column) }
+    ensures none { IsErrOf result PartFault.WrongForm → field key.now column_in (view value.now) ≡ None }
 {
-    number(MAX_MASTERS as u16, value)
+    match value.get(key) {
+        Some(found) => column(found),
+        None => Err(PartFault::WrongForm),
+    }
 }
 
-fn key(attributes: &Attributes, items: &[Value]) -> Option<(u16, u16)>
-    ensures { result ≡ key_of attributes.now (map view items.now) }
+/// The master at a key of an object.
+fn master_at(key: &str, value: &Value) -> Result<u16, PartFault>
+    ensures master { IfOk result (λ master. field key.now master_in (view value.now) ≡ Some master) }
+    ensures none { IsErrOf result PartFault.WrongForm → field key.now master_in (view value.now) ≡ None }
 {
-    let [name, place_of] = items else {
-        return None;
-    };
-    Some((place(attributes, name)?, column(place_of)?))
+    match value.get(key) {
+        Some(found) => master(found),
+        None => Err(PartFault::WrongForm),
+    }
+}
+
+/// A master, read of a value.
+fn master(value: &Value) -> Result<u16, PartFault>
+    ensures master { IfOk result (λ master. master_in (view value.now) ≡ Some master) }
+    ensures none { IsErrOf result PartFault.WrongForm → master_in (view value.now) ≡ None }
+{
+    match number(MAX_MASTERS as u16, value) {
+        Some(master) => Ok(master),
+        None => Err(PartFault::WrongForm),
+    }
 }
 
 impl Part<Attributes> for (u16, u16) {
     ghost part_in = { key_in };
 
     fn read(
-        _alloc: Global,
+        alloc: Global,
         attributes: &Attributes,
         value: &Value,
-    ) -> Result<Option<(u16, u16)>, NoMemory> {
-        match items(value) {
-            Some(items) => Ok(key(attributes, items)),
-            None => Ok(None),
-        }
+    ) -> Result<(u16, u16), PartFault> {
+        key(alloc, attributes, items(value)?)
     }
+}
+
+/// A key, read of the items of its array.
+fn key(alloc: Global, attributes: &Attributes, items: &[Value]) -> Result<(u16, u16), PartFault>
+    ensures key { IfOk result (λ key. key_of attributes.now (map view items.now) ≡ Some key) }
+    ensures none { IsErrOf result PartFault.WrongForm → key_of attributes.now (map view items.now) ≡ None }
+{
+    let [name, place] = items else {
+        return Err(PartFault::WrongForm);
+    };
+    let attribute = u16::read(alloc, attributes, name)?;
+    let column = column(place)?;
+    Ok((attribute, column))
 }
 
 /// The pattern of one text or of a set, which stands behind its word.
-fn pattern_with(alloc: Global, word: &str, value: &Value) -> Result<Option<Pat>, NoMemory>
-    ensures { IfOk result (λ pattern. pattern ≡ pattern_with word.now (view value.now)) }
+fn pattern_with(alloc: Global, word: &str, value: &Value) -> Result<Pat, PartFault>
+    ensures pattern { IfOk result (λ pattern. pattern_with word.now (view value.now) ≡ Some pattern) }
+    ensures none { IsErrOf result PartFault.WrongForm → pattern_with word.now (view value.now) ≡ None }
 {
     match word {
-        "is" => Ok(Text::read(alloc, &(), value)?.map(Pat::Is)),
-        "not" => Ok(Text::read(alloc, &(), value)?.map(Pat::IsNot)),
-        "in" => Ok(List::read(alloc, &(), value)?.map(Pat::OneOf)),
-        "not_in" => Ok(List::read(alloc, &(), value)?.map(Pat::NoneOf)),
-        _ => Ok(None),
+        "is" => Ok(Pat::Is(Text::read(alloc, &(), value)?)),
+        "not" => Ok(Pat::IsNot(Text::read(alloc, &(), value)?)),
+        "in" => Ok(Pat::OneOf(List::read(alloc, &(), value)?)),
+        "not_in" => Ok(Pat::NoneOf(List::read(alloc, &(), value)?)),
+        _ => Err(PartFault::WrongForm),
     }
 }
 
-fn pattern(alloc: Global, word: &str, rest: &[Value]) -> Result<Option<Pat>, NoMemory>
-    ensures { IfOk result (λ pattern. pattern ≡ pattern_of word.now (map view rest.now)) }
+fn pattern(alloc: Global, word: &str, rest: &[Value]) -> Result<Pat, PartFault>
+    ensures pattern { IfOk result (λ pattern. pattern_of word.now (map view rest.now) ≡ Some pattern) }
+    ensures none { IsErrOf result PartFault.WrongForm → pattern_of word.now (map view rest.now) ≡ None }
 {
     match rest {
-        [] if word == "any" => Ok(Some(Pat::Any)),
+        [] if word == "any" => Ok(Pat::Any),
         [value] => pattern_with(alloc, word, value),
-        _ => Ok(None),
+        _ => Err(PartFault::WrongForm),
     }
 }
 
-fn cond(
-    alloc: Global,
-    attributes: &Attributes,
-    items: &[Value],
-) -> Result<Option<(u16, Pat)>, NoMemory>
-    ensures { IfOk result (λ cond. cond ≡ cond_of attributes.now (map view items.now)) }
+/// A condition, read of the items of its array.
+fn cond(alloc: Global, attributes: &Attributes, items: &[Value]) -> Result<(u16, Pat), PartFault>
+    ensures cond { IfOk result (λ cond. cond_of attributes.now (map view items.now) ≡ Some cond) }
+    ensures none { IsErrOf result PartFault.WrongForm → cond_of attributes.now (map view items.now) ≡ None }
 {
     let [name, test, rest @ ..] = items else {
-        return Ok(None);
+        return Err(PartFault::WrongForm);
     };
-    let Some(attribute) = place(attributes, name) else {
-        return Ok(None);
-    };
+    let attribute = u16::read(alloc, attributes, name)?;
     let Some(word) = test.as_str() else {
-        return Ok(None);
+        return Err(PartFault::WrongForm);
     };
-    match pattern(alloc, word, rest)? {
-        Some(pattern) => Ok(Some((attribute, pattern))),
-        None => Ok(None),
-    }
+    let pattern = pattern(alloc, word, rest)?;
+    Ok((attribute, pattern))
 }
 
 impl Part<Attributes> for (u16, Pat) {
@@ -132,66 +140,38 @@ impl Part<Attributes> for (u16, Pat) {
         alloc: Global,
         attributes: &Attributes,
         value: &Value,
-    ) -> Result<Option<(u16, Pat)>, NoMemory> {
-        match items(value) {
-            Some(items) => cond(alloc, attributes, items),
-            None => Ok(None),
-        }
+    ) -> Result<(u16, Pat), PartFault> {
+        cond(alloc, attributes, items(value)?)
     }
 }
 
-/// The place that is read of the value at a key of an object.
-fn column_at(key: &str, value: &Value) -> Option<u16>
-    ensures { result ≡ field key.now column_in (view value.now) }
+/// A rule, read of an object that has the keys of one.
+fn rule(alloc: Global, attributes: &Attributes, value: &Value) -> Result<Rule, PartFault>
+    ensures rule { IfOk result (λ rule. rule_of attributes.now (view value.now) ≡ Some rule) }
+    ensures none { IsErrOf result PartFault.WrongForm → rule_of attributes.now (view value.now) ≡ None }
 {
-    column(value.get(key)?)
-}
-
-fn master_at(key: &str, value: &Value) -> Option<u16>
-    ensures { result ≡ field key.now master_in (view value.now) }
-{
-    master(value.get(key)?)
-}
-
-fn rule(alloc: Global, attributes: &Attributes, value: &Value) -> Result<Option<Rule>, NoMemory>
-    ensures { IfOk result (λ rule. rule ≡ rule_of attributes.now (view value.now)) }
-{
-    let Some(keys) = read_field(alloc, attributes, "keys", value)? else {
-        return Ok(None);
-    };
-    let Some(head) = read_field(alloc, attributes, "head", value)? else {
-        return Ok(None);
-    };
-    let Some(from) = column_at("from", value) else {
-        return Ok(None);
-    };
-    let Some(master) = master_at("master", value) else {
-        return Ok(None);
-    };
-    let Some(conds) = read_field(alloc, attributes, "conds", value)? else {
-        return Ok(None);
-    };
-    Ok(Some(Rule {
+    let keys = read_field(alloc, attributes, "keys", value)?;
+    let head = read_field(alloc, attributes, "head", value)?;
+    let from = column_at("from", value)?;
+    let master = master_at("master", value)?;
+    let conds = read_field(alloc, attributes, "conds", value)?;
+    Ok(Rule {
         keys,
         head,
         from,
         master,
         conds,
-    }))
+    })
 }
 
 impl Part<Attributes> for Rule {
     ghost part_in = { rule_in };
 
-    fn read(
-        alloc: Global,
-        attributes: &Attributes,
-        value: &Value,
-    ) -> Result<Option<Rule>, NoMemory> {
+    fn read(alloc: Global, attributes: &Attributes, value: &Value) -> Result<Rule, PartFault> {
         if has_keys(value, &["conds", "from", "head", "keys", "master"]) {
             rule(alloc, attributes, value)
         } else {
-            Ok(None)
+            Err(PartFault::WrongForm)
         }
     }
 }

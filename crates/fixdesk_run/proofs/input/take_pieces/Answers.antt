@@ -1,16 +1,23 @@
 use Rattle.std.proofs.Common.{◌++◌, ◌≤◌, ◌-◌, rules, take, length, arith, length-append, length-take}
+use Rattle.fixdesk_run.specs.Input.{most, TakesPart}
 use Rattle.fixdesk_run.proofs.Taking.{Consumes-then}
 use Rattle.fixdesk_run.proofs.input.take_pieces.Goals as goal
 
 -- what was read last is lost, and was taken all the same
-pub returns-then-is_err-clause-part : goal.returns-then-is_err-clause-part
-returns-then-is_err-clause-part g c =
-    let read = take c.in-Ok.count c.read.new.buf in
-    let room : c.min-room.result ≤ 1048577 - length c.pieces.bytes.items = search rules in
+pub returns-in_err-extend_from_slice-clause-part : goal.returns-in_err-extend_from_slice-clause-part
+returns-in_err-extend_from_slice-clause-part g c =
+    let read = take c.in_ok-count.count c.read.new.buf in
+    let room : c.min-room.result ≤ most - length c.pieces.bytes.items = search rules in
     let size : length c.read.new.buf ≤ c.min-room.result = rw (c.read.auto.buf, length-take) (omega arith) in
-    let few : length (c.pieces.bytes.items ++ read) ≤ 1048577 = simp (length-append, length-take) (omega (arith, room, size, c.pieces.invariant.bounded)) in
-    record {
+    let few : length (c.pieces.bytes.items ++ read) ≤ most =
+    simp (length-append, length-take) (omega (arith, room, size, c.pieces.invariant.bounded)) in
+    let part : TakesPart (g.S.Source.left c.args.input.now) (g.S.Source.left c.read.new.self) = record {
       bytes = c.pieces.bytes.items ++ read;
-      taken = Consumes-then _ _ _ _ _ c.pieces.invariant.taken c.in-Ok.ensures.bytes.0;
+      taken = Consumes-then _ _ _ _ _ c.pieces.invariant.taken c.in_ok-count.ensures.bytes.0;
       bounded = few;
-    }
+    } in
+    search (rules, part)
+
+-- a steady source does not fail
+pub returns-in_err-count-clause-steady : goal.returns-in_err-count-clause-steady
+returns-in_err-count-clause-steady g c steady failed = let ok = (c.in_err-count.ensures.steady (c.pieces.invariant.steady steady)).0 in cc

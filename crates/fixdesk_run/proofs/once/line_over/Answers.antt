@@ -8,5 +8,6 @@ pub fix_line-requires-clause-fits : goal.fix_line-requires-clause-fits
 fix_line-requires-clause-fits g c =
     let kit = g.B.Book.kit c.args.book.now in
     let runs = c.args.work.now in
-    let decided : engine.IsAnswer kit c.args.state runs.first runs.second (Fix c.in-Fix.certain c.in-Fix.dissent) = rw c.in-Fix.is at c.requires.decided in
+    let decided : engine.IsAnswer kit c.args.state runs.first runs.second (Fix c.in-Fix.certain c.in-Fix.dissent) =
+    rw c.in-Fix.is at c.requires.decided in
     rw (c.apply.ensures, c.first.ensures) (Fits-end_of kit c.requires.valid c.args.state runs.first c.requires.fits decided.0.is_first.maximal.0)

@@ -1,5 +1,5 @@
 use Rattle.fixdesk_run.proofs.Reading.{all_items-items_of}
 use Rattle.fixdesk_run.proofs.case.parts.items.Goals as goal
 
-pub returns-in-Some : goal.returns-in-Some
-returns-in-Some c = rw (← c.in-Some.ensures, c.as_slice.ensures.value, all_items-items_of)
+pub returns-in-Some-clause-items : goal.returns-in-Some-clause-items
+returns-in-Some-clause-items c = rw (← c.in-Some.ensures, c.as_slice.ensures.value, all_items-items_of)

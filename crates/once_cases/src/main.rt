@@ -1,0 +1,32 @@
+//! Tries the cases in `data/`: `run` with its words over links in memory, and what answers a case over an index.
+//!
+//! The words are the files of cases; a file's name up to its first `-` says what is tried. `docs/cases.md` says how
+//! a case is written, and the README which parts these have.
+#![tactic(auto)]
+
+mod calls;
+mod indexes;
+mod sweeps;
+
+use desk_cases::{Case, Part, Subject, try_files};
+use std::alloc::Global;
+use std::test::Fail;
+
+/// What runs the command `once`, and words that are no command.
+#[derive(Drop)]
+struct Runs;
+
+impl Subject for Runs {
+    fn answer(&mut self, alloc: Global, kind: &str, case: &Case) -> Result<Vec<Part>, Fail> {
+        match kind {
+            "once" => calls::answer(alloc, case),
+            "reads" => sweeps::each_read_fails(alloc, case),
+            "writes" => sweeps::each_write_fails(alloc, case),
+            _ => Err(Fail::new("a file of cases has an unknown kind")),
+        }
+    }
+}
+
+fn main(rt: HostRuntime) -> Result<(), Fail> {
+    try_files(&rt, &mut Runs)
+}
