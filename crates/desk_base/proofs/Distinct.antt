@@ -1,5 +1,6 @@
 -- Lists whose items all differ by a key.
-use Rattle.std.proofs.Common.{◌≡◌, ◌≢◌, ◌<◌, ◌≤◌, ◌+◌, ◌-◌, ◌∙◌, ℕ, List, take, drop, length, get_or, ap, sym, arith, inl, inr, length-drop}
+use Rattle.std.proofs.Common.{◌≡◌, ◌≢◌, ◌<◌, ◌≤◌, ◌+◌, ◌-◌, ◌∙◌, ℕ, List, take, drop, length, get_or, ap, sym, arith}
+use Rattle.std.proofs.Common.{inl, inr, length-drop}
 use Rattle.std.specs.Prelude.{AllPairs, Any}
 use Rattle.std.proofs.Math.Nat.{eq-or-lt_of_le}
 use Rattle.std.proofs.lemmas.List.{take_all, get_or-drop, get_or_read, get_or_default}
@@ -40,8 +41,14 @@ module _ {A B : Type 0} (key : A → B) (items : List A) (place : ℕ) (item : A
       let seat : place + 1 + far ≡ j = omega arith in
       let there : get_or (drop (place + 1) items) far x ≡ x =
       get_or-drop (place + 1) items far x ∙ ap (λ k. get_or items k x) seat ∙ get_or_default items j x d inside in
-      let found : Any (λ other. key item ≡ key other) (drop (place + 1) items) =
-      (far, x, omega (arith, length-drop (place + 1) items), there, ap key (get_or_read items place item within is d) ∙ same) in
+      let found : Any (λ other. key item ≡ key other) (drop (place + 1) items) = (
+        far,
+        x,
+        omega (arith, length-drop (place + 1) items),
+        there,
+        ap key (get_or_read items place item within is d)
+            ∙ same,
+      ) in
       none (rw behind_whole found)
 
   -- where the items before a place differ from all behind them, and the item there too, so do the items up to it

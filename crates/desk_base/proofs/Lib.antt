@@ -1,4 +1,5 @@
 pub mod Distinct
 pub mod Growth
+pub mod Options
 pub mod Rows
 pub mod Utf8

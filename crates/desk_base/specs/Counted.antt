@@ -9,4 +9,5 @@ pub record Counted (D : Type 0) : Type 0 where
 
 -- it is stored as the pair of its fields
 abbrev pub counted_code : {D : Type 0} → Coded D → Coded (Counted D)
-counted_code {D} code = code_by (D × ℕ) (coded× code coded_ℕ) (λ c. (c.device, c.faults)) (λ p. record { device = p.0; faults = p.1 }) (λ _. refl)
+counted_code {D} code = code_by (D × ℕ) (coded× code coded_ℕ) (λ c. (c.device, c.faults))
+    (λ p. record { device = p.0; faults = p.1 }) (λ _. refl)

@@ -9,7 +9,8 @@ pub record GridRows : Type 0 where
 
 -- it is stored as the pair of its fields
 abbrev pub grid_rows_code : Coded GridRows
-grid_rows_code = code_by (ℕ × List (List (List ℕ))) (coded× coded_ℕ (coded_list (coded_list (coded_list coded_ℕ)))) (λ t. (t.columns, t.rows)) (λ p. record { columns = p.0; rows = p.1 }) (λ _. refl)
+grid_rows_code = code_by (ℕ × List (List (List ℕ))) (coded× coded_ℕ (coded_list (coded_list (coded_list coded_ℕ))))
+    (λ t. (t.columns, t.rows)) (λ p. record { columns = p.0; rows = p.1 }) (λ _. refl)
 
 -- the text in a row and a column, both counted from 0
 abbrev pub cell_text : GridRows → ℕ → ℕ → List ℕ

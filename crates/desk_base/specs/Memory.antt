@@ -9,7 +9,8 @@ pub record Schedule : Type 0 where
 
 -- it is stored as the pair of its fields
 abbrev pub schedule_code : Coded Schedule
-schedule_code = code_by (ℕ × List ℕ) (coded× coded_ℕ (coded_list coded_ℕ)) (λ s. (s.calls, s.fails)) (λ p. record { calls = p.0; fails = p.1 }) (λ _. refl)
+schedule_code = code_by (ℕ × List ℕ) (coded× coded_ℕ (coded_list coded_ℕ)) (λ s. (s.calls, s.fails))
+    (λ p. record { calls = p.0; fails = p.1 }) (λ _. refl)
 
 -- the next call is to fail; once the count stands at its last value none is
 abbrev pub NextFails : Schedule → Type 0
@@ -27,7 +28,10 @@ pub record SourceSeen : Type 0 where
   pub faults : ℕ
 
 abbrev pub source_seen_code : Coded SourceSeen
-source_seen_code = code_by (List ℕ × (ℕ × (Schedule × ℕ))) (coded× (coded_list coded_ℕ) (coded× coded_ℕ (coded× schedule_code coded_ℕ))) (λ s. (s.left, (s.cut, (s.schedule, s.faults)))) (λ p. record { left = p.0; cut = p.1.0; schedule = p.1.1.0; faults = p.1.1.1 }) (λ _. refl)
+source_seen_code = code_by (List ℕ × (ℕ × (Schedule × ℕ)))
+    (coded× (coded_list coded_ℕ) (coded× coded_ℕ (coded× schedule_code coded_ℕ)))
+    (λ s. (s.left, (s.cut, (s.schedule, s.faults))))
+    (λ p. record { left = p.0; cut = p.1.0; schedule = p.1.1.0; faults = p.1.1.1 }) (λ _. refl)
 
 -- the bytes that a sink holds, how many a call takes at most, and how many it holds at most
 pub record SinkSeen : Type 0 where
@@ -38,4 +42,7 @@ pub record SinkSeen : Type 0 where
   pub faults : ℕ
 
 abbrev pub sink_seen_code : Coded SinkSeen
-sink_seen_code = code_by (List ℕ × (ℕ × (ℕ × (Schedule × ℕ)))) (coded× (coded_list coded_ℕ) (coded× coded_ℕ (coded× coded_ℕ (coded× schedule_code coded_ℕ)))) (λ s. (s.written, (s.cut, (s.room, (s.schedule, s.faults))))) (λ p. record { written = p.0; cut = p.1.0; room = p.1.1.0; schedule = p.1.1.1.0; faults = p.1.1.1.1 }) (λ _. refl)
+sink_seen_code = code_by (List ℕ × (ℕ × (ℕ × (Schedule × ℕ))))
+    (coded× (coded_list coded_ℕ) (coded× coded_ℕ (coded× coded_ℕ (coded× schedule_code coded_ℕ))))
+    (λ s. (s.written, (s.cut, (s.room, (s.schedule, s.faults)))))
+    (λ p. record { written = p.0; cut = p.1.0; room = p.1.1.0; schedule = p.1.1.1.0; faults = p.1.1.1.1 }) (λ _. refl)

@@ -4,7 +4,7 @@ use Rattle.desk_base.specs.declared.error.Failed.{Failed}
 use Rattle.desk_base.specs.Faults.{CountsFaults}
 use Rattle.desk_base.specs.Memory.{SourceSeen, SinkSeen, NextFails, after_call}
 
--- one read into so many places: it fails by the plan alone, and else gives as much as the cut, the places and what is left allow
+-- one read into so many places: it fails by the plan alone, and else gives what the cut, the places and the rest allow
 pub record ReadsByPlan (before after : SourceSeen) (places : ℕ) (result : Result ℕ Failed) : Type 0 where
   pub fails : IsErr result ↔ NextFails before.schedule
   pub count : IfOk result (λ count. count ≡ min before.cut (min places (length before.left)))
@@ -12,7 +12,7 @@ pub record ReadsByPlan (before after : SourceSeen) (places : ℕ) (result : Resu
   pub faults : CountsFaults before.faults after.faults result
   pub cut : after.cut ≡ before.cut
 
--- one write of so many bytes: it fails by the plan or where no room is left, and else takes as much as the cut, the piece and the room allow
+-- one write of so many bytes: it fails by the plan or for want of room, and else takes what the cut and the room allow
 pub record WritesByPlan (before after : SinkSeen) (size : ℕ) (result : Result ℕ Failed) : Type 0 where
   pub fails : IsErr result ↔ (NextFails before.schedule ⊎ (before.room ≤ length before.written))
   pub count : IfOk result (λ count. count ≡ min before.cut (min size (before.room - length before.written)))

@@ -2,11 +2,12 @@
 use Rattle.std.specs.Prelude.{ℕ, List, refl}
 use Rattle.std.specs.Coded.{Coded, code_by, coded×, coded_list, coded_ℕ}
 
--- the items, and how many more are taken without memory
+-- the items, and how many more are taken whatever memory there is
 pub record Roomy (T : Type 0) : Type 0 where
   pub items : List T
   pub spare : ℕ
 
 -- it is stored as the pair of its fields
 abbrev pub roomy_code : {T : Type 0} → Coded T → Coded (Roomy T)
-roomy_code {T} code = code_by (List T × ℕ) (coded× (coded_list code) coded_ℕ) (λ r. (r.items, r.spare)) (λ p. record { items = p.0; spare = p.1 }) (λ _. refl)
+roomy_code {T} code = code_by (List T × ℕ) (coded× (coded_list code) coded_ℕ) (λ r. (r.items, r.spare))
+    (λ p. record { items = p.0; spare = p.1 }) (λ _. refl)

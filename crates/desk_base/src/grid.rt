@@ -34,7 +34,7 @@ impl Model for Grid {
 }
 
 impl Grid {
-    /// A grid of so many columns, without rows. It takes no memory yet.
+    /// A grid of so many columns, without rows.
     pub fn new(alloc: Global, columns: u16) -> Grid
         ensures { result ≡ record { columns = columns; rows = [] } }
     {
@@ -45,7 +45,7 @@ impl Grid {
         }
     }
 
-    /// A grid of so many rows, whose cells lie one behind another, row after row. It takes no memory.
+    /// A grid of so many rows, whose cells lie one behind another, row after row.
     pub fn from_cells(columns: u16, rows: u32, cells: List<Text>) -> Grid
         requires few { rows ≤ MAX_ROWS }
         requires full { length cells ≡ rows * columns }

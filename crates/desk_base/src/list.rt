@@ -21,7 +21,7 @@ impl<T> Model for List<T> {
 }
 
 impl<T> List<T> {
-    /// The empty list. It takes no memory yet.
+    /// The empty list.
     pub fn new(alloc: Global) -> List<T>
         ensures { result ≡ [] }
     {
@@ -30,7 +30,7 @@ impl<T> List<T> {
         }
     }
 
-    /// The list of a vector's items. It takes no memory.
+    /// The list of a vector's items.
     pub fn from_vec(items: Vec<T>) -> List<T>
         ensures { result ≡ items.items }
     {
@@ -84,7 +84,7 @@ impl<T> List<T> {
         *self.items.allocator()
     }
 
-    /// Hands out the items in their order. It takes no memory.
+    /// Hands out the items in their order.
     pub fn into_vec(self) -> Vec<T>
         ensures { result.items ≡ self }
     {

@@ -82,7 +82,12 @@ impl MemSource {
     /// `fails` holds k.
     pub fn new(bytes: List<u8>, cut: usize, fails: List<u64>) -> MemSource
         requires { 1 ≤ cut }
-        ensures { result ≡ record { left = bytes; cut = cut; schedule = record { calls = 0; fails = fails }; faults = 0 } }
+        ensures { result ≡ record {
+          left = bytes;
+          cut = cut;
+          schedule = record { calls = 0; fails = fails };
+          faults = 0;
+        } }
     {
         MemSource {
             bytes: bytes.into_vec(),
@@ -134,7 +139,13 @@ impl Model for MemSink {
 
     ghost coded = { sink_seen_code };
 
-    ghost view = { λ s. record { written = s.bytes.items; cut = s.cut; room = s.room; schedule = s.plan; faults = s.faults } };
+    ghost view = { λ s. record {
+      written = s.bytes.items;
+      cut = s.cut;
+      room = s.room;
+      schedule = s.plan;
+      faults = s.faults;
+    } };
 
     ghost invariant = { λ s. (length s.bytes.items ≤ s.room) × (s.room ≤ vec_capacity s.bytes) × (1 ≤ s.cut) };
 }
@@ -149,7 +160,13 @@ impl MemSink {
         fails: List<u64>,
     ) -> Result<MemSink, NoMemory>
         requires { 1 ≤ cut }
-        ensures { IfOk result (λ sink. sink ≡ record { written = []; cut = cut; room = room; schedule = record { calls = 0; fails = fails }; faults = 0 }) }
+        ensures { IfOk result (λ sink. sink ≡ record {
+          written = [];
+          cut = cut;
+          room = room;
+          schedule = record { calls = 0; fails = fails };
+          faults = 0;
+        }) }
     {
         let bytes = Vec::with_capacity(alloc, room)?;
         Ok(MemSink {

@@ -1,5 +1,6 @@
-//! A list with reserved places. A clause sees its items, and how many more it takes without memory.
-ghost use Rattle.std.specs.Prelude.{◌≡◌, ◌==◌, ◌+◌, ◌-◌, ◌<◌, ◌≤◌, ◌∷◌, ◌++◌, [], length, slice_get, slice_set, Some, IsOk, IfOk, OnOk, OnErr};
+//! A list with reserved places. A clause sees its items, and how many more it takes for sure.
+ghost use Rattle.std.specs.Prelude.{◌≡◌, ◌==◌, ◌+◌, ◌-◌, ◌<◌, ◌≤◌, ◌∷◌, ◌++◌, [], length, slice_get, slice_set, Some};
+ghost use Rattle.std.specs.Prelude.{IsOk, IfOk, OnOk, OnErr};
 ghost use Rattle.std.specs.Borrow.{sem};
 ghost use Rattle.desk_base.specs.Lending.{LendsSlot};
 
@@ -29,7 +30,7 @@ impl<T> Model for Room<T> {
 }
 
 impl<T> Room<T> {
-    /// No items and no places. It takes no memory yet.
+    /// No items and no places.
     pub fn new(alloc: Global) -> Room<T>
         ensures { result ≡ record { items = []; spare = 0 } }
     {
@@ -44,7 +45,10 @@ impl<T> Room<T> {
     pub fn push(&mut self, item: T) -> Result<(), NoMemory>
     where
         T: Drop,
-        ensures pushed { OnOk result (self.new ≡ record { items = self.old.items ++ item ∷ []; spare = self.old.spare - 1 }) }
+        ensures pushed { OnOk result (self.new ≡ record {
+          items = self.old.items ++ item ∷ [];
+          spare = self.old.spare - 1;
+        }) }
         ensures unchanged { OnErr result (self.new ≡ self.old) }
         ensures reserved { 0 < self.old.spare → IsOk result }
     {
@@ -67,7 +71,7 @@ impl<T> Room<T> {
         Ok(())
     }
 
-    /// Adds an item at a reserved place. It takes no memory.
+    /// Adds an item at a reserved place, whatever memory there is.
     pub fn push_reserved(&mut self, item: T)
         requires { 0 < self.old.spare }
         ensures { self.new ≡ record { items = self.old.items ++ item ∷ []; spare = self.old.spare - 1 } }
@@ -121,7 +125,7 @@ impl<T> Room<T> {
         *self.items.allocator()
     }
 
-    /// Hands out the items in their order. It takes no memory.
+    /// Hands out the items in their order.
     pub fn into_vec(self) -> Vec<T>
         ensures { result.items ≡ self.items }
     {

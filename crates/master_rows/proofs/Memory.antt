@@ -5,14 +5,17 @@ use Rattle.std.specs.Bool.{if◌then◌else◌}
 use Rattle.std.proofs.lemmas.Bool.{cases_Bool}
 use Rattle.master_rows.specs.Mark.{begins_with_two_marks}
 use Rattle.master_rows.specs.Header.{columns_fault, header_fault}
-use Rattle.master_rows.specs.Row.{cells_fault, row_fault, rows_fault, first_fault}
+use Rattle.std.specs.Option.{option_or}
+use Rattle.master_rows.specs.Row.{cells_fault, row_fault, rows_fault}
 use Rattle.master_rows.specs.Sheet.{read_sheet, sheet_records, read_records, unless}
 use Rattle.master_rows.specs.declared.error.SheetFault.{SheetFault}
-use Rattle.master_rows.specs.declared.error.SheetFault.TheVariants.{NotUtf8, BadColumn, ColumnTwice, Ragged, CellLong, TooManyRows, TooManyColumns, NoMemory}
+use Rattle.master_rows.specs.declared.error.SheetFault.TheVariants.{NotUtf8, BadColumn, ColumnTwice, Ragged, CellLong}
+use Rattle.master_rows.specs.declared.error.SheetFault.TheVariants.{TooManyRows, TooManyColumns, NoMemory}
 use Rattle.master_rows.specs.declared.master.Master.{Master}
 
 -- a fault of the sheet, or else another that is none of memory
-fault_or : (test : Bool) (fault : SheetFault) (other : Option SheetFault) → fault ≢ NoMemory → other ≢ Some NoMemory → (if test then Some fault else other) ≢ Some NoMemory
+fault_or : (test : Bool) (fault : SheetFault) (other : Option SheetFault) → fault ≢ NoMemory → other ≢ Some NoMemory
+    → (if test then Some fault else other) ≢ Some NoMemory
 fault_or true fault other apart later = λ (h : Some fault ≡ Some NoMemory). apart cc
 fault_or false fault other apart later = later
 
@@ -34,7 +37,8 @@ header_fault-memory header =
 -- of cells
 cells_fault-memory : (row column : ℕ) (cells : List (List ℕ)) → cells_fault row column cells ≢ Some NoMemory
 cells_fault-memory row column [] = λ h. cc
-cells_fault-memory row column (cell ∷ later) = fault_or _ (CellLong row column) _ (λ (h : CellLong row column ≡ NoMemory). cc) (cells_fault-memory row (column + 1) later)
+cells_fault-memory row column (cell ∷ later) = fault_or _ (CellLong row column) _
+    (λ (h : CellLong row column ≡ NoMemory). cc) (cells_fault-memory row (column + 1) later)
 
 -- of a row
 row_fault-memory : (columns row : ℕ) (cells : List (List ℕ)) → row_fault columns row cells ≢ Some NoMemory
@@ -45,24 +49,28 @@ row_fault-memory columns row cells =
     (cells_fault-memory row 1 cells)))
 
 -- the first of two
-first_fault-memory : (first later : Option SheetFault) → first ≢ Some NoMemory → later ≢ Some NoMemory → first_fault first later ≢ Some NoMemory
-first_fault-memory None later one other = other
-first_fault-memory (Some fault) later one other = one
+option_or-memory : (first later : Option SheetFault) → first ≢ Some NoMemory → later ≢ Some NoMemory
+    → option_or first later ≢ Some NoMemory
+option_or-memory None later one other = other
+option_or-memory (Some fault) later one other = one
 
 -- of rows
 rows_fault-memory : (columns row : ℕ) (rows : List (List (List ℕ))) → rows_fault columns row rows ≢ Some NoMemory
 rows_fault-memory columns row [] = λ h. cc
-rows_fault-memory columns row (cells ∷ later) = first_fault-memory _ _ (row_fault-memory columns row cells) (rows_fault-memory columns (row + 1) later)
+rows_fault-memory columns row (cells ∷ later) = option_or-memory _ _ (row_fault-memory columns row cells)
+    (rows_fault-memory columns (row + 1) later)
 
 -- what is given in its place
-unless-memory : (fault : Option SheetFault) (master : Master) → fault ≢ Some NoMemory → unless fault master ≢ Err NoMemory
+unless-memory : (fault : Option SheetFault) (master : Master) → fault ≢ Some NoMemory
+    → unless fault master ≢ Err NoMemory
 unless-memory None master apart = λ h. cc
 unless-memory (Some fault) master apart = λ h. apart cc
 
 -- of records
 read_records-memory : (rows : List (List (List ℕ))) → read_records rows ≢ Err NoMemory
 read_records-memory [] = λ h. cc
-read_records-memory (header ∷ rows) = unless-memory _ _ (first_fault-memory _ _ (header_fault-memory header) (rows_fault-memory (length header) 1 rows))
+read_records-memory (header ∷ rows) = unless-memory _ _
+    (option_or-memory _ _ (header_fault-memory header) (rows_fault-memory (length header) 1 rows))
 
 -- no sheet is refused for want of memory
 pub read_sheet-memory : (sheet : List ℕ) → read_sheet sheet ≢ Err NoMemory

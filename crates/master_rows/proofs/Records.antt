@@ -1,5 +1,6 @@
 -- The fields of a record, one by one, and what they hold.
-use Rattle.std.proofs.Common.{◌≡◌, ℕ, zero, suc, ◌+◌, ◌<◌, true, false, List, [], ◌∷◌, ◌++◌, Bor, length, get_or, take, drop, refl, ap, arith}
+use Rattle.std.proofs.Common.{◌≡◌, ℕ, zero, suc, ◌+◌, ◌<◌, true, false, List, [], ◌∷◌, ◌++◌, Bor, length, get_or, take}
+use Rattle.std.proofs.Common.{drop, refl, ap, arith}
 use Rattle.std.specs.Prelude.{Some, None}
 use Rattle.std.specs.List.{list_all}
 use Rattle.std.specs.Str.{is_utf8}
@@ -10,7 +11,8 @@ use Rattle.csv.specs.Records.{field_at}
 use Rattle.master_rows.specs.Fields.{bytes_of}
 
 -- the front of the fields grows by the next of them
-pub take-field_at : (fields : List (List ℕ)) (place : ℕ) (field : List ℕ) → field_at fields place ≡ Some field → take (suc place) fields ≡ take place fields ++ field ∷ []
+pub take-field_at : (fields : List (List ℕ)) (place : ℕ) (field : List ℕ) → field_at fields place ≡ Some field
+    → take (suc place) fields ≡ take place fields ++ field ∷ []
 unfolding field_at
 take-field_at [] place field h = absurd cc
 take-field_at (x ∷ rest) zero field h = cc
@@ -24,13 +26,15 @@ field_at-some (x ∷ rest) zero within none = absurd cc
 field_at-some (x ∷ rest) (suc place) within none = field_at-some rest place (omega arith) none
 
 -- what is left of the texts begins with that of the field at hand
-pub drop-texts : (fields : List (Bor (List ℕ))) (place : ℕ) (d : Bor (List ℕ)) → place < length fields → drop place (bytes_of fields) ≡ (get_or fields place d).now ∷ drop (suc place) (bytes_of fields)
+pub drop-texts : (fields : List (Bor (List ℕ))) (place : ℕ) (d : Bor (List ℕ)) → place < length fields
+    → drop place (bytes_of fields) ≡ (get_or fields place d).now ∷ drop (suc place) (bytes_of fields)
 drop-texts [] place d within = absurd (omega arith)
 drop-texts (x ∷ rest) zero d within = refl
 drop-texts (x ∷ rest) (suc place) d within = drop-texts rest place d (omega arith)
 
 -- the front of the texts grows by that of the field at hand
-pub take-texts : (fields : List (Bor (List ℕ))) (place : ℕ) (d : Bor (List ℕ)) → place < length fields → take (suc place) (bytes_of fields) ≡ take place (bytes_of fields) ++ (get_or fields place d).now ∷ []
+pub take-texts : (fields : List (Bor (List ℕ))) (place : ℕ) (d : Bor (List ℕ)) → place < length fields
+    → take (suc place) (bytes_of fields) ≡ take place (bytes_of fields) ++ (get_or fields place d).now ∷ []
 take-texts [] place d within = absurd (omega arith)
 take-texts (x ∷ rest) zero d within = refl
 take-texts (x ∷ rest) (suc place) d within = ap (λ l. x.now ∷ l) (take-texts rest place d (omega arith))
@@ -40,7 +44,8 @@ pub list_all-other : (fields : List (Bor (List ℕ))) (place : ℕ) (d : Bor (Li
     → is_utf8 (get_or fields place d).now ≡ false → list_all is_utf8 (bytes_of fields) ≡ false
 list_all-other fields place d within other =
     let inside : place < length (bytes_of fields) = rw length-map within in
-    list_all_at is_utf8 (bytes_of fields) place d.now inside (rw (get_or-map (λ (field : Bor (List ℕ)). field.now) fields place d) other)
+    list_all_at is_utf8 (bytes_of fields) place d.now inside
+    (rw (get_or-map (λ (field : Bor (List ℕ)). field.now) fields place d) other)
 
 -- where the fields before a place are UTF-8 and the field there is, so are those up to it
 pub list_all-next : (fields : List (Bor (List ℕ))) (place : ℕ) (d : Bor (List ℕ)) → place < length fields
@@ -48,4 +53,9 @@ pub list_all-next : (fields : List (Bor (List ℕ))) (place : ℕ) (d : Bor (Lis
     → list_all is_utf8 (take (place + 1) (bytes_of fields)) ≡ true
 list_all-next fields place d within before utf8 =
     let inside : place < length (bytes_of fields) = rw length-map within in
-    rw (list_all_more is_utf8 (bytes_of fields) place d.now inside, before, get_or-map (λ (field : Bor (List ℕ)). field.now) fields place d) utf8
+    rw (
+      list_all_more is_utf8 (bytes_of fields) place d.now inside,
+      before,
+      get_or-map
+          (λ (field : Bor (List ℕ)). field.now) fields place d,
+    ) utf8

@@ -17,7 +17,8 @@ abbrev pub left_of : Bor (List ℕ) → Option (List ℕ)
 left_of sheet = Some sheet.now
 
 -- the reader goes on behind the records that were taken of the sheet
-pub record GoesOn (reader : Reader (Bor (List ℕ))) (turns : ℕ) (sheet : List ℕ) (taken : List (List (List ℕ))) : Type 0 where
+pub record GoesOn (reader : Reader (Bor (List ℕ))) (turns : ℕ) (sheet : List ℕ) (taken : List (List (List ℕ))) : Type
+    0 where
   pub untrimmed : reader_trim reader ≡ trim.None
   pub ready : Ready reader
   pub flexible : is_flexible reader ≡ true
@@ -28,12 +29,14 @@ pub record GoesOn (reader : Reader (Bor (List ℕ))) (turns : ℕ) (sheet : List
   pub reached : Reached default_config st.StartRecord (strip_bom sheet) taken (reader_state reader) rest
 
 -- and so it does behind one record more
-pub GoesOn-next : (old new : Reader (Bor (List ℕ))) (before turns : ℕ) (sheet : List ℕ) (taken : List (List (List ℕ))) (row : ByteRecord)
+pub GoesOn-next : (old new : Reader (Bor (List ℕ))) (before turns : ℕ) (sheet : List ℕ) (taken : List (List (List ℕ)))
+    (row : ByteRecord)
     → GoesOn old before sheet taken → RowStep left_of old new turns (Some (Ok row)) → is_flexible new ≡ is_flexible old
     → GoesOn new turns sheet (taken ++ fields_of row ∷ [])
 GoesOn-next old new before turns sheet taken row goes step flexible =
     let read = step.0 in
-    let (rest, source, reached) = rows-more left_of old new (fields_of row) default_config st.StartRecord (strip_bom sheet) goes.rest taken
+    let (rest, source, reached) = rows-more left_of old new (fields_of row) default_config st.StartRecord
+    (strip_bom sheet) goes.rest taken
     goes.config goes.source goes.reached read in
     record {
       untrimmed = read.3 ∙ goes.untrimmed;

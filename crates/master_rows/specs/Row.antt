@@ -1,6 +1,7 @@
 -- The tests of a sheet's data rows, in their order. Rows and columns count from 1.
 use Rattle.std.specs.Prelude.{ℕ, ◌+◌, not, ◌==◌, nat_lt, List, [], ◌∷◌, length, Option, Some, None, if◌then◌else◌}
 use Rattle.std.specs.List.{list_all}
+use Rattle.std.specs.Option.{option_or}
 use Rattle.std.specs.Str.{is_utf8}
 use Rattle.desk_base.specs.declared.limits.TheConstants.{MAX_TEXT, MAX_ROWS}
 use Rattle.master_rows.specs.declared.error.SheetFault.{SheetFault}
@@ -20,12 +21,7 @@ row_fault columns row cells =
     else if not (list_all is_utf8 cells) then Some (NotUtf8 row)
     else cells_fault row 1 cells
 
--- the earlier of two faults
-abbrev pub first_fault : Option SheetFault → Option SheetFault → Option SheetFault
-first_fault None later = later
-first_fault (Some fault) later = Some fault
-
 -- the first fault of the rows from this number on
 abbrev pub rows_fault : ℕ → ℕ → List (List (List ℕ)) → Option SheetFault
 rows_fault columns row [] = None
-rows_fault columns row (cells ∷ later) = first_fault (row_fault columns row cells) (rows_fault columns (row + 1) later)
+rows_fault columns row (cells ∷ later) = option_or (row_fault columns row cells) (rows_fault columns (row + 1) later)

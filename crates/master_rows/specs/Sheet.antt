@@ -1,11 +1,12 @@
 -- What a sheet reads as, and the sheet that a master is printed as.
 use Rattle.std.specs.Prelude.{ℕ, List, [], ◌∷◌, length, Option, Some, None, Result, Ok, Err, if◌then◌else◌}
 use Rattle.std.specs.List.{flat_map}
+use Rattle.std.specs.Option.{option_or}
 use Rattle.csv.specs.Reading.{records, default_config, strip_bom}
 use Rattle.csv.specs.Writing.{row_text, default_writer}
 use Rattle.master_rows.specs.Mark.{begins_with_two_marks}
 use Rattle.master_rows.specs.Header.{header_fault}
-use Rattle.master_rows.specs.Row.{first_fault, rows_fault}
+use Rattle.master_rows.specs.Row.{rows_fault}
 use Rattle.master_rows.specs.declared.error.SheetFault.{SheetFault}
 use Rattle.master_rows.specs.declared.error.SheetFault.TheVariants.{NoHeader, BadColumn}
 use Rattle.master_rows.specs.declared.master.Master.{Master}
@@ -27,7 +28,7 @@ master_of header rows = record { columns = header; grid = record { columns = len
 abbrev pub read_records : List (List (List ℕ)) → Result Master SheetFault
 read_records [] = Err NoHeader
 read_records (header ∷ rows) =
-    unless (first_fault (header_fault header) (rows_fault (length header) 1 rows)) (master_of header rows)
+    unless (option_or (header_fault header) (rows_fault (length header) 1 rows)) (master_of header rows)
 
 -- what a sheet reads as
 abbrev pub read_sheet : List ℕ → Result Master SheetFault

@@ -8,7 +8,8 @@ use Rattle.toml.specs.Parse.{parse_document}
 use Rattle.schema_core.specs.Reading.{document_of}
 
 -- of UTF-8 it is what the parser reads
-pub document_of-utf8 : (bytes : List ℕ) (document : Option Members) → IsUtf8 bytes → parse_document bytes ≡ document → document_of bytes ≡ document
+pub document_of-utf8 : (bytes : List ℕ) (document : Option Members) → IsUtf8 bytes → parse_document bytes ≡ document
+    → document_of bytes ≡ document
 document_of-utf8 bytes document utf8 read = rw (is_utf8-from_IsUtf8 bytes utf8) read
 
 -- there is none where none is read of UTF-8

@@ -1,5 +1,6 @@
 -- What a text reads as: a schema, or the first test that it fails.
-use Rattle.std.specs.Prelude.{codes, ℕ, ◌+◌, ◌==◌, nat_lt, Bool, true, not, ◌&&◌, ◌||◌, if◌then◌else◌, List, [], ◌∷◌, ◌++◌, length, Option, Some, None, option_map, option_and_then, Result, Ok, Err}
+use Rattle.std.specs.Prelude.{codes, ℕ, ◌+◌, ◌==◌, nat_lt, Bool, true, not, ◌&&◌, ◌||◌, if◌then◌else◌, List, [], ◌∷◌}
+use Rattle.std.specs.Prelude.{◌++◌, length, Option, Some, None, option_map, option_and_then, Result, Ok, Err}
 use Rattle.std.specs.Option.{option_or, option_map_or}
 use Rattle.std.specs.Str.{bytes_eq, is_utf8}
 use Rattle.desk_base.specs.declared.limits.TheConstants.{MAX_ATTRIBUTES}
@@ -9,7 +10,8 @@ use Rattle.toml.specs.Parse.{parse_document}
 use Rattle.desk_base.specs.Words.{is_name, is_word}
 use Rattle.schema_core.specs.declared.schema.Schema.{Schema}
 use Rattle.schema_core.specs.declared.fault.SchemaFault.{SchemaFault}
-use Rattle.schema_core.specs.declared.fault.SchemaFault.TheVariants.{NotToml, UnknownKey, MissingKey, WrongKind, BadName, BadCount, Twice}
+use Rattle.schema_core.specs.declared.fault.SchemaFault.TheVariants.{NotToml, UnknownKey, MissingKey, WrongKind}
+use Rattle.schema_core.specs.declared.fault.SchemaFault.TheVariants.{BadName, BadCount, Twice}
 
 -- the key is `name` or `attributes`
 abbrev pub is_known_key : List ℕ → Bool
@@ -39,7 +41,8 @@ attribute_fault earlier attribute =
 -- the first fault among attributes that stand behind these
 abbrev pub first_fault : List (List ℕ) → List (List ℕ) → Option SchemaFault
 first_fault earlier [] = None
-first_fault earlier (attribute ∷ rest) = option_or (attribute_fault earlier attribute) (first_fault (earlier ++ attribute ∷ []) rest)
+first_fault earlier (attribute ∷ rest) = option_or (attribute_fault earlier attribute)
+    (first_fault (earlier ++ attribute ∷ []) rest)
 
 -- the schema of a name and attributes
 abbrev pub schema_with : List ℕ → List (List ℕ) → Result Schema SchemaFault
@@ -63,7 +66,8 @@ schema_of_values (Some name) (Some attributes) = schema_of_texts (as_str name) (
 -- the schema of a document
 abbrev pub schema_of_document : Members → Result Schema SchemaFault
 schema_of_document members =
-    if keys_known members then schema_of_values (get_member (codes "name") members) (get_member (codes "attributes") members)
+    if keys_known members then schema_of_values (get_member (codes "name") members)
+    (get_member (codes "attributes") members)
     else Err UnknownKey
 
 -- the document that bytes write, where they are UTF-8 and TOML

@@ -1,9 +1,11 @@
 //! From bytes to a schema, one test after the other.
-ghost use Rattle.std.specs.Prelude.{◌≡◌, ◌≢◌, ◌≤◌, [], length, map, option_map, Some, None, Ok, Err, IfOk, IfErr, IfNone};
+ghost use Rattle.std.specs.Prelude.{◌≡◌, ◌≢◌, ◌≤◌, [], length, map, option_map, Some, None, Ok, Err, IfOk, IfErr};
+ghost use Rattle.std.specs.Prelude.{IfNone};
 ghost use Rattle.desk_base.specs.declared.limits.TheConstants.{MAX_WORD};
 ghost use Rattle.toml.specs.Data.{get_member};
 ghost use Rattle.toml.specs.View.{view, items_view, table_view};
-ghost use Rattle.schema_core.specs.Reading.{document_of, is_known_key, keys_known, texts_in, attribute_fault, first_fault, schema_with, schema_of_values, schema_of_document};
+ghost use Rattle.schema_core.specs.Reading.{document_of, is_known_key, keys_known, texts_in, attribute_fault};
+ghost use Rattle.schema_core.specs.Reading.{first_fault, schema_with, schema_of_values, schema_of_document};
 
 use crate::fault::SchemaFault;
 use crate::schema::Schema;

@@ -8,7 +8,8 @@ use Rattle.master_rows.proofs.fields.strings_of.Goals as goal
 
 pub returns-in-Err-clause-utf8 : goal.returns-in-Err-clause-utf8
 returns-in-Err-clause-utf8 c =
-    sym (list_all-other c.args.fields.now c.fields.field-index _ c.fields-test.true (is_utf8-other _ c.in-Err.ensures.cases.0))
+    sym (list_all-other c.args.fields.now c.fields.field-index _ c.fields-test.true
+    (is_utf8-other _ c.in-Err.ensures.cases.0))
 
 pub fields-preserved : goal.fields-preserved
 fields-preserved c =
@@ -22,5 +23,6 @@ fields-preserved c =
           ∙ ap (λ (front : List (List ℕ)). front ++ string ∷ []) c.fields.invariant.taken
           ∙ ap (λ (text : List ℕ). take place (bytes_of fields) ++ text ∷ []) same
           ∙ sym (take-texts fields place _ c.fields-test.true));
-      utf8 = list_all-next fields place _ c.fields-test.true c.fields.invariant.utf8 (is_utf8-from_IsUtf8 _ c.in-Ok.ensures.cases.1);
+      utf8 = list_all-next fields place _ c.fields-test.true c.fields.invariant.utf8
+          (is_utf8-from_IsUtf8 _ c.in-Ok.ensures.cases.1);
     }

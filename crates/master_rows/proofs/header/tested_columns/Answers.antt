@@ -35,7 +35,8 @@ loop-text-preserved c =
     let text = get_or c.args.texts.now place (record { ref_ptr = (0, 0); now = [] }) in
     let grown = rw c.in_ok-of.ensures at c.in_ok-push.ensures.pushed in
     rw (grown, add-one place) (
-      ap (λ (front : List (List ℕ)). front ++ text.now ∷ []) c.loop-text.invariant.0 ∙ sym (take-texts c.args.texts.now place _ c.loop-text-test.true),
+      ap (λ (front : List (List ℕ)). front ++ text.now ∷ []) c.loop-text.invariant.0
+          ∙ sym (take-texts c.args.texts.now place _ c.loop-text-test.true),
       c.loop-text.invariant.1
           ∙ ap (columns_fault c.loop-text.columns) (drop-texts c.args.texts.now place _ c.loop-text-test.true)
           ∙ columns_fault-next c.loop-text.columns (drop (suc place) texts) text.now good new,

@@ -11,7 +11,8 @@ returns-in-Some-clause-fault c =
 pub strings-preserved : goal.strings-preserved
 strings-preserved c =
     let sound = rw c.as_slice.ensures at (sym c.attribute_fault.ensures.fault ∙ c.in_default.is) in
-    let next = first_fault-sound (λ text. text.now) c.strings.attributes c.args.strings.now c.strings.string-index _ c.strings-test.true sound in
+    let next = first_fault-sound (λ text. text.now) c.strings.attributes c.args.strings.now c.strings.string-index _
+    c.strings-test.true sound in
     let text = c.in_ok-of.ensures in
     let pushed = c.in_ok-push.ensures.pushed in
     record {

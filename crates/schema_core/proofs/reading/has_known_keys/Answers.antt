@@ -8,5 +8,6 @@ use Rattle.schema_core.proofs.reading.has_known_keys.Goals as goal
 
 pub returns : goal.returns
 returns c =
-    all_from_yields_List (λ key. is_known_key (string_bytes key)) _ _ _ c.all.ensures.ran (YieldsList-from_rest (keys c.args.table.now) c.keys.ensures.rest) (λ x b q k. search (rules, tests))
+    all_from_yields_List (λ key. is_known_key (string_bytes key)) _ _ _ c.all.ensures.ran
+    (YieldsList-from_rest (keys c.args.table.now) c.keys.ensures.rest) (λ x b q k. search (rules, tests))
     ∙ sym (keys_known-view c.args.table.now.entries)

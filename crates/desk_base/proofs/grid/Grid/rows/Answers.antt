@@ -8,4 +8,5 @@ returns-clause-rows c =
 
 pub returns-clause-full : goal.returns-clause-full
 returns-clause-full c =
-    rw (← c.self.view_is) (All-rows_of c.self.inside.width c.self.inside.count c.self.inside.cells.items c.self.invariant.1)
+    rw (← c.self.view_is)
+    (All-rows_of c.self.inside.width c.self.inside.count c.self.inside.cells.items c.self.invariant.1)

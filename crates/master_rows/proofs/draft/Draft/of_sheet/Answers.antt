@@ -37,13 +37,15 @@ pub stopped-requires : goal.stopped-requires
 stopped-requires c =
     let before = c.records.invariant in
     let steps = rw (c.in-Some.is, c.in-Err.is) at (c.next.ensures.steps before.some before.untrimmed) in
-    stops_reader-flexible left_of c.records.next-iterator.rdr c.next.new.self.rdr c.in-Err.error.kind before.flexible (steps.0 before.ready)
+    stops_reader-flexible left_of c.records.next-iterator.rdr c.next.new.self.rdr c.in-Err.error.kind before.flexible
+    (steps.0 before.ready)
 
 pub returns-in_err-take-in-Ok-clause-fault : goal.returns-in_err-take-in-Ok-clause-fault
 returns-in_err-take-in-Ok-clause-fault c =
     let before = c.records.invariant in
     let steps = rw (c.in-Some.is, c.in-Ok.is) at (c.next.ensures.steps before.some before.untrimmed) in
-    let after = GoesOn-next c.records.next-iterator.rdr c.next.new.self.rdr c.records.next-iterator.left c.next.new.self.left
+    let after = GoesOn-next c.records.next-iterator.rdr c.next.new.self.rdr c.records.next-iterator.left
+    c.next.new.self.left
     c.args.sheet.now c.records.draft c.in-Ok.row before (steps.0 before.ready) steps.3 in
     let fault = c.in_err-take-in-Ok.field-0.0 in
     let is : c.from_residual.result ≡ Err fault = search rules in
@@ -54,8 +56,10 @@ pub returns : goal.returns
 returns c =
     let before = c.records.invariant in
     let step = rw c.in-None.is at ((c.next.ensures.steps before.some before.untrimmed).0 before.ready) in
-    let end = rows-end left_of c.records.next-iterator.rdr c.next.new.self.rdr [] default_config before.rest before.config before.source step in
+    let end = rows-end left_of c.records.next-iterator.rdr c.next.new.self.rdr [] default_config before.rest
+    before.config before.source step in
     record {
-      taken = records-end (strip_bom c.args.sheet.now) before.rest c.records.draft (reader_state c.records.next-iterator.rdr) before.reached end;
+      taken = records-end (strip_bom c.args.sheet.now) before.rest c.records.draft
+          (reader_state c.records.next-iterator.rdr) before.reached end;
       fault = tt;
     }

@@ -4,4 +4,5 @@ use Rattle.master_rows.proofs.Written.{read_sheet-sheet_of}
 use Rattle.master_rows.proofs.master.Master.print.Goals as goal
 
 pub returns-in-Ok-clause-reads_back : goal.returns-in-Ok-clause-reads_back
-returns-in-Ok-clause-reads_back c = ap read_sheet (c.from_vec.ensures ∙ c.in-Ok.ensures) ∙ read_sheet-sheet_of c.args.self.now c.requires
+returns-in-Ok-clause-reads_back c = ap read_sheet (c.from_vec.ensures ∙ c.in-Ok.ensures)
+    ∙ read_sheet-sheet_of c.args.self.now c.requires

@@ -9,4 +9,5 @@ use Rattle.master_rows.proofs.master.Master.read.Goals as goal
 pub returns-clause-sound : goal.returns-clause-sound
 returns-clause-sound c =
     let is = c.finish.ensures ∙ ap read_records c.in_ok-of_sheet.ensures.taken in
-    rw is (IfOk-given IsMaster _ (λ master given. IsMaster-read_records _ master (records-some (strip_bom c.args.sheet.now)) given))
+    rw is (IfOk-given IsMaster _
+    (λ master given. IsMaster-read_records _ master (records-some (strip_bom c.args.sheet.now)) given))
