@@ -17,7 +17,7 @@ use crate::looks::{LOOKS, rows_found};
 use crate::sizes::Sizes;
 use desk_base::Duplicate;
 use fix_model::{Book, Kit, ListBook};
-use master_index::MapBook;
+use master_index::{MapBook, SortedBook};
 use std::alloc::Global;
 use std::env;
 use std::test::Fail;
@@ -34,30 +34,36 @@ fn main(rt: HostRuntime) -> Result<(), Fail> {
     }
 }
 
-/// Makes the kit, and looks into both books over it.
+/// Makes the kit, and looks into the three books over it.
 fn measure<R: Print + Eprint + CpuClock>(rt: &R, alloc: Global, sizes: Sizes) -> Result<(), Fail> {
     let kit = kit_of(rt, alloc, sizes)?;
     let plain = ListBook::new(kit.copy()?);
-    look_up(
-        rt,
-        alloc,
-        "plain",
-        &plain,
-        sizes.rows,
-        sizes.records / PLAIN_SHARE,
-    )?;
-    let index = index_of(rt, alloc, kit)?;
-    look_up(rt, alloc, "index", &index, sizes.rows, sizes.records)
+    let few = sizes.records / PLAIN_SHARE;
+    look_up(rt, alloc, "plain", &plain, sizes.rows, few)?;
+    let map = map_of(rt, alloc, kit.copy()?)?;
+    look_up(rt, alloc, "map", &map, sizes.rows, sizes.records)?;
+    let sorted = sorted_of(rt, alloc, kit)?;
+    look_up(rt, alloc, "sorted", &sorted, sizes.rows, sizes.records)
 }
 
-/// The book over an index of the kit's masters.
-fn index_of<R: Eprint + CpuClock>(rt: &R, alloc: Global, kit: Kit) -> Result<MapBook, Fail>
+/// The book over maps of the kit's masters.
+fn map_of<R: Eprint + CpuClock>(rt: &R, alloc: Global, kit: Kit) -> Result<MapBook, Fail>
     requires { IsValid kit }
 {
     let start = clock(rt)?;
-    let index = MapBook::build(alloc, kit)?;
-    tell(rt, "building the index", start)?;
-    Ok(index)
+    let book = MapBook::build(alloc, kit)?;
+    tell(rt, "building the maps", start)?;
+    Ok(book)
+}
+
+/// The book over a sorted index of the kit's masters.
+fn sorted_of<R: Eprint + CpuClock>(rt: &R, alloc: Global, kit: Kit) -> Result<SortedBook, Fail>
+    requires { IsValid kit }
+{
+    let start = clock(rt)?;
+    let book = SortedBook::build(alloc, kit)?;
+    tell(rt, "building the sorted index", start)?;
+    Ok(book)
 }
 
 /// Looks so many records up, and tells how many looks found a row.

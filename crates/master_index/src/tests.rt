@@ -1,11 +1,11 @@
-//! The limit of an index from both sides, and that the book answers as the plain book does.
+//! The limit of an index from both sides, that all books answer alike, and what a shelf holds.
 ghost use Rattle.std.specs.Prelude.{◌<◌, length};
 ghost use Rattle.fix_model.specs.States.{Fits};
 ghost use Rattle.fix_model.specs.Valid.{IsValid};
 
-use crate::{BuildFault, MapBook};
+use crate::{BuildFault, MapBook, Shelf, Shelved, SortedBook};
 use desk_base::{Duplicate, Grid, List, Steps, Text};
-use fix_model::{Book, Hit, Kit, ListBook, Rule, State, enabled};
+use fix_model::{Book, Hit, Kit, ListBook, Names, Rule, State, enabled};
 use std::alloc::Global;
 use std::process::Abort;
 use std::test::Fail;
@@ -71,7 +71,9 @@ fn fault_at(
 ) -> Result<Option<BuildFault>, Fail> {
     let kit = kit(alloc, grid, rules_of_triples(alloc, triples)?, false, false)?;
     assert!(rt; kit.valid());
-    Ok(MapBook::build(alloc, kit).err())
+    let fault = MapBook::build(alloc, kit.copy()?).err();
+    assert_eq!(rt; SortedBook::build(alloc, kit).err(), fault);
+    Ok(fault)
 }
 
 #[test]
@@ -113,8 +115,8 @@ fn towns(rt: &impl Abort, alloc: Global) -> Result<Grid, Fail> {
     Ok(grid)
 }
 
-/// What both books answer over a kit.
-fn answers_of_both(
+/// What all three books answer over a kit.
+fn answers_of_all(
     rt: &impl Abort,
     alloc: Global,
     kit: Kit,
@@ -125,60 +127,112 @@ fn answers_of_both(
     requires fits { Fits kit state.now }
 {
     let plain = ListBook::new(kit.copy()?);
-    let book = MapBook::build(alloc, kit)?;
-    let answer = answers(&book, state);
+    let sorted = SortedBook::build(alloc, kit.copy()?)?;
+    let map = MapBook::build(alloc, kit)?;
+    let answer = answers(&sorted, state);
     assert_eq!(rt; answer, answers(&plain, state));
+    assert_eq!(rt; answer, answers(&map, state));
     Ok(answer)
 }
 
-/// What both books answer for a zip, which is covered, and a street, which may be.
+/// Which of the zip and the street are folded.
+const NEITHER: (bool, bool) = (false, false);
+const BOTH: (bool, bool) = (true, true);
+
+/// What all books answer for a zip, which is covered, and a street, which may be.
 fn looked_up(
     rt: &impl Abort,
     alloc: Global,
-    zip: &str,
-    street: &str,
+    typed: (&str, &str),
     covered: bool,
-    folded: bool,
+    folded: (bool, bool),
 ) -> Result<(Option<Hit>, bool), Fail> {
     let mut rules = List::new(alloc);
     rules.push(rule(alloc, 0, 1, 2, 2)?)?;
-    let kit = kit(alloc, &towns(rt, alloc)?, rules, folded, folded)?;
-    let typed = texts(alloc, &[zip, street, "", ""])?;
+    let kit = kit(alloc, &towns(rt, alloc)?, rules, folded.0, folded.1)?;
+    let typed = texts(alloc, &[typed.0, typed.1, "", ""])?;
     assert!(rt; typed.len() == 4 && kit.width == 4 && kit.rules.len() == 1 && kit.valid());
     let state = State::new(alloc, typed, &[true, covered, false, false])?;
-    answers_of_both(rt, alloc, kit, &state)
+    answers_of_all(rt, alloc, kit, &state)
 }
 
 #[test]
-fn it_answers_as_the_plain_book(rt: HostRuntime) -> Result<(), Fail> {
+fn all_books_answer_alike(rt: HostRuntime) -> Result<(), Fail> {
     let alloc = rt.alloc();
-    let both = Some(Hit {
-        first: 0,
-        other: Some(2),
-    });
-    assert_eq!(rt;
-        looked_up(&rt, alloc, "EH7", "Main", true, false)?,
-        (both, true)
-    );
-    assert_eq!(rt;
-        looked_up(&rt, alloc, "Eh7", "maiN", true, true)?,
-        (both, true)
-    );
-    assert_eq!(rt;
-        looked_up(&rt, alloc, "eh7", "Main", true, false)?,
-        (None, false)
-    );
-    assert_eq!(rt;
-        looked_up(&rt, alloc, "", "Main", true, true)?,
-        (None, false)
-    );
-    assert_eq!(rt;
-        looked_up(&rt, alloc, "KY1", "Low", true, true)?,
-        (None, false)
-    );
-    assert_eq!(rt;
-        looked_up(&rt, alloc, "eh7", "?", false, false)?,
-        (None, true)
-    );
+    let hit = |first, other| Some(Hit { first, other });
+    let first_alone = (true, false);
+    let second_alone = (false, true);
+    let rows = [
+        (("EH7", "Main"), true, NEITHER, (hit(0, Some(2)), true)),
+        (("Eh7", "maiN"), true, BOTH, (hit(0, Some(2)), true)),
+        (("eh7", "Main"), true, NEITHER, (None, false)),
+        (("eh7", "MAIN"), true, first_alone, (hit(1, None), true)),
+        (("EH7", "main"), true, second_alone, (hit(0, Some(2)), true)),
+        (("eh7", "main"), true, second_alone, (hit(1, None), true)),
+        (("", "Main"), true, BOTH, (None, false)),
+        (("KY1", "Low"), true, BOTH, (None, false)),
+        (("eh7", "?"), false, NEITHER, (None, true)),
+    ];
+    for (typed, covered, folded, answer) in rows {
+        assert_eq!(rt; looked_up(&rt, alloc, typed, covered, folded)?, answer);
+    }
+    Ok(())
+}
+
+#[test]
+fn a_master_without_rows_has_nothing(rt: HostRuntime) -> Result<(), Fail> {
+    let alloc = rt.alloc();
+    let mut rules = List::new(alloc);
+    rules.push(rule(alloc, 0, 1, 2, 2)?)?;
+    let kit = kit(alloc, &Grid::new(alloc, 3), rules, false, false)?;
+    let typed = texts(alloc, &["EH7", "Main", "", ""])?;
+    assert!(rt; typed.len() == 4 && kit.width == 4 && kit.rules.len() == 1 && kit.valid());
+    let state = State::new(alloc, typed, &[true, true, false, false])?;
+    assert_eq!(rt; answers_of_all(&rt, alloc, kit, &state)?, (None, false));
+    Ok(())
+}
+
+/// An edition whose kit has no rules and so many attributes.
+fn edition(rt: &impl Abort, alloc: Global, width: u16) -> Result<Shelved, Fail> {
+    let kit = Kit {
+        width,
+        rules: List::new(alloc),
+        masters: List::new(alloc),
+        folded: List::from_vec(vec![in alloc; false; usize::from(width)]?),
+    };
+    assert!(rt; kit.valid());
+    Ok(Shelved {
+        book: SortedBook::build(alloc, kit)?,
+        names: Names {
+            attributes: List::new(alloc),
+            rules: List::new(alloc),
+            masters: List::new(alloc),
+        },
+    })
+}
+
+fn width_on(shelf: &mut Shelf, edition: u32) -> Option<u16> {
+    let shelved = shelf.get(edition)?;
+    Some(<SortedBook as Book<()>>::width(&shelved.book))
+}
+
+#[test]
+fn a_shelf_holds_the_four_editions_used_last(rt: HostRuntime) -> Result<(), Fail> {
+    let alloc = rt.alloc();
+    let mut shelf = Shelf::new(alloc)?;
+    for number in 1..6 {
+        let shelved = edition(&rt, alloc, number)?;
+        shelf.put(u32::from(number), shelved)?;
+    }
+    let rows = [
+        ("the first is gone", 1, None),
+        ("the second is held", 2, Some(2)),
+        ("the third", 3, Some(3)),
+        ("the fourth", 4, Some(4)),
+        ("the fifth", 5, Some(5)),
+    ];
+    for (case, number, width) in rows {
+        assert_eq!(rt; width_on(&mut shelf, number), width, "{case}");
+    }
     Ok(())
 }
