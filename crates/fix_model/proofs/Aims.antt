@@ -31,6 +31,7 @@ module _ (kit : Kit) (state : State) (keys : List (ℕ × ℕ)) (k : ℕ) (withi
   pub aims_at-uncovered : is_covering (cell_at state (get_or keys k (0, 0)).0) ≡ false → aims_at kit state (covered_among state (take (k + 1) keys)) ≡ aims_at kit state (covered_among state (take k keys))
   aims_at-uncovered open_ = ap (aims_at kit state) (filter-take-fails (λ (key : ℕ × ℕ). is_covering (cell_at state key.0)) keys k (0, 0) within open_)
 
+-- the same of a list item by item
 turned : {A B : Type 0} (P : B → Type 0) (f : A → B) (items : List A) → AllByRecursion P (map f items) → AllByRecursion (λ item. P (f item)) items
 turned P f [] all = tt
 turned P f (item ∷ items) all = (all.0, turned P f items all.1)
@@ -44,6 +45,7 @@ module _ (kit : Kit) (state : State) (rule : Rule) where
   pub RowAgreesAt-met : (row : ℕ) → Meets (master_of kit rule) rule (aims_of kit state rule) row → RowAgreesAt kit (value_at kit state) rule (covered_keys state rule) row
   RowAgreesAt-met row meets = record { usable = meets.usable; alike = All-of_map (λ (aim : Aim). AreAlike aim.folded aim.text (cell_text (master_of kit rule) row aim.column)) _ (covered_keys state rule) meets.alike }
 
+  -- and back
   pub Meets-agreeing : (row : ℕ) → RowAgreesAt kit (value_at kit state) rule (covered_keys state rule) row → Meets (master_of kit rule) rule (aims_of kit state rule) row
   Meets-agreeing row agrees = record { usable = agrees.usable; alike = All-map (λ (aim : Aim). AreAlike aim.folded aim.text (cell_text (master_of kit rule) row aim.column)) _ (covered_keys state rule) agrees.alike }
 
@@ -60,6 +62,7 @@ module _ (kit : Kit) (state : State) (rule : Rule) where
     pub RowAgrees-met : (row : ℕ) → Meets (master_of kit rule) rule (aims_of kit state rule) row → RowAgrees kit (value_at kit state) rule row
     RowAgrees-met row meets = rw (covered_keys-all state rule covered) at (RowAgreesAt-met row meets)
 
+    -- and back
     pub Meets-row_agrees : (row : ℕ) → RowAgrees kit (value_at kit state) rule row → Meets (master_of kit rule) rule (aims_of kit state rule) row
     Meets-row_agrees row agrees = Meets-agreeing row (rw (covered_keys-all state rule covered) agrees)
 

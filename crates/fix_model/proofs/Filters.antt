@@ -8,6 +8,7 @@ use Rattle.std.specs.Prelude.{All, filter}
 use Rattle.std.specs.List.{AllByRecursion}
 
 module _ {A : Type 0} (P : A → Type 0) (test : A → Bool) where
+  -- the same of a list item by item
   passing : (items : List A) → AllByRecursion (λ a. test a ≡ true → P a) items → AllByRecursion P (filter test items)
   passing [] h = tt
   passing (a ∷ items) h = elim (cases_Bool (test a)) [
@@ -15,6 +16,7 @@ module _ {A : Type 0} (P : A → Type 0) (test : A → Bool) where
     | inr fails ↦ rw fails (passing items h.1)
   ]
 
+  -- and back
   all_of : (items : List A) → AllByRecursion P (filter test items) → AllByRecursion (λ a. test a ≡ true → P a) items
   all_of [] h = tt
   all_of (a ∷ items) h = elim (cases_Bool (test a)) [
@@ -35,10 +37,12 @@ all_pass : {A : Type 0} (test : A → Bool) (items : List A) → AllByRecursion 
 all_pass test [] h = refl
 all_pass test (a ∷ items) h = rw h.0 (ap (λ l. a ∷ l) (all_pass test items h.1))
 
+-- where all items pass, the filter leaves the list as it is
 pub filter-all : {A : Type 0} (test : A → Bool) (items : List A) → All (λ a. test a ≡ true) items → filter test items ≡ items
 filter-all test items h = all_pass test items (recursion_from_All (λ a. test a ≡ true) items h)
 
 module _ {A : Type 0} (test : A → Bool) (items : List A) (k : ℕ) (d : A) (within : k < length items) where
+  -- one item more adds what the filter leaves of it
   filter-take : filter test (take (k + 1) items) ≡ filter test (take k items) ++ filter test (get_or items k d ∷ [])
   filter-take = rw (add-one, take-suc items k d within) (filter-append test (take k items) (get_or items k d ∷ []))
 

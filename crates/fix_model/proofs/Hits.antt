@@ -60,6 +60,7 @@ is_some-first P None none = (λ never. absurd (let e = never in cc), λ some. ab
 is_some-first P (Some row) first = (λ told. (row, first.agrees), λ some. refl)
 
 module _ (text same : ℕ → List ℕ) (P : ℕ → Type 0) (equal : (row : ℕ) → text row ≡ same row) where
+  -- the least row of another text rests on the texts alone
   other-text : (first row : ℕ) → IsOtherOf text P first row → IsOtherOf same P first row
   other-text first row other = record {
     agrees = other.agrees;

@@ -32,6 +32,7 @@ module _ {A B : Type 0} (R : A → B → Ordering) (xs : List A) (ys : List B) (
   slice_cmp-drop = rw (drop-cons xs k d within, drop-cons ys k e there, add-one) refl
 
   module _ (order : Ordering) (is : order ≡ R (get_or xs k d) (get_or ys k e)) where
+    -- the same with the order that was found
     turned : slice_cmp R (drop k xs) (drop k ys) ≡ ordering_then order (slice_cmp R (drop (k + 1) xs) (drop (k + 1) ys))
     turned = slice_cmp-drop ∙ ap (λ first. ordering_then first (slice_cmp R (drop (k + 1) xs) (drop (k + 1) ys))) (sym is)
 

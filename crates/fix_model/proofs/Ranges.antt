@@ -14,6 +14,7 @@ range_with_len-suc from (suc count) =
     ap (λ l. from ∷ l) (range_with_len-suc (from + 1) count ∙ ap (λ n. range_with_len (from + 1) count ++ n ∷ []) place)
 
 module _ (test : ℕ → Bool) (count : ℕ) where
+  -- one number more adds what the filter leaves of it
   split : filter test (range_with_len 0 (count + 1)) ≡ filter test (range_with_len 0 count) ++ filter test (count ∷ [])
   split =
       let whole : range_with_len 0 (count + 1) ≡ range_with_len 0 count ++ count ∷ [] = rw add-one (range_with_len-suc 0 count ∙ ap (λ n. range_with_len 0 count ++ n ∷ []) (omega arith)) in

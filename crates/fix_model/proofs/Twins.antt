@@ -29,6 +29,7 @@ module _ {A B : Type 0} (test : A → B → Bool) where
       both false t fails = refl
 
 module _ {A : Type 0} (test : A → Bool) (items : List A) where
+  -- the first item that passes among the first ones has its place
   first_place : (n i : ℕ) (d : A) → n ≤ length items → i ≤ n → ((k : ℕ) → k < i → test (get_or items k d) ≡ false) → (i < n → test (get_or items i d) ≡ true) → position_or_len test (take n items) ≡ i
   first_place n i d within up_to fails passes =
       let size : length (take n items) ≡ n = omega (arith, length-take n items) in

@@ -24,6 +24,7 @@ use Rattle.master_index.specs.Sorted.{AreEntries, EndsWithKey, IsEntryOf, IsGrow
 pub key_order-total : IsTotalOrder key_order
 key_order-total = lists_total nat_list_cmp_total
 
+-- a first text that ties leaves it to the rest whether the keys are one
 exact-cons : (x y : List ℕ) (xs ys : List (List ℕ)) (order : Ordering) → order ≡ slice_cmp nat_cmp x y → ordering_then order (key_order xs ys) ≡ Equal → (key_order xs ys ≡ Equal → xs ≡ ys) → (x ∷ xs) ≡ (y ∷ ys)
 exact-cons x y xs ys Less is tied rest = absurd cc
 exact-cons x y xs ys Equal is tied rest = rw (exact_bytes x y (sym is), rest tied) refl
@@ -40,16 +41,19 @@ key_order-exact (x ∷ xs) (y ∷ ys) tied = exact-cons x y xs ys (slice_cmp nat
 pub key_order-irreflexive : (one other : List (List ℕ)) → key_order one other ≡ Less → one ≢ other
 key_order-irreflexive one other less same = absurd (let e = rw same at less in let f = tied_itself key_order-total other in cc)
 
+-- a number that is not less than another is the other or greater
 not_less-order : (row other : ℕ) (order : Ordering) → order ≡ nat_cmp row other → is_lt order ≡ false → other ≤ row
 not_less-order row other Less is not_less = absurd cc
 not_less-order row other Equal is not_less = let same : row ≡ other = ranked row other Equal is in omega arith
 not_less-order row other Greater is not_less = let more : other < row = ranked row other Greater is in omega arith
 
+-- of an order in two steps that is not less the first step is not less
 first_not_less : (order rest : Ordering) → is_lt (ordering_then order rest) ≡ false → is_lt order ≡ false
 first_not_less Less rest not_less = not_less
 first_not_less Equal rest not_less = refl
 first_not_less Greater rest not_less = refl
 
+-- what is neither less nor equal is greater
 is_greater : (order : Ordering) → is_lt order ≡ false → order ≢ Equal → order ≡ Greater
 is_greater Less not_less differs = absurd cc
 is_greater Equal not_less differs = absurd (differs refl)
@@ -60,6 +64,7 @@ module _ (key : ℕ → List (List ℕ)) where
   pub row_order-total : IsTotalOrder (row_order key)
   row_order-total = then_total (on_total key key_order-total) nat_cmp_total
 
+  -- any two rows compare in it
   pub row_order-ranks : IsStrictWeakOrder (λ one other. is_lt (row_order key one other))
   row_order-ranks = ranks_by row_order-total (λ (row : ℕ). row)
 
@@ -80,6 +85,7 @@ module _ (P : ℕ → Type 0) (row : ℕ) (behind : (other : ℕ) → P other �
   abbrev pub OneMore : ℕ → Type 0
   OneMore other = P other ⊎ (other ≡ row)
 
+  -- the least row of those that have the property stays the least
   first-more : (first : ℕ) → IsFirstOf P first → IsFirstOf OneMore first
   first-more first is = record { agrees = inl is.agrees; least = least }
     where
@@ -88,6 +94,7 @@ module _ (P : ℕ → Type 0) (row : ℕ) (behind : (other : ℕ) → P other �
       least other (inr last) = rw last (behind first is.agrees)
 
   module _ (text : ℕ → List ℕ) where
+    -- so does the least that gives another text
     other-more : (first other : ℕ) → IsOtherOf text P first other → IsOtherOf text OneMore first other
     other-more first other is = record { agrees = inl is.agrees; differs = is.differs; least = least }
       where
@@ -95,6 +102,7 @@ module _ (P : ℕ → Type 0) (row : ℕ) (behind : (other : ℕ) → P other �
         least next (inl has) differs = is.least next has differs
         least next (inr last) differs = rw last (behind other is.agrees)
 
+    -- where all give one text and this row gives it, all give it
     same-more : (first : ℕ) → ((other : ℕ) → P other → text other ≡ text first) → text row ≡ text first → (other : ℕ) → OneMore other → text other ≡ text first
     same-more first all same other (inl has) = all other has
     same-more first all same other (inr last) = rw last same
@@ -153,22 +161,23 @@ module _ (key : ℕ → List (List ℕ)) (text : ℕ → List ℕ) (rows : List 
 
   -- a row whose key is that of the last entry makes that entry grow
   module _ (behind : (other : ℕ) → StandsBefore rows count other → key other ≡ key row → other ≤ row) (d : Hit) (some : 0 < length entries) where
-    last : ℕ
-    last = length entries - 1
-
+    -- the last entry
     abbrev end : Hit
     end = get_or entries (length entries - 1) d
 
     module _ (same : key end.first ≡ key row) (grown : Hit) (grows : IsGrown text end row grown) where
+      -- the entries with the last one grown
       abbrev changed : List Hit
       changed = set entries (length entries - 1) grown
 
+      -- the first rows of the entries stay
       firsts : (k : ℕ) (e : Hit) → k < length entries → (get_or changed k e).first ≡ (get_or entries k e).first
       firsts k e within = elim (eq-or-lt_of_le (let up_to : k ≤ length entries - 1 = omega arith in up_to)) [
         | inl here ↦ rw here (ap (λ (hit : Hit). hit.first) (get_or-set_same entries (length entries - 1) grown e (omega arith)) ∙ IsGrown-first text end row grown grows ∙ ap (λ (hit : Hit). hit.first) (get_or_default entries (length entries - 1) d e (omega arith)))
         | inr before ↦ ap (λ (hit : Hit). hit.first) (get_or-set_other entries (length entries - 1) k grown e (omega arith))
       ]
 
+      -- the grown entry is what there is to find at its key
       grown-is : IsEntryOf key text (StandsBefore rows (count + 1)) grown
       grown-is =
           let first = IsGrown-first text end row grown grows in
@@ -188,6 +197,7 @@ module _ (key : ℕ → List (List ℕ)) (text : ℕ → List ℕ) (rows : List 
           ])
           text grown more
 
+      -- so the entries are those of one row more
       pub AreEntries-grown : AreEntries key text (StandsBefore rows (count + 1)) (count + 1) changed
       AreEntries-grown =
           let size = length-set entries (length entries - 1) grown in
@@ -220,9 +230,11 @@ module _ (key : ℕ → List (List ℕ)) (text : ℕ → List ℕ) (rows : List 
 
   -- where the last entry has another key than a row that is not before the others, the row's key is behind those of all entries
   module _ (not_before : (other : ℕ) → StandsBefore rows count other → is_lt (row_order key row other) ≡ false) (other_key : ¬ EndsWithKey key entries row) where
+    -- what is read past the last entry
     abbrev nothing : Hit
     nothing = record { first = 0; other = None }
 
+    -- the key of the last entry is before that of the row
     last-less : 0 < length entries → key_order (key (get_or entries (length entries - 1) nothing).first) (key row) ≡ Less
     last-less some =
         let end = get_or entries (length entries - 1) nothing in
@@ -232,6 +244,7 @@ module _ (key : ℕ → List (List ℕ)) (text : ℕ → List ℕ) (rows : List 
         let greater : order ≡ Greater = is_greater order not_less (λ tied. other_key (some, sym (key_order-exact (key row) (key end.first) tied))) in
         key_order-total.antisymm (key end.first) (key row) ∙ ap ordering_reverse greater
 
+    -- so are those of all entries
     pub ahead-other_key : (k : ℕ) (d : Hit) → k < length entries → key_order (key (get_or entries k d).first) (key row) ≡ Less
     ahead-other_key k d within =
         let some : 0 < length entries = omega arith in
@@ -243,15 +256,18 @@ module _ (key : ℕ → List (List ℕ)) (text : ℕ → List ℕ) (rows : List 
 
   -- a row whose key is behind those of all entries has an entry of its own
   module _ (ahead : (k : ℕ) (d : Hit) → k < length entries → key_order (key (get_or entries k d).first) (key row) ≡ Less) where
+    -- the entry of the row alone
     abbrev own : Hit
     own = record { first = row; other = None }
 
+    -- no row before it has its key
     none-before : (other : ℕ) → StandsBefore rows count other → key other ≢ key row
     none-before other before same =
         let found = are.whole other before in
         let there = get_or_default entries found.0 found.1 found.1 found.2 in
         key_order-irreflexive _ _ (ahead found.0 found.1 found.2) (ap (λ (hit : Hit). key hit.first) found.3 ∙ found.4 ∙ same)
 
+    -- its entry is what there is to find at its key
     own-is : IsEntryOf key text (StandsBefore rows (count + 1)) own
     own-is = record {
       first = record {
@@ -267,6 +283,7 @@ module _ (key : ℕ → List (List ℕ)) (text : ℕ → List ℕ) (rows : List 
       ];
     }
 
+    -- so the entries with it are those of one row more
     pub AreEntries-own : AreEntries key text (StandsBefore rows (count + 1)) (count + 1) (entries ++ own ∷ [])
     AreEntries-own =
         let size = length-append entries (own ∷ []) in

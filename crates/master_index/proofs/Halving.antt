@@ -35,6 +35,7 @@ pub record IsNarrowed (key : ℕ → List (List ℕ)) (entries : List Hit) (soug
 turned_greater : (one other : List (List ℕ)) → key_order one other ≡ Greater → key_order other one ≡ Less
 turned_greater one other greater = key_order-total.antisymm other one ∙ ap ordering_reverse greater
 
+-- and a key that is before another has it behind itself
 turned_less : (one other : List (List ℕ)) → key_order one other ≡ Less → key_order other one ≡ Greater
 turned_less one other less = key_order-total.antisymm other one ∙ ap ordering_reverse less
 
@@ -55,6 +56,7 @@ IsNarrowed-whole key entries sought = record {
 }
 
 module _ (key : ℕ → List (List ℕ)) (text : ℕ → List ℕ) (IsListed : ℕ → Type 0) (count : ℕ) (entries : List Hit) (are : AreEntries key text IsListed count entries) (sought : List (List ℕ)) where
+  -- the key of the entry at a place
   abbrev key_at : ℕ → Hit → List (List ℕ)
   key_at k d = key (get_or entries k d).first
 
@@ -95,18 +97,22 @@ module _ (key : ℕ → List (List ℕ)) (text : ℕ → List ℕ) (IsListed : �
         | inr behind ↦ (let greater = narrowed.above k found.1 (omega arith) found.2 in absurd (let e = rw is at greater in let f = tied_itself key_order-total sought in cc))
       ]
 
+-- two functions that give the same for each item give the same list
 map-same : {A B : Type 0} (f g : A → B) (items : List A) → AllByRecursion (λ item. f item ≡ g item) items → map f items ≡ map g items
 map-same f g [] same = refl
 map-same f g (item ∷ items) same = rw (same.0, map-same f g items same.1) refl
 
+-- and back
 same-map : {A B : Type 0} (f g : A → B) (items : List A) → map f items ≡ map g items → AllByRecursion (λ item. f item ≡ g item) items
 same-map f g [] same = tt
 same-map f g (item ∷ items) same = (cc, same-map f g items cc)
 
 module _ (kit : Kit) (values : ℕ → List ℕ) (rule : Rule) where
+  -- the cell of a row at a key, as it is compared
   abbrev cell : ℕ → ℕ × ℕ → List ℕ
   cell row key = compared (is_folded kit key.0) (master_text kit rule row key.1)
 
+  -- the value at a key, as it is compared
   abbrev value : ℕ × ℕ → List ℕ
   value key = compared (is_folded kit key.0) (values key.0)
 

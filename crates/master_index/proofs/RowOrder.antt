@@ -66,6 +66,7 @@ module _ (kit : Kit) (rule : Rule) (rows : List ℕ) (are : AreSortedRows kit ru
   pub IsUsable-stands : (row : ℕ) → StandsBefore rows (length rows) row → IsUsable kit rule row
   IsUsable-stands row is = subst (IsUsable kit rule) is.2 (are.usable is.0 0 is.1)
 
+  -- and back
   pub StandsBefore-usable : (row : ℕ) → IsUsable kit rule row → StandsBefore rows (length rows) row
   StandsBefore-usable row usable =
       let found = are.whole row usable in

@@ -46,9 +46,11 @@ ShareTriple-same kit rule other same =
       from = eqb-true rule.from other.from outer.1;
     }
 
+-- a rule shares its triple with itself
 ShareTriple-refl : (kit : Kit) (rule : Rule) → ShareTriple kit rule rule
 ShareTriple-refl kit rule = record { master = refl; columns = refl; from = refl }
 
+-- and with each rule that shares one with a rule that shares it
 ShareTriple-trans : (kit : Kit) (one two three : Rule) → ShareTriple kit one two → ShareTriple kit two three → ShareTriple kit one three
 ShareTriple-trans kit one two three left right = record {
   master = left.master ∙ right.master;

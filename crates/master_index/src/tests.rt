@@ -105,6 +105,46 @@ fn answers<B: Book<()>>(book: &B, state: &State) -> (Option<Hit>, bool)
     }
 }
 
+/// How often one look for the first rule compares, if its keys are covered.
+fn compares_of<B: Book<()>>(book: &B, state: &State) -> u64
+    requires some { 0 < length (B.kit book.now).rules }
+    requires fits { Fits (B.kit book.now) state.now }
+{
+    let mut counts = Steps::new(());
+    if enabled::<(), B>(book, state, &book.rules()[0]) {
+        let _found = book.find(0, state, &mut counts);
+    }
+    counts.compares()
+}
+
+/// So many rows, each with another text in the first column.
+fn numbered(rt: &impl Abort, alloc: Global, rows: u32) -> Result<Grid, Fail> {
+    let mut grid = Grid::new(alloc, 3);
+    for row in 0..rows {
+        let number = format!(in alloc; "{row}")?;
+        add_row(rt, &mut grid, texts(alloc, &[number.as_str(), "b", "c"])?)?;
+    }
+    Ok(grid)
+}
+
+#[test]
+fn a_look_over_all_rows_compares_16_times_at_most(rt: HostRuntime) -> Result<(), Fail> {
+    let alloc = rt.alloc();
+    let grid = numbered(&rt, alloc, 20_000)?;
+    for zip in ["0", "777", "12345", "19999", "none"] {
+        let mut rules = List::new(alloc);
+        rules.push(rule(alloc, 0, 1, 2, 2)?)?;
+        let kit = kit(alloc, &grid, rules, false, false)?;
+        let typed = texts(alloc, &[zip, "b", "", ""])?;
+        assert!(rt; typed.len() == 4 && kit.width == 4 && kit.rules.len() == 1 && kit.valid());
+        let state = State::new(alloc, typed, &[true, true, false, false])?;
+        let book = SortedBook::build(alloc, kit)?;
+        let compares = compares_of(&book, &state);
+        assert!(rt; 1 <= compares && compares <= 16);
+    }
+    Ok(())
+}
+
 fn towns(rt: &impl Abort, alloc: Global) -> Result<Grid, Fail> {
     let mut grid = Grid::new(alloc, 3);
     add_row(rt, &mut grid, texts(alloc, &["EH7", "Main", "Edi"])?)?;
