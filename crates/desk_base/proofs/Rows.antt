@@ -26,8 +26,8 @@ get_or-rows_of columns (suc count) cells (suc row) d h =
 row_within : (columns count row : ℕ) → row < count → row * columns + columns ≤ count * columns
 row_within columns zero row h = absurd (omega arith)
 row_within columns (suc count) zero h = omega (arith, zero-mul columns, suc-mul count columns)
-row_within columns (suc count) (suc row) h = omega
-    (arith, suc-mul count columns, suc-mul row columns, row_within columns count row (omega arith))
+row_within columns (suc count) (suc row) h =
+    omega (arith, suc-mul count columns, suc-mul row columns, row_within columns count row (omega arith))
 
 -- each row has a cell in every column
 pub All-rows_of : (columns count : ℕ) (cells : List (List ℕ)) → length cells ≡ count * columns
@@ -39,8 +39,7 @@ All-rows_of columns count cells full row d h =
       arith,
       length-take columns (drop (row * columns) cells),
       length-drop (row * columns) cells,
-      row_within
-          columns count row within,
+      row_within columns count row within,
     ))
 
 -- where a cell lies
@@ -61,8 +60,8 @@ append_row columns zero [] row full wide = ap (λ r. r ∷ []) (take_all columns
 append_row columns zero (cell ∷ cells) row full wide = absurd (omega (arith, zero-mul columns))
 append_row columns (suc count) cells row full wide =
     let enough : columns ≤ length cells = omega (arith, suc-mul count columns) in
-    let rest : length (drop columns cells) ≡ count * columns = omega
-    (arith, length-drop columns cells, suc-mul count columns) in
+    let rest : length (drop columns cells) ≡ count * columns =
+    omega (arith, length-drop columns cells, suc-mul count columns) in
     let first : take columns (cells ++ row) ≡ take columns cells = take-append-le columns cells row enough in
     let others : drop columns (cells ++ row) ≡ drop columns cells ++ row = drop-append-le columns cells row enough in
     rw (first, others) (ap (λ l. take columns cells ∷ l) (append_row columns count (drop columns cells) row rest wide))

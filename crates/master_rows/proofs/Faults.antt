@@ -45,8 +45,8 @@ cells_fault-next row column cell later short = rw (le-ltb 200 (length cell) shor
 -- a row whose cells alone are left to test
 pub row_fault-cells : (columns row : ℕ) (cells : List (List ℕ)) → row ≤ 20000 → length cells ≡ columns
     → list_all is_utf8 cells ≡ true → row_fault columns row cells ≡ cells_fault row 1 cells
-row_fault-cells columns row cells within full texts = rw
-    (le-ltb 20000 row within, eq-eqb (length cells) columns full, texts) refl
+row_fault-cells columns row cells within full texts =
+    rw (le-ltb 20000 row within, eq-eqb (length cells) columns full, texts) refl
 
 -- what a row without a fault is
 pub record IsFine (columns row : ℕ) (cells : List (List ℕ)) : Type 0 where
@@ -104,8 +104,8 @@ pub read_records-row : (columns : List (List ℕ)) (grid : GridRows) (cells : Li
     (later : List (List (List ℕ))) (fault : SheetFault) → IsFaultless columns grid
     → row_fault grid.columns (length grid.rows + 1) cells ≡ Some fault
     → read_records (columns ∷ (grid.rows ++ cells ∷ later)) ≡ Err fault
-read_records-row columns grid cells later fault fine is = rw
-    (fine.header, rows_fault-next columns grid cells later fine, is) refl
+read_records-row columns grid cells later fault fine is =
+    rw (fine.header, rows_fault-next columns grid cells later fine, is) refl
 
 -- a header and rows without a fault are read
 pub read_records-faultless : (columns : List (List ℕ)) (grid : GridRows) → IsFaultless columns grid

@@ -45,8 +45,8 @@ IsColumn-passed text utf8 passed =
 
 -- and is passed by each
 is_column-IsColumn : (text : List ℕ) → IsColumn text → is_column text ≡ true
-is_column-IsColumn text column = rw
-    (lt-ltb 0 (length text) column.some, le-leb (length text) 64 column.short, column.unmarked) refl
+is_column-IsColumn text column =
+    rw (lt-ltb 0 (length text) column.some, le-leb (length text) 64 column.short, column.unmarked) refl
 
 -- the test of two texts fails where they differ
 bytes_eq-differ : (one other : List ℕ) → one ≢ other → bytes_eq one other ≡ false
@@ -100,8 +100,8 @@ columns_fault-differ earlier [] columns differ = refl
 columns_fault-differ earlier (column ∷ later) columns differ =
     let good = is_column-IsColumn column (All-head IsColumn column later columns) in
     let new = has_text-none earlier column (λ k d within.
-    let inside : length earlier < length (earlier ++ column ∷ later) = omega
-    (arith, length-append earlier (column ∷ later)) in
+    let inside : length earlier < length (earlier ++ column ∷ later) =
+    omega (arith, length-append earlier (column ∷ later)) in
     rw (get_or-append earlier (column ∷ later) d k within, get_or-append_seam earlier column later d) at
     (differ k (length earlier) d within inside)) in
     columns_fault-next earlier later column good new
@@ -138,8 +138,7 @@ rows_fault-none columns row (cells ∷ later) within none =
     let rest = rows_fault-none columns (row + 1) later (omega (arith, fine.within)) parts.1 in (
       All-cons (IsRow columns) cells later
           (record { full = fine.full; cells = cells_fault-none row 1 cells fine.short fine.texts }) rest.0,
-      omega
-          (arith, rest.1),
+      omega (arith, rest.1),
     )
 
 -- rows have no fault

@@ -56,6 +56,5 @@ list_all-next fields place d within before utf8 =
     rw (
       list_all_more is_utf8 (bytes_of fields) place d.now inside,
       before,
-      get_or-map
-          (λ (field : Bor (List ℕ)). field.now) fields place d,
+      get_or-map (λ (field : Bor (List ℕ)). field.now) fields place d,
     ) utf8

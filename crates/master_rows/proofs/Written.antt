@@ -82,8 +82,8 @@ written-reached ((field ∷ fields) ∷ rows)
 records-written : (rows : List (List (List ℕ))) → All (λ row. 1 ≤ length row) rows
     → records default_config (flat_map (row_text default_writer) rows) ≡ rows
 unfolding next_record
-records-written rows some = sym
-    (records-end (flat_map (row_text default_writer) rows) [] rows st.StartRecord (written-reached rows some) refl)
+records-written rows some =
+    sym (records-end (flat_map (row_text default_writer) rows) [] rows st.StartRecord (written-reached rows some) refl)
 
 -- a header that begins with a column as it stands
 bare-unmarked : (column : List ℕ) (columns : List (List ℕ)) (rest : List ℕ) → IsColumn column
@@ -126,6 +126,5 @@ read_sheet-sheet_of master is =
     rw (
       two_marks-unmarked (sheet_of master) unmarked,
       strip_bom-unmarked (sheet_of master) unmarked,
-      records-written
-          (master_records master) some,
+      records-written (master_records master) some,
     ) (read_records-master master is)

@@ -48,8 +48,7 @@ texts_in-take_more values i d texts text within done next =
     rw (
       take_more values i d within,
       items_view-push (take i values) (get_or values i d),
-      texts_in-push_item
-          (items_view (take i values)) (view (get_or values i d)),
+      texts_in-push_item (items_view (take i values)) (view (get_or values i d)),
       done,
       next,
     ) refl

@@ -16,14 +16,14 @@ pieces-preserved g c =
       grown = rw (take-add c.pieces.at c.in_ok-at.field-0 c.args.piece.now)
           (Appends-then _ _ _ _ _ c.pieces.invariant.grown (rw whole at bytes));
       takes = λ room known enough.
-          let rest : length (drop c.pieces.at c.args.piece.now) ≤ room - c.pieces.at = omega
-          (arith, length-drop c.pieces.at c.args.piece.now) in
+          let rest : length (drop c.pieces.at c.args.piece.now) ≤ room - c.pieces.at =
+          omega (arith, length-drop c.pieces.at c.args.piece.now) in
           let all = c.write.ensures.takes (room - c.pieces.at) (c.pieces.invariant.takes room known enough)
           (rw whole (rest)) in
           let on : g.W.Sink.takes c.write.new.self (room - c.pieces.at - c.in_ok-at.field-0) = rw c.in_ok-at.was at
           all in
-          let same : room - c.pieces.at - c.in_ok-at.field-0 ≡ room - (c.pieces.at + c.in_ok-at.field-0) = omega
-          arith in
+          let same : room - c.pieces.at - c.in_ok-at.field-0 ≡ room - (c.pieces.at + c.in_ok-at.field-0) =
+          omega arith in
           subst (λ n. g.W.Sink.takes c.write.new.self n) same on;
       later = search rules;
     }

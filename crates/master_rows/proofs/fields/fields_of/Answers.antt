@@ -7,8 +7,8 @@ use Rattle.master_rows.proofs.fields.fields_of.Goals.{in-Some+in_ok-push, in_def
 
 pub loop-place-preserved : goal.loop-place-preserved
 loop-place-preserved c =
-    let within : c.loop-place.place < length (fields_of c.args.source.now) = omega
-    (arith, c.loop-place-test.true, c.len-place-end.ensures) in
+    let within : c.loop-place.place < length (fields_of c.args.source.now) =
+    omega (arith, c.loop-place-test.true, c.len-place-end.ensures) in
     elim c.match-get.branch [
       | in-Some+in_ok-push w ↦
           let items = w.in_ok-push.ensures.items in

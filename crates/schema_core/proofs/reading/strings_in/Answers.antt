@@ -7,8 +7,8 @@ use Rattle.schema_core.proofs.reading.strings_in.Goals as goal
 
 pub returns-in_default-clause-fault : goal.returns-in_default-clause-fault
 returns-in_default-clause-fault c =
-    let other : as_str (view (get_or c.args.items.now c.items.item-index c.item-item.result)) ≡ None = ap
-    (λ item. as_str (view item)) (sym c.item-item.is) ∙ sym c.in_default.ensures in
+    let other : as_str (view (get_or c.args.items.now c.items.item-index c.item-item.result)) ≡ None =
+    ap (λ item. as_str (view item)) (sym c.item-item.is) ∙ sym c.in_default.ensures in
     λ _. (refl, texts_in-other _ _ _ c.items-test.true other)
 
 pub items-preserved : goal.items-preserved

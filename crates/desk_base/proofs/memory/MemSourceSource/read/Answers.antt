@@ -6,8 +6,8 @@ use Rattle.desk_base.proofs.memory.MemSourceSource.read.Goals as goal
 pub returns-clause-bytes : goal.returns-clause-bytes
 returns-clause-bytes c =
     let inside = c.self.inside in
-    let least : c.min.result ≤ length (drop inside.at inside.bytes.items) = omega
-    (arith, rw (c.deref.ensures.value, length-take) at c.min.ensures) in
+    let least : c.min.result ≤ length (drop inside.at inside.bytes.items) =
+    omega (arith, rw (c.deref.ensures.value, length-take) at c.min.ensures) in
     let within : c.min-count.result ≤ length (drop inside.at inside.bytes.items) = omega arith in (
       rw (← c.self.view_is)
           (copied-rest inside.bytes.items c.copy_from_slice.new.self c.args.buf.now inside.at c.min-count.result
