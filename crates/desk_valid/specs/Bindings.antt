@@ -1,19 +1,17 @@
 -- What an edition binds to.
-use Rattle.std.specs.Prelude.{ℕ, List, map, Option, option_map, option_and_then, slice_get, Result}
+use Rattle.std.specs.Prelude.{◌≡◌, ℕ, List, length, map, Option, option_map, option_and_then, slice_get, Result}
 use Rattle.desk_words.specs.declared.rows.edition.EditionRow.{EditionRow}
 use Rattle.desk_words.specs.Tables.{Published}
 use Rattle.fix_model.specs.declared.kit.Kit.{Kit}
 use Rattle.fix_model.specs.declared.names.Names.{Names}
-use Rattle.master_rows.specs.declared.master.Master.{Master}
+use Rattle.fix_model.specs.Valid.{IsValid}
 use Rattle.rule_text.specs.declared.binding.BindFault.{BindFault}
-use Rattle.rule_text.specs.Binding.{bound}
-use Rattle.desk_valid.specs.Readings.{Rules, all_of, master_at, read, rules_at}
+use Rattle.rule_text.specs.Binding.{AreFolded, AreMasters, bound}
+use Rattle.rule_text.specs.Rulebooks.{IsRulebook}
+use Rattle.schema_core.specs.Schemas.{IsSchema}
+use Rattle.desk_valid.specs.Readings.{all_of, master_at, read, rules_at}
 use Rattle.desk_valid.specs.declared.bound.Bound.{Bound}
-
--- what an edition names: the rules, and the masters under their names
-pub record Parts : Type 0 where
-  pub rules : Rules
-  pub masters : List (List ℕ × Master)
+use Rattle.desk_valid.specs.declared.parts.Parts.{Parts}
 
 -- the parts of an edition, where each reads
 abbrev pub parts_of : Published → EditionRow → Option Parts
@@ -44,3 +42,17 @@ bound_in published row = option_and_then (λ parts. bound_of parts row.folded) (
 -- the kit of the edition at a place, with its names
 abbrev pub bound_at : Published → ℕ → Option Bound
 bound_at published place = option_and_then (bound_in published) (slice_get published.editions place)
+
+-- parts that can be bound with these attributes folded
+pub record AreBindable (parts : Parts) (folded : List ℕ) : Type 0 where
+  pub schema : IsSchema parts.rules.schema
+  pub rulebook : IsRulebook parts.rules.schema parts.rules.rulebook
+  pub masters : AreMasters parts.masters
+  pub fold : AreFolded parts.rules.schema folded
+
+-- the kit is valid, and each of its places has a name
+pub record IsNamedKit (made : Bound) : Type 0 where
+  pub valid : IsValid made.kit
+  pub attributes : length made.names.attributes ≡ made.kit.width
+  pub rules : length made.names.rules ≡ length made.kit.rules
+  pub masters : length made.names.masters ≡ length made.kit.masters

@@ -4,4 +4,10 @@ pub mod Versions
 pub mod Rows
 pub mod Valid
 pub mod Damage
+pub mod ReadTables
+pub mod Bare
+pub mod NamedParts
+pub mod TableOf
+pub mod FirstDamaged
+pub mod Seen
 pub mod Refusals

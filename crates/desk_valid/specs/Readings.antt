@@ -6,10 +6,10 @@ use Rattle.desk_words.specs.declared.rows.schema.SchemaRow.{SchemaRow}
 use Rattle.desk_words.specs.Tables.{Published}
 use Rattle.master_rows.specs.declared.master.Master.{Master}
 use Rattle.master_rows.specs.Sheet.{read_sheet}
-use Rattle.rule_text.specs.declared.rulebook.Rulebook.{Rulebook}
 use Rattle.rule_text.specs.Reading.{read_rules}
 use Rattle.schema_core.specs.declared.schema.Schema.{Schema}
 use Rattle.schema_core.specs.Reading.{schema_of}
+use Rattle.desk_valid.specs.declared.reading.Rules.{Rules}
 
 -- what was read, or nothing where there was a fault
 abbrev pub read : {A E : Type 0} → Result A E → Option A
@@ -31,11 +31,6 @@ master_in row = option_map (λ master. (row.name, master)) (read (read_sheet row
 -- the master at a place, under its name
 abbrev pub master_at : Published → ℕ → Option (List ℕ × Master)
 master_at published place = option_and_then master_in (slice_get published.masters place)
-
--- a schema, and the rules over it
-pub record Rules : Type 0 where
-  pub schema : Schema
-  pub rulebook : Rulebook
 
 -- the rules that a body has over a schema
 abbrev pub rules_over : List ℕ → Schema → Option Rules

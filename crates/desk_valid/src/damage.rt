@@ -1,4 +1,8 @@
 //! A damaged row.
+ghost use Rattle.std.specs.Prelude.{◌≡◌};
+ghost use Rattle.desk_valid.specs.declared.damage.Bad.TheVariants as bad;
+
+use desk_base::NoMemory;
 
 /// A row that is not what a row of its table has to be (`docs/tables.md`).
 #[derive(Clone, Copy, Debug, PartialEq, Eq)]
@@ -16,4 +20,12 @@ pub enum Bad {
     Damaged(Damage),
     /// There was no memory. It may come in place of any other answer.
     NoMemory,
+}
+
+impl From<NoMemory> for Bad {
+    ghost from_gives = { λ _ result. result ≡ bad.NoMemory };
+
+    fn from(_fault: NoMemory) -> Bad {
+        Bad::NoMemory
+    }
 }

@@ -6,10 +6,28 @@
 //! and `specs/Bindings.antt` what an edition binds to. `docs/tables.md` says the same in words.
 #![tactic(auto)]
 
+mod attributes;
+mod bare;
+mod batches;
 mod bound;
 mod checking;
+mod clerks;
 mod damage;
+mod editions;
+pub mod laws;
+mod lists;
+mod masters;
+mod parts;
+mod read_tables;
+mod reading;
+mod records;
+mod regions;
+mod rulebooks;
+mod schemas;
+mod sessions;
+mod table;
+mod versions;
 
-pub use checking::valid;
 pub use bound::{Bound, kit_of};
+pub use checking::valid;
 pub use damage::{Bad, Damage};

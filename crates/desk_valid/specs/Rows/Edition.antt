@@ -5,7 +5,8 @@ use Rattle.desk_words.specs.declared.rows.edition.EditionRow.{EditionRow}
 use Rattle.desk_words.specs.Tables.{Published}
 use Rattle.fix_model.specs.declared.kit.Kit.{Kit}
 use Rattle.fix_model.specs.Entries.{entries}
-use Rattle.desk_valid.specs.Bindings.{Parts, binding, parts_of}
+use Rattle.desk_valid.specs.declared.parts.Parts.{Parts}
+use Rattle.desk_valid.specs.Bindings.{binding, parts_of}
 use Rattle.desk_valid.specs.Versions.{IsVersion}
 
 -- the masters have another name each
