@@ -1,5 +1,5 @@
 //! Calls of `run` as cases state them.
-use crate::indexes::line_over_index;
+use crate::indexes::{line_over_map, line_over_sorted};
 use desk_base::{Both, List, MemSink, MemSource};
 use desk_cases::{Case, Part};
 use fixdesk_run::run;
@@ -90,8 +90,8 @@ fn text(alloc: Global, part: &Part) -> Result<String, Fail> {
     }
 }
 
-/// The status and the output of a case's call. Where it is answered with status 0 and an index leads to another line,
-/// that line is a part besides.
+/// The status and the output of a case's call. Where it is answered with status 0 and an index of the masters leads to
+/// another line, that line is a part besides.
 pub fn answer(alloc: Global, case: &Case) -> Result<Vec<Part>, Fail> {
     let call = call_of(alloc, case)?;
     let told = call.make(alloc)?;
@@ -101,12 +101,26 @@ pub fn answer(alloc: Global, case: &Case) -> Result<Vec<Part>, Fail> {
         answer.push(Part::new(alloc, "output", line(told.output.as_slice()))?)?;
     }
     if told.status == 0 {
-        let indexed = line_over_index(alloc, call.input)?;
-        if indexed.as_slice() != told.output.as_slice() {
-            answer.push(Part::new(alloc, "output over an index", line(indexed.as_slice()))?)?;
-        }
+        let mapped = line_over_map(alloc, call.input)?;
+        add_other(alloc, &mut answer, "output over a map", &told, mapped.as_slice())?;
+        let sorted = line_over_sorted(alloc, call.input)?;
+        add_other(alloc, &mut answer, "output over a sorted index", &told, sorted.as_slice())?;
     }
     Ok(answer)
+}
+
+/// Adds a part for a line that is not the one that was told.
+fn add_other(
+    alloc: Global,
+    answer: &mut Vec<Part>,
+    name: &str,
+    told: &Told,
+    other: &[u8],
+) -> Result<(), Fail> {
+    if other != told.output.as_slice() {
+        answer.push(Part::new(alloc, name, line(other))?)?;
+    }
+    Ok(())
 }
 
 /// The part that tells a status.

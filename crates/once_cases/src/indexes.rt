@@ -1,11 +1,11 @@
-//! The answer to a case over an index of its masters.
+//! The answer to a case over the indexes of its masters.
 use fixdesk_run::{Case, answer_over, case_of};
-use master_index::MapBook;
+use master_index::{MapBook, SortedBook};
 use std::alloc::Global;
 use std::test::Fail;
 
-/// The line that answers the case of an input over an index of its masters.
-pub fn line_over_index(alloc: Global, input: &[u8]) -> Result<Vec<u8>, Fail> {
+/// The line that answers the case of an input over a map of its masters.
+pub fn line_over_map(alloc: Global, input: &[u8]) -> Result<Vec<u8>, Fail> {
     let Case {
         attributes,
         kit,
@@ -13,4 +13,15 @@ pub fn line_over_index(alloc: Global, input: &[u8]) -> Result<Vec<u8>, Fail> {
     } = case_of(alloc, input)?;
     let book = MapBook::build(alloc, kit)?;
     Ok(answer_over::<MapBook>(alloc, attributes.as_slice(), &book, state)?)
+}
+
+/// The line that answers the case of an input over a sorted index of its masters.
+pub fn line_over_sorted(alloc: Global, input: &[u8]) -> Result<Vec<u8>, Fail> {
+    let Case {
+        attributes,
+        kit,
+        state,
+    } = case_of(alloc, input)?;
+    let book = SortedBook::build(alloc, kit)?;
+    Ok(answer_over::<SortedBook>(alloc, attributes.as_slice(), &book, state)?)
 }

@@ -1,5 +1,6 @@
--- What a draft stands for in each state: the tokens that made it.
-use Rattle.std.proofs.Common.{◌≡◌, ◌∙◌, ℕ, ◌≤◌, Bool, true, List, [], ◌∷◌, ◌++◌, length, map, Some, refl, sym, ap, append_assoc, arith, inl, inr}
+-- What a draft stands for, by what is expected: the tokens that made it.
+use Rattle.std.proofs.Common.{◌≡◌, ◌∙◌, ℕ, ◌≤◌, Bool, true, List, [], ◌∷◌, ◌++◌, length, map, Some, refl, sym, ap}
+use Rattle.std.proofs.Common.{append_assoc, arith, inl, inr}
 use Rattle.std.specs.Prelude.{codes, ⊤, if◌then◌else◌}
 use Rattle.std.specs.Str.{bytes_eq}
 use Rattle.std.specs.List.{flat_map}
@@ -13,12 +14,13 @@ use Rattle.schema_core.specs.declared.schema.Schema.{Schema}
 use Rattle.rule_text.specs.declared.token.Mark.TheVariants as mark
 use Rattle.rule_text.specs.declared.token.Token.{Token}
 use Rattle.rule_text.specs.declared.token.Token.TheVariants.{Word, Quoted, Sign}
-use Rattle.rule_text.specs.declared.state.State.{State}
-use Rattle.rule_text.specs.declared.state.State.TheVariants as state
+use Rattle.rule_text.specs.declared.grammar.Expected.{Expected}
+use Rattle.rule_text.specs.declared.grammar.Expected.TheVariants as expected
 use Rattle.rule_text.specs.declared.rulebook.RuleLine.{RuleLine}
 use Rattle.rule_text.specs.declared.draft.Draft.{Draft}
-use Rattle.rule_text.specs.BookTokens.{with_commas, pair_tokens, text_tokens, set_tokens, pattern_tokens, cond_tokens, conds_tokens, line_tokens, as_string}
-use Rattle.rule_text.specs.Grammar.{is_name, is_quoted, is_column}
+use Rattle.rule_text.specs.BookTokens.{with_commas, pair_tokens, text_tokens, set_tokens, pattern_tokens, cond_tokens}
+use Rattle.rule_text.specs.BookTokens.{conds_tokens, line_tokens, as_string}
+use Rattle.rule_text.specs.Tokens.{is_name, is_quoted, is_column}
 use Rattle.rule_text.specs.Reading.{content, attribute_of, with_cond, set_of}
 use Rattle.rule_text.specs.Printing.{attribute_text}
 
@@ -30,23 +32,27 @@ commas_behind [] = []
 commas_behind (first ∷ rest) = first ++ Sign mark.Comma ∷ commas_behind rest
 
 -- an item more
-with_commas-append : (items : List (List Token)) (last : List Token) → with_commas (items ++ last ∷ []) ≡ commas_behind items ++ last
+with_commas-append : (items : List (List Token)) (last : List Token)
+    → with_commas (items ++ last ∷ []) ≡ commas_behind items ++ last
 with_commas-append [] last = refl
 with_commas-append (first ∷ []) last = simp append_assoc
 with_commas-append (first ∷ second ∷ rest) last = rw (with_commas-append (second ∷ rest) last) (simp append_assoc)
 
 -- a comma more
-with_commas-comma : (first : List Token) (rest : List (List Token)) → with_commas (first ∷ rest) ++ Sign mark.Comma ∷ [] ≡ commas_behind (first ∷ rest)
+with_commas-comma : (first : List Token) (rest : List (List Token))
+    → with_commas (first ∷ rest) ++ Sign mark.Comma ∷ [] ≡ commas_behind (first ∷ rest)
 with_commas-comma first [] = refl
 with_commas-comma first (second ∷ rest) = rw (← with_commas-comma second rest) (simp append_assoc)
 
 module _ {A : Type 0} (shown : A → List Token) where
   -- an item more, of which this is shown
-  pub more-item : (items : List A) (last : A) → with_commas (map shown (items ++ last ∷ [])) ≡ commas_behind (map shown items) ++ shown last
+  pub more-item : (items : List A) (last : A)
+      → with_commas (map shown (items ++ last ∷ [])) ≡ commas_behind (map shown items) ++ shown last
   more-item items last = rw (map-append, with_commas-append) refl
 
   -- a comma more behind them
-  pub more-comma : (items : List A) → 1 ≤ length items → with_commas (map shown items) ++ Sign mark.Comma ∷ [] ≡ commas_behind (map shown items)
+  pub more-comma : (items : List A) → 1 ≤ length items
+      → with_commas (map shown items) ++ Sign mark.Comma ∷ [] ≡ commas_behind (map shown items)
   more-comma [] some = absurd (omega arith)
   more-comma (first ∷ rest) some = with_commas-comma (shown first) (map shown rest)
 
@@ -88,32 +94,32 @@ set_words negated = if negated then Word (codes "not") ∷ Word (codes "in") ∷
 abbrev pub opened_tokens : Schema → Draft → List Token
 opened_tokens schema draft = (asked_tokens schema draft ++ set_words draft.negated) ++ Sign mark.Opening ∷ []
 
--- the open rule, as far as it has come in a state
-abbrev pub open_tokens : Schema → State → Draft → List Token
-open_tokens schema state.Book draft = []
-open_tokens schema state.Name draft = Word (codes "rule") ∷ []
-open_tokens schema state.From draft = Word (codes "rule") ∷ Word draft.line.name ∷ []
-open_tokens schema state.Master draft = Word (codes "rule") ∷ Word draft.line.name ∷ Word (codes "from") ∷ []
-open_tokens schema state.Colon draft = Word (codes "rule") ∷ Word draft.line.name ∷ Word (codes "from") ∷ Word draft.line.master ∷ []
-open_tokens schema state.Key draft = key_tokens schema draft.line
-open_tokens schema state.KeyEquals draft = key_tokens schema draft.line ++ Word (attribute_text schema draft.attribute) ∷ []
-open_tokens schema state.KeyColumn draft = (key_tokens schema draft.line ++ Word (attribute_text schema draft.attribute) ∷ []) ++ Sign mark.Equals ∷ []
-open_tokens schema state.AfterKey draft = keyed_tokens schema draft.line
-open_tokens schema state.Head draft = keyed_tokens schema draft.line ++ Sign mark.Arrow ∷ []
-open_tokens schema state.HeadEquals draft = head_tokens schema draft.line
-open_tokens schema state.HeadColumn draft = head_tokens schema draft.line ++ Sign mark.Equals ∷ []
-open_tokens schema state.AfterHead draft = headed_tokens schema draft.line
-open_tokens schema state.Cond draft = asking_tokens schema draft.line
-open_tokens schema state.Test draft = asked_tokens schema draft
-open_tokens schema state.Negated draft = asked_tokens schema draft ++ Word (codes "not") ∷ []
-open_tokens schema state.Open draft = asked_tokens schema draft ++ set_words draft.negated
-open_tokens schema state.Item draft = opened_tokens schema draft ++ commas_behind (map text_tokens draft.texts)
-open_tokens schema state.AfterItem draft = opened_tokens schema draft ++ with_commas (map text_tokens draft.texts)
-open_tokens schema state.Const draft = asked_tokens schema draft ++ Word (codes "is") ∷ []
-open_tokens schema state.AfterCond draft = headed_tokens schema draft.line ++ conds_tokens schema draft.line.conds
+-- the open rule, as far as it has come in a expected
+abbrev pub open_tokens : Schema → Expected → Draft → List Token
+open_tokens schema expected.Rule draft = []
+open_tokens schema expected.Name draft = Word (codes "rule") ∷ []
+open_tokens schema expected.From draft = Word (codes "rule") ∷ Word draft.line.name ∷ []
+open_tokens schema expected.Master draft = Word (codes "rule") ∷ Word draft.line.name ∷ Word (codes "from") ∷ []
+open_tokens schema expected.Colon draft = Word (codes "rule") ∷ Word draft.line.name ∷ Word (codes "from") ∷ Word draft.line.master ∷ []
+open_tokens schema expected.Key draft = key_tokens schema draft.line
+open_tokens schema expected.KeyEquals draft = key_tokens schema draft.line ++ Word (attribute_text schema draft.attribute) ∷ []
+open_tokens schema expected.KeyColumn draft = (key_tokens schema draft.line ++ Word (attribute_text schema draft.attribute) ∷ []) ++ Sign mark.Equals ∷ []
+open_tokens schema expected.AfterKey draft = keyed_tokens schema draft.line
+open_tokens schema expected.Head draft = keyed_tokens schema draft.line ++ Sign mark.Arrow ∷ []
+open_tokens schema expected.HeadEquals draft = head_tokens schema draft.line
+open_tokens schema expected.HeadColumn draft = head_tokens schema draft.line ++ Sign mark.Equals ∷ []
+open_tokens schema expected.AfterHead draft = headed_tokens schema draft.line
+open_tokens schema expected.Cond draft = asking_tokens schema draft.line
+open_tokens schema expected.Test draft = asked_tokens schema draft
+open_tokens schema expected.Negated draft = asked_tokens schema draft ++ Word (codes "not") ∷ []
+open_tokens schema expected.Open draft = asked_tokens schema draft ++ set_words draft.negated
+open_tokens schema expected.Item draft = opened_tokens schema draft ++ commas_behind (map text_tokens draft.texts)
+open_tokens schema expected.AfterItem draft = opened_tokens schema draft ++ with_commas (map text_tokens draft.texts)
+open_tokens schema expected.Const draft = asked_tokens schema draft ++ Word (codes "is") ∷ []
+open_tokens schema expected.AfterCond draft = headed_tokens schema draft.line ++ conds_tokens schema draft.line.conds
 
 -- the closed rules and the open one
-abbrev pub draft_tokens : Schema → State → Draft → List Token
+abbrev pub draft_tokens : Schema → Expected → Draft → List Token
 draft_tokens schema before draft = flat_map (line_tokens schema) draft.lines ++ open_tokens schema before draft
 
 -- no condition of the open rule is read
@@ -124,52 +130,61 @@ IsKeyed draft = (draft.line.conds ≡ []) × (draft.texts ≡ [])
 abbrev pub IsStarted : Draft → Type 0
 IsStarted draft = (draft.line.keys ≡ []) × IsKeyed draft
 
--- which parts of a draft are empty in a state, and which are not
-abbrev pub HasParts : State → Draft → Type 0
-HasParts state.Book draft = IsStarted draft
-HasParts state.Name draft = IsStarted draft
-HasParts state.From draft = IsStarted draft
-HasParts state.Master draft = IsStarted draft
-HasParts state.Colon draft = IsStarted draft
-HasParts state.AfterKey draft = (1 ≤ length draft.line.keys) × IsKeyed draft
-HasParts state.Key draft = IsKeyed draft
-HasParts state.KeyEquals draft = IsKeyed draft
-HasParts state.KeyColumn draft = IsKeyed draft
-HasParts state.Head draft = IsKeyed draft
-HasParts state.HeadEquals draft = IsKeyed draft
-HasParts state.HeadColumn draft = IsKeyed draft
-HasParts state.AfterHead draft = IsKeyed draft
-HasParts state.Item draft = ⊤
-HasParts state.AfterItem draft = 1 ≤ length draft.texts
-HasParts state.AfterCond draft = (1 ≤ length draft.line.conds) × (draft.texts ≡ [])
+-- which parts of a draft are empty in a expected, and which are not
+abbrev pub HasParts : Expected → Draft → Type 0
+HasParts expected.Rule draft = IsStarted draft
+HasParts expected.Name draft = IsStarted draft
+HasParts expected.From draft = IsStarted draft
+HasParts expected.Master draft = IsStarted draft
+HasParts expected.Colon draft = IsStarted draft
+HasParts expected.AfterKey draft = (1 ≤ length draft.line.keys) × IsKeyed draft
+HasParts expected.Key draft = IsKeyed draft
+HasParts expected.KeyEquals draft = IsKeyed draft
+HasParts expected.KeyColumn draft = IsKeyed draft
+HasParts expected.Head draft = IsKeyed draft
+HasParts expected.HeadEquals draft = IsKeyed draft
+HasParts expected.HeadColumn draft = IsKeyed draft
+HasParts expected.AfterHead draft = IsKeyed draft
+HasParts expected.Item draft = ⊤
+HasParts expected.AfterItem draft = 1 ≤ length draft.texts
+HasParts expected.AfterCond draft = (1 ≤ length draft.line.conds) × (draft.texts ≡ [])
 HasParts other draft = draft.texts ≡ []
 
 -- three tokens, one after the other
-pub one-by-one : (front : List Token) (first second third : Token) → front ++ first ∷ second ∷ third ∷ [] ≡ front ++ first ∷ [] ++ second ∷ [] ++ third ∷ []
+pub one-by-one : (front : List Token) (first second third : Token)
+    → front ++ first ∷ second ∷ third ∷ [] ≡ front ++ first ∷ [] ++ second ∷ [] ++ third ∷ []
 one-by-one front first second third = simp append_assoc
 
 -- a set behind its words
-pub in-parts : (front words items : List Token) (opening closing : Token) → front ++ (words ++ opening ∷ (items ++ closing ∷ [])) ≡ front ++ words ++ opening ∷ [] ++ items ++ closing ∷ []
+pub in-parts : (front words items : List Token) (opening closing : Token)
+    → front ++ (words ++ opening ∷ (items ++ closing ∷ [])) ≡ front ++ words ++ opening ∷ [] ++ items ++ closing ∷ []
 in-parts front words items opening closing = simp append_assoc
 
 -- a rule from its keys on
-to-the-end : (keys conds : List Token) (arrow head equals column semicolon : Token) → keys ++ arrow ∷ head ∷ equals ∷ column ∷ [] ++ conds ++ semicolon ∷ [] ≡ keys ++ arrow ∷ [] ++ head ∷ [] ++ equals ∷ [] ++ column ∷ [] ++ conds ++ semicolon ∷ []
+to-the-end : (keys conds : List Token) (arrow head equals column semicolon : Token)
+    → keys ++ arrow ∷ head ∷ equals ∷ column ∷ [] ++ conds ++ semicolon ∷ []
+    ≡ keys ++ arrow ∷ [] ++ head ∷ [] ++ equals ∷ [] ++ column ∷ [] ++ conds ++ semicolon ∷ []
 to-the-end keys conds arrow head equals column semicolon = simp append_assoc
 
 -- ---- conditions
 
 -- a condition more
-conds_tokens-append : (schema : Schema) (conds : List (ℕ × Pat)) (last : ℕ × Pat) → conds_tokens schema (conds ++ last ∷ []) ≡ Word (codes "when") ∷ commas_behind (map (cond_tokens schema) conds) ++ cond_tokens schema last
+conds_tokens-append : (schema : Schema) (conds : List (ℕ × Pat)) (last : ℕ × Pat)
+    → conds_tokens schema (conds ++ last ∷ [])
+    ≡ Word (codes "when") ∷ commas_behind (map (cond_tokens schema) conds) ++ cond_tokens schema last
 conds_tokens-append schema [] last = refl
 conds_tokens-append schema (first ∷ rest) last = ap (λ (tokens : List Token). Word (codes "when") ∷ tokens) (more-item (cond_tokens schema) (first ∷ rest) last)
 
 -- and a comma more
-pub conds_tokens-comma : (schema : Schema) (conds : List (ℕ × Pat)) → 1 ≤ length conds → conds_tokens schema conds ++ Sign mark.Comma ∷ [] ≡ Word (codes "when") ∷ commas_behind (map (cond_tokens schema) conds)
+pub conds_tokens-comma : (schema : Schema) (conds : List (ℕ × Pat)) → 1 ≤ length conds
+    → conds_tokens schema conds ++ Sign mark.Comma ∷ []
+    ≡ Word (codes "when") ∷ commas_behind (map (cond_tokens schema) conds)
 conds_tokens-comma schema [] some = absurd (omega arith)
 conds_tokens-comma schema (first ∷ rest) some = ap (λ (tokens : List Token). Word (codes "when") ∷ tokens) (more-comma (cond_tokens schema) (first ∷ rest) some)
 
 -- with a condition more a rule has the tokens of its attribute and of what is asked of it
-pub more-cond : (schema : Schema) (pat : Pat) (draft : Draft) → open_tokens schema state.AfterCond (with_cond pat draft) ≡ asked_tokens schema draft ++ pattern_tokens pat
+pub more-cond : (schema : Schema) (pat : Pat) (draft : Draft)
+    → open_tokens schema expected.AfterCond (with_cond pat draft) ≡ asked_tokens schema draft ++ pattern_tokens pat
 more-cond schema pat draft =
     let when = Word (codes "when") ∷ commas_behind (map (cond_tokens schema) draft.line.conds) in
     let cond = cond_tokens schema (draft.attribute, pat) in
@@ -181,7 +196,9 @@ pub set_of-tokens : (draft : Draft) → pattern_tokens (set_of draft) ≡ set_wo
 set_of-tokens draft = elim (cases_Bool draft.negated) [ inl is ↦ rw is refl | inr other ↦ rw other refl ]
 
 -- the tokens of a rule that is closed
-pub line_tokens-closed : (schema : Schema) (line : RuleLine) → line_tokens schema line ≡ (headed_tokens schema line ++ conds_tokens schema line.conds) ++ Sign mark.Semicolon ∷ []
+pub line_tokens-closed : (schema : Schema) (line : RuleLine)
+    → line_tokens schema line
+    ≡ (headed_tokens schema line ++ conds_tokens schema line.conds) ++ Sign mark.Semicolon ∷ []
 line_tokens-closed schema line =
     ap (λ (tokens : List Token). start_tokens line ++ tokens)
     (to-the-end (with_commas (map (pair_tokens schema) line.keys)) (conds_tokens schema line.conds) (Sign mark.Arrow) (Word (attribute_text schema line.head)) (Sign mark.Equals) (Quoted line.from) (Sign mark.Semicolon))
@@ -207,11 +224,14 @@ column-token (Quoted bytes) column = refl
 column-token (Sign own) column = absurd cc
 
 -- an attribute that is found by a word has it as its text
-attribute_text-of : (schema : Schema) (word : List ℕ) (attribute : ℕ) → attribute_of schema word ≡ Some attribute → attribute_text schema attribute ≡ word
+attribute_text-of : (schema : Schema) (word : List ℕ) (attribute : ℕ) → attribute_of schema word ≡ Some attribute
+    → attribute_text schema attribute ≡ word
 attribute_text-of schema word attribute found =
     let (within, same, before) = position-Some (bytes_eq word) schema.attributes attribute [] found in
     unwrap_or-slice_get schema.attributes attribute [] ∙ sym ((bytes_eq-Decides word _).0 same)
 
 -- so its token is the one by which it was found
-pub attribute-token : (schema : Schema) (token : Token) (attribute : ℕ) → is_name token ≡ true → attribute_of schema (content token) ≡ Some attribute → token ≡ Word (attribute_text schema attribute)
-attribute-token schema token attribute name found = name-token token name ∙ ap Word (sym (attribute_text-of schema (content token) attribute found))
+pub attribute-token : (schema : Schema) (token : Token) (attribute : ℕ) → is_name token ≡ true
+    → attribute_of schema (content token) ≡ Some attribute → token ≡ Word (attribute_text schema attribute)
+attribute-token schema token attribute name found = name-token token name
+    ∙ ap Word (sym (attribute_text-of schema (content token) attribute found))

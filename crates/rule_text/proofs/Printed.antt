@@ -1,5 +1,6 @@
 -- How printed texts grow.
-use Rattle.std.proofs.Common.{◌≡◌, ◌∙◌, ℕ, ◌+◌, ◌<◌, ◌==◌, List, [], ◌∷◌, ◌++◌, length, get_or, take, map, refl, ap, append_assoc, length-take-le, arith, inl, inr}
+use Rattle.std.proofs.Common.{◌≡◌, ◌∙◌, ℕ, ◌+◌, ◌<◌, ◌==◌, List, [], ◌∷◌, ◌++◌, length, get_or, take, map, refl, ap}
+use Rattle.std.proofs.Common.{append_assoc, length-take-le, arith, inl, inr}
 use Rattle.std.proofs.lemmas.Bool.{cases_Bool}
 use Rattle.std.proofs.lemmas.List.{take_more, map-append, length-map}
 use Rattle.rule_text.specs.Printing.{doubled, separator, listed}
@@ -20,13 +21,15 @@ listed-append (y ∷ []) x = refl
 listed-append (y ∷ z ∷ rest) x = rw (listed-append (z ∷ rest) x) (simp append_assoc)
 
 -- an item more
-pub listed-take : {A : Type 0} (shown : A → List ℕ) (xs : List A) (i : ℕ) (x : A) → i < length xs → x ≡ get_or xs i x → listed (map shown (take (i + 1) xs)) ≡ (listed (map shown (take i xs)) ++ separator i) ++ shown x
+pub listed-take : {A : Type 0} (shown : A → List ℕ) (xs : List A) (i : ℕ) (x : A) → i < length xs → x ≡ get_or xs i x
+    → listed (map shown (take (i + 1) xs)) ≡ (listed (map shown (take i xs)) ++ separator i) ++ shown x
 listed-take shown xs i x within is =
     let long : length (map shown (take i xs)) ≡ i = rw length-map (length-take-le i xs (omega arith)) in
     rw (take_more xs i x within, ← is, map-append, listed-append, long) refl
 
 -- the byte at a place more
-pub doubled-take : (xs : List ℕ) (i d : ℕ) → i < length xs → doubled (take (i + 1) xs) ≡ doubled (take i xs) ++ doubled (get_or xs i d ∷ [])
+pub doubled-take : (xs : List ℕ) (i d : ℕ) → i < length xs
+    → doubled (take (i + 1) xs) ≡ doubled (take i xs) ++ doubled (get_or xs i d ∷ [])
 doubled-take xs i d within = rw (take_more xs i d within) (doubled-append (take i xs) (get_or xs i d))
 
 -- what grew by one part and then by another

@@ -1,5 +1,6 @@
 -- What a rulebook binds to over masters: a kit, or the first name in it that no master or column has.
-use Rattle.std.specs.Prelude.{ℕ, ◌+◌, ◌<◌, ◌≤◌, ◌≢◌, ◌==◌, Bool, List, [], ◌∷◌, length, map, position, slice_index_or, All, AllPairs, Option, Some, None, unwrap_or, Result, Ok, Err}
+use Rattle.std.specs.Prelude.{ℕ, ◌+◌, ◌<◌, ◌≤◌, ◌≢◌, ◌==◌, Bool, List, [], ◌∷◌, length, map, position, slice_index_or}
+use Rattle.std.specs.Prelude.{All, AllPairs, Option, Some, None, unwrap_or, Result, Ok, Err}
 use Rattle.std.specs.List.{list_any, range_with_len}
 use Rattle.std.specs.List.Sorted.{IsStrictlyIncreasing}
 use Rattle.std.specs.Option.{option_or, option_map_or}
@@ -9,6 +10,7 @@ use Rattle.fix_model.specs.declared.rule.Rule.{Rule}
 use Rattle.schema_core.specs.declared.schema.Schema.{Schema}
 use Rattle.master_rows.specs.declared.master.Master.{Master}
 use Rattle.master_rows.specs.Master.{IsMaster}
+use Rattle.desk_base.specs.declared.limits.TheConstants.{MAX_MASTERS}
 use Rattle.rule_text.specs.declared.binding.BindFault.{BindFault}
 use Rattle.rule_text.specs.declared.binding.BindFault.TheVariants.{NoMaster, NoColumn}
 use Rattle.rule_text.specs.declared.rulebook.RuleLine.{RuleLine}
@@ -16,7 +18,7 @@ use Rattle.rule_text.specs.declared.rulebook.Rulebook.{Rulebook}
 
 -- at most 8 masters under distinct names
 pub record AreMasters (masters : List (List ℕ × Master)) : Type 0 where
-  pub few : length masters ≤ 8
+  pub few : length masters ≤ MAX_MASTERS
   pub each : All (λ master. IsMaster master.1) masters
   pub named_apart : AllPairs (λ one other. one.0 ≢ other.0) masters
 
@@ -81,13 +83,13 @@ flags_of width folded = map (is_among folded) (range_with_len 0 width)
 
 -- the rules, and the rows of the masters, each in their order
 abbrev pub kit_of : Rulebook → Schema → List (List ℕ × Master) → List ℕ → Kit
-kit_of book schema masters folded = record {
+kit_of rulebook schema masters folded = record {
   width = length schema.attributes;
-  rules = map (rule_of masters) book.lines;
+  rules = map (rule_of masters) rulebook.lines;
   masters = map (λ master. master.1.grid) masters;
   folded = flags_of (length schema.attributes) folded;
 }
 
 -- what a rulebook binds to: what is wrong first, or else the kit
 unfoldable pub bound : Rulebook → Schema → List (List ℕ × Master) → List ℕ → Result Kit BindFault
-bound book schema masters folded = option_map_or Err (first_fault masters 1 book.lines) (Ok (kit_of book schema masters folded))
+bound rulebook schema masters folded = option_map_or Err (first_fault masters 1 rulebook.lines) (Ok (kit_of rulebook schema masters folded))

@@ -6,13 +6,13 @@ use Rattle.fix_model.specs.declared.pattern.Pat.TheVariants.{Is, IsNot, OneOf, N
 use Rattle.schema_core.specs.declared.schema.Schema.{Schema}
 use Rattle.rule_text.specs.declared.rulebook.RuleLine.{RuleLine}
 use Rattle.rule_text.specs.declared.rulebook.Rulebook.{Rulebook}
-use Rattle.rule_text.specs.declared.state.State.{State}
-use Rattle.rule_text.specs.declared.state.State.TheVariants.{KeyColumn, HeadColumn}
-use Rattle.rule_text.specs.declared.state.Taken.{Taken}
+use Rattle.rule_text.specs.declared.grammar.Expected.{Expected}
+use Rattle.rule_text.specs.declared.grammar.Expected.TheVariants.{KeyColumn, HeadColumn}
+use Rattle.rule_text.specs.declared.grammar.Taken.{Taken}
 use Rattle.rule_text.specs.declared.token.Mark.TheVariants.{Colon, Comma, Equals, Arrow, Semicolon, Opening, Closing}
 use Rattle.rule_text.specs.declared.token.Token.{Token}
 use Rattle.rule_text.specs.declared.token.Token.TheVariants.{Word, Quoted, Sign}
-use Rattle.rule_text.specs.Grammar.{tokens_of}
+use Rattle.rule_text.specs.Tokenizer.{tokens_of}
 use Rattle.rule_text.specs.Printing.{attribute_text}
 
 -- items with commas between
@@ -59,10 +59,10 @@ line_tokens schema line =
 
 -- all rules, in their order
 abbrev pub book_tokens : Schema → Rulebook → List Token
-book_tokens schema book = flat_map (line_tokens schema) book.lines
+book_tokens schema rulebook = flat_map (line_tokens schema) rulebook.lines
 
 -- a column stands in this place
-abbrev pub takes_column : State → Bool
+abbrev pub takes_column : Expected → Bool
 takes_column KeyColumn = true
 takes_column HeadColumn = true
 takes_column other = false
@@ -75,8 +75,9 @@ as_string (Sign mark) = Sign mark
 
 -- a token that was taken, where a column is taken as a string however it is written
 abbrev pub column_as_string : Taken → Token
-column_as_string one = if takes_column one.state then as_string one.token else one.token
+column_as_string one = if takes_column one.expected then as_string one.token else one.token
 
 -- the text is a sentence of the grammar, and its tokens are those of the rulebook, columns taken as strings
 abbrev pub IsTextOf : Schema → Rulebook → List ℕ → Type 0
-IsTextOf schema book text = (taken : List Taken) × (tokens_of text ≡ Ok taken) × (map column_as_string taken ≡ book_tokens schema book)
+IsTextOf schema rulebook text = (taken : List Taken) × (tokens_of text ≡ Ok taken)
+    × (map column_as_string taken ≡ book_tokens schema rulebook)

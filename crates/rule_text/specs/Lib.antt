@@ -1,5 +1,6 @@
 pub mod Tokens
 pub mod Grammar
+pub mod Tokenizer
 pub mod Sentences
 pub mod Reading
 pub mod Rulebooks

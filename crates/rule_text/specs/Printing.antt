@@ -70,4 +70,4 @@ line_text schema line =
 
 -- all rules, in their order
 abbrev pub printed : Rulebook → Schema → List ℕ
-printed book schema = flat_map (line_text schema) book.lines
+printed rulebook schema = flat_map (line_text schema) rulebook.lines

@@ -1,23 +1,27 @@
 -- What a text reads as: a rulebook, or the first test that it fails.
-use Rattle.std.specs.Prelude.{codes, ℕ, ◌==◌, nat_lt, nat_le, Bool, true, false, if◌then◌else◌, List, [], ◌∷◌, ◌++◌, length, filter, position, slice_get, Option, Some, None, Result, Ok, Err}
+use Rattle.std.specs.Prelude.{codes, ℕ, ◌==◌, nat_lt, nat_le, Bool, true, false, if◌then◌else◌, List, [], ◌∷◌, ◌++◌}
+use Rattle.std.specs.Prelude.{length, filter, position, slice_get, Option, Some, None, Result, Ok, Err}
 use Rattle.std.specs.List.{list_any}
 use Rattle.std.specs.Str.{bytes_eq}
 use Rattle.fix_model.specs.declared.pattern.Pat.{Pat}
 use Rattle.fix_model.specs.declared.pattern.Pat.TheVariants.{Is, IsNot, OneOf, NoneOf, Any}
 use Rattle.schema_core.specs.declared.schema.Schema.{Schema}
+use Rattle.desk_base.specs.declared.limits.TheConstants.{MAX_CONDITIONS, MAX_KEYS, MAX_RULES, MAX_SET, MAX_TEXT}
 use Rattle.rule_text.specs.declared.fault.RuleFault.{RuleFault}
-use Rattle.rule_text.specs.declared.fault.RuleFault.TheVariants.{UnknownAttr, HeadInKeys, HeadInWhen, AttrTwice, NameTwice, TooMany, ConstantLong}
+use Rattle.rule_text.specs.declared.fault.RuleFault.TheVariants.{UnknownAttr, HeadInKeys, HeadInWhen, AttrTwice}
+use Rattle.rule_text.specs.declared.fault.RuleFault.TheVariants.{NameTwice, TooMany, ConstantLong}
 use Rattle.rule_text.specs.declared.place.Place.{Place}
 use Rattle.rule_text.specs.declared.token.Mark.TheVariants as mark
 use Rattle.rule_text.specs.declared.token.Token.{Token}
 use Rattle.rule_text.specs.declared.token.Token.TheVariants.{Word, Quoted, Sign}
-use Rattle.rule_text.specs.declared.state.State.{State}
-use Rattle.rule_text.specs.declared.state.State.TheVariants as state
-use Rattle.rule_text.specs.declared.state.Taken.{Taken}
+use Rattle.rule_text.specs.declared.grammar.Expected.{Expected}
+use Rattle.rule_text.specs.declared.grammar.Expected.TheVariants as expected
+use Rattle.rule_text.specs.declared.grammar.Taken.{Taken}
 use Rattle.rule_text.specs.declared.rulebook.RuleLine.{RuleLine}
 use Rattle.rule_text.specs.declared.rulebook.Rulebook.{Rulebook}
 use Rattle.rule_text.specs.declared.draft.Draft.{Draft}
-use Rattle.rule_text.specs.Grammar.{is_keyword, is_quoted, is_sign, is_book, tokens_of}
+use Rattle.rule_text.specs.Tokenizer.{is_between_rules, tokens_of}
+use Rattle.rule_text.specs.Tokens.{is_keyword, is_quoted, is_sign}
 
 -- the bytes of a word, or the content of a string
 abbrev pub content : Token → List ℕ
@@ -31,7 +35,7 @@ attribute_of schema word = position (bytes_eq word) schema.attributes
 
 -- the text has too many bytes for a column or a constant
 abbrev pub is_long : List ℕ → Bool
-is_long text = nat_lt 200 (length text)
+is_long text = nat_lt MAX_TEXT (length text)
 
 -- a rule of which nothing is read yet
 abbrev pub blank_line : RuleLine
@@ -69,7 +73,7 @@ with_key_of (Some attribute) place draft =
 -- the attribute of a key
 abbrev pub with_key : Schema → List ℕ → Place → Draft → Result Draft RuleFault
 with_key schema word place draft =
-    if nat_le 8 (length draft.line.keys) then Err (TooMany place.line place.column)
+    if nat_le MAX_KEYS (length draft.line.keys) then Err (TooMany place.line place.column)
     else with_key_of (attribute_of schema word) place draft
 
 -- the column of a key
@@ -106,7 +110,7 @@ with_asked_of (Some attribute) place draft =
 -- the attribute of a condition
 abbrev pub with_asked : Schema → List ℕ → Place → Draft → Result Draft RuleFault
 with_asked schema word place draft =
-    if nat_le 8 (length draft.line.conds) then Err (TooMany place.line place.column)
+    if nat_le MAX_CONDITIONS (length draft.line.conds) then Err (TooMany place.line place.column)
     else with_asked_of (attribute_of schema word) place draft
 
 -- a condition that asks this of its attribute
@@ -132,7 +136,7 @@ with_negated token place draft =
 -- a text of a set
 abbrev pub with_text : List ℕ → Place → Draft → Result Draft RuleFault
 with_text text place draft =
-    if nat_le 64 (length draft.texts) then Err (TooMany place.line place.column)
+    if nat_le MAX_SET (length draft.texts) then Err (TooMany place.line place.column)
     else if is_long text then Err (ConstantLong place.line place.column)
     else Ok (record draft { texts = draft.texts ++ text ∷ [] })
 
@@ -148,29 +152,29 @@ with_set token draft = if is_sign mark.Closing token then record (with_cond (set
 abbrev pub with_line : Token → Draft → Draft
 with_line token draft = if is_sign mark.Semicolon token then draft_behind (draft.lines ++ draft.line ∷ []) else draft
 
--- what a token adds, by the state that takes it
-unfoldable pub with_token : Schema → State → Token → Place → Draft → Result Draft RuleFault
-with_token schema state.Book token place draft = Ok draft
-with_token schema state.Name token place draft = with_name (content token) place draft
-with_token schema state.From token place draft = Ok draft
-with_token schema state.Master token place draft = Ok (with_master (content token) draft)
-with_token schema state.Colon token place draft = Ok draft
-with_token schema state.Key token place draft = with_key schema (content token) place draft
-with_token schema state.KeyEquals token place draft = Ok draft
-with_token schema state.KeyColumn token place draft = with_key_column (content token) place draft
-with_token schema state.AfterKey token place draft = Ok draft
-with_token schema state.Head token place draft = with_head schema (content token) place draft
-with_token schema state.HeadEquals token place draft = Ok draft
-with_token schema state.HeadColumn token place draft = with_head_column (content token) place draft
-with_token schema state.AfterHead token place draft = Ok (with_line token draft)
-with_token schema state.Cond token place draft = with_asked schema (content token) place draft
-with_token schema state.Test token place draft = Ok (with_test token draft)
-with_token schema state.Negated token place draft = with_negated token place draft
-with_token schema state.Open token place draft = Ok draft
-with_token schema state.Item token place draft = with_text (content token) place draft
-with_token schema state.AfterItem token place draft = Ok (with_set token draft)
-with_token schema state.Const token place draft = with_constant Is (content token) place draft
-with_token schema state.AfterCond token place draft = Ok (with_line token draft)
+-- what a token adds, by what was expected there
+unfoldable pub with_token : Schema → Expected → Token → Place → Draft → Result Draft RuleFault
+with_token schema expected.Rule token place draft = Ok draft
+with_token schema expected.Name token place draft = with_name (content token) place draft
+with_token schema expected.From token place draft = Ok draft
+with_token schema expected.Master token place draft = Ok (with_master (content token) draft)
+with_token schema expected.Colon token place draft = Ok draft
+with_token schema expected.Key token place draft = with_key schema (content token) place draft
+with_token schema expected.KeyEquals token place draft = Ok draft
+with_token schema expected.KeyColumn token place draft = with_key_column (content token) place draft
+with_token schema expected.AfterKey token place draft = Ok draft
+with_token schema expected.Head token place draft = with_head schema (content token) place draft
+with_token schema expected.HeadEquals token place draft = Ok draft
+with_token schema expected.HeadColumn token place draft = with_head_column (content token) place draft
+with_token schema expected.AfterHead token place draft = Ok (with_line token draft)
+with_token schema expected.Cond token place draft = with_asked schema (content token) place draft
+with_token schema expected.Test token place draft = Ok (with_test token draft)
+with_token schema expected.Negated token place draft = with_negated token place draft
+with_token schema expected.Open token place draft = Ok draft
+with_token schema expected.Item token place draft = with_text (content token) place draft
+with_token schema expected.AfterItem token place draft = Ok (with_set token draft)
+with_token schema expected.Const token place draft = with_constant Is (content token) place draft
+with_token schema expected.AfterCond token place draft = Ok (with_line token draft)
 
 -- and then what comes of it, where it is no fault
 abbrev pub and_then : {A B : Type 0} → Result A RuleFault → (A → Result B RuleFault) → Result B RuleFault
@@ -180,15 +184,15 @@ and_then (Err fault) others = Err fault
 -- what the tokens add, one after the other
 abbrev pub with_tokens : Schema → List Taken → Draft → Result Draft RuleFault
 with_tokens schema [] draft = Ok draft
-with_tokens schema (first ∷ rest) draft = and_then (with_token schema first.state first.token first.place draft) (with_tokens schema rest)
+with_tokens schema (first ∷ rest) draft = and_then (with_token schema first.expected first.token first.place draft) (with_tokens schema rest)
 
 -- the token begins a rule
 abbrev pub begins_rule : Taken → Bool
-begins_rule token = is_book token.state
+begins_rule token = is_between_rules token.expected
 
 -- where more than 200 rules begin, the beginning of the next
 abbrev pub extra_rule : List Taken → Option Taken
-extra_rule tokens = slice_get (filter begins_rule tokens) 200
+extra_rule tokens = slice_get (filter begins_rule tokens) MAX_RULES
 
 -- the rulebook of a draft
 abbrev pub book_of : Draft → Rulebook

@@ -5,6 +5,7 @@ use Rattle.desk_base.specs.Words.{is_word}
 use Rattle.fix_model.specs.declared.pattern.Pat.{Pat}
 use Rattle.fix_model.specs.declared.pattern.Pat.TheVariants.{Is, IsNot, OneOf, NoneOf, Any}
 use Rattle.schema_core.specs.declared.schema.Schema.{Schema}
+use Rattle.desk_base.specs.declared.limits.TheConstants.{MAX_KEYS, MAX_RULES, MAX_SET, MAX_TEXT}
 use Rattle.rule_text.specs.declared.rulebook.RuleLine.{RuleLine}
 use Rattle.rule_text.specs.declared.rulebook.Rulebook.{Rulebook}
 use Rattle.rule_text.specs.Reading.{has_name, has_attribute}
@@ -15,14 +16,14 @@ is_plain byte = nat_le 32 byte
 
 -- a text that a string can hold: UTF-8 of at most 200 bytes, none of them below 0x20
 pub record IsPlain (text : List ℕ) : Type 0 where
-  pub fits : length text ≤ 200
+  pub fits : length text ≤ MAX_TEXT
   pub plain : IsTrue (list_all is_plain text)
   pub utf8 : IsUtf8 text
 
 -- 1 to 64 such texts
 pub record IsSet (texts : List (List ℕ)) : Type 0 where
   pub some : 1 ≤ length texts
-  pub fits : length texts ≤ 64
+  pub fits : length texts ≤ MAX_SET
   pub plain : AllByRecursion IsPlain texts
 
 -- a pattern of such texts
@@ -40,7 +41,7 @@ AreDistinct (pair ∷ rest) = (has_attribute rest pair.0 ≡ false) × AreDistin
 
 -- at most 8 distinct attributes of the schema, each with something beside it that is as it should be
 pub record ArePairs {A : Type 0} (IsGood : A → Type 0) (schema : Schema) (pairs : List (ℕ × A)) : Type 0 where
-  pub fits : length pairs ≤ 8
+  pub fits : length pairs ≤ MAX_KEYS
   pub good : AllByRecursion (λ pair. (pair.0 < length schema.attributes) × IsGood pair.1) pairs
   pub distinct : AreDistinct pairs
 
@@ -62,7 +63,7 @@ AreNamedApart [] = ⊤
 AreNamedApart (line ∷ rest) = (has_name rest line.name ≡ false) × AreNamedApart rest
 
 -- at most 200 rules with distinct names
-pub record IsRulebook (schema : Schema) (book : Rulebook) : Type 0 where
-  pub fits : length book.lines ≤ 200
-  pub lines : AllByRecursion (IsLine schema) book.lines
-  pub named_apart : AreNamedApart book.lines
+pub record IsRulebook (schema : Schema) (rulebook : Rulebook) : Type 0 where
+  pub fits : length rulebook.lines ≤ MAX_RULES
+  pub lines : AllByRecursion (IsLine schema) rulebook.lines
+  pub named_apart : AreNamedApart rulebook.lines

@@ -1,10 +1,13 @@
 -- How the tokens of a text are spelled, and the places at which they stand.
-use Rattle.std.specs.Prelude.{ℕ, ◌+◌, ◌==◌, nat_lt, Bool, ◌&&◌, ◌||◌, not, if◌then◌else◌, List, [], ◌∷◌, take, Option, Some, None, option_map}
+use Rattle.std.specs.Prelude.{ℕ, ◌+◌, ◌==◌, nat_lt, Bool, true, false, ◌&&◌, ◌||◌, not, if◌then◌else◌, List, [], ◌∷◌}
+use Rattle.std.specs.Prelude.{take, Option, Some, None, option_map}
 use Rattle.std.specs.List.{prefix_len}
-use Rattle.std.specs.Str.{is_utf8}
-use Rattle.desk_base.specs.Words.{begins_with, is_word_byte, starts_word}
+use Rattle.std.specs.Str.{bytes_eq, is_utf8}
+use Rattle.desk_base.specs.Words.{begins_with, is_word, is_word_byte, starts_word}
 use Rattle.rule_text.specs.declared.place.Place.{Place}
+use Rattle.rule_text.specs.declared.token.Mark.{Mark}
 use Rattle.rule_text.specs.declared.token.Mark.TheVariants as mark
+use Rattle.rule_text.specs.declared.token.Token.{Token}
 use Rattle.rule_text.specs.declared.token.Token.TheVariants.{Word, Quoted, Sign}
 use Rattle.rule_text.specs.declared.token.Piece.{Piece}
 use Rattle.rule_text.specs.declared.token.Piece.TheVariants.{Gap, Spelled, Stray}
@@ -78,3 +81,43 @@ piece_at (first ∷ rest) =
     else if starts_word first then word_at first rest
     else if first == 34 then string_of (quoted rest)
     else mark_at first rest
+
+-- the word
+abbrev pub is_keyword : List ℕ → Token → Bool
+is_keyword word (Word bytes) = bytes_eq bytes word
+is_keyword word (Quoted content) = false
+is_keyword word (Sign mark) = false
+
+-- a word of at most 32 bytes
+abbrev pub is_name : Token → Bool
+is_name (Word bytes) = is_word bytes
+is_name (Quoted content) = false
+is_name (Sign mark) = false
+
+-- a string
+abbrev pub is_quoted : Token → Bool
+is_quoted (Word bytes) = false
+is_quoted (Quoted content) = true
+is_quoted (Sign mark) = false
+
+-- a word of any length, or a string
+abbrev pub is_column : Token → Bool
+is_column (Word bytes) = true
+is_column (Quoted content) = true
+is_column (Sign mark) = false
+
+-- the marks by numbers
+abbrev pub mark_number : Mark → ℕ
+mark_number mark.Colon = 0
+mark_number mark.Comma = 1
+mark_number mark.Equals = 2
+mark_number mark.Arrow = 3
+mark_number mark.Semicolon = 4
+mark_number mark.Opening = 5
+mark_number mark.Closing = 6
+
+-- the mark
+abbrev pub is_sign : Mark → Token → Bool
+is_sign mark (Word bytes) = false
+is_sign mark (Quoted content) = false
+is_sign mark (Sign own) = mark_number own == mark_number mark

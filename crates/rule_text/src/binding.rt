@@ -1,11 +1,13 @@
 //! From a rulebook and the masters that it names to a kit.
-ghost use Rattle.std.specs.Prelude.{◌≡◌, ◌≢◌, ◌+◌, ◌<◌, length, map, position, Ok, Err, Some, None, IfOk, IfErr, IfSome};
+ghost use Rattle.std.specs.Prelude.{◌≡◌, ◌≢◌, ◌+◌, ◌<◌, length, map, position, Ok, Err, Some, None, IfOk, IfErr};
+ghost use Rattle.std.specs.Prelude.{IfSome};
 ghost use Rattle.std.specs.Str.{bytes_eq};
 ghost use Rattle.fix_model.specs.Valid.{IsValid};
 ghost use Rattle.schema_core.specs.Schemas.{IsSchema};
 ghost use Rattle.master_rows.specs.Master.{IsMaster};
 ghost use Rattle.rule_text.specs.Rulebooks.{IsRulebook};
-ghost use Rattle.rule_text.specs.Binding.{AreMasters, AreFolded, master_of, column_of, keys_fault, line_fault, first_fault, bound_key, rule_of, is_among, flags_of, bound};
+ghost use Rattle.rule_text.specs.Binding.{AreMasters, AreFolded, master_of, column_of, keys_fault, line_fault};
+ghost use Rattle.rule_text.specs.Binding.{first_fault, bound_key, rule_of, is_among, flags_of, bound};
 ghost use Rattle.rule_text.specs.declared.binding.BindFault.TheVariants as fault;
 
 use crate::rulebook::{RuleLine, Rulebook};
@@ -14,16 +16,20 @@ use fix_model::{Kit, Rule};
 use master_rows::Master;
 use schema_core::Schema;
 use std::alloc::Global;
+use thiserror::Error;
 
 /// Why a rulebook cannot be bound: the first name, rule by rule, that nothing has. Rules count from 1.
-#[derive(Clone, Copy, Debug, PartialEq, Eq)]
+#[derive(Clone, Copy, Debug, PartialEq, Eq, Error)]
 pub enum BindFault {
     /// No master has the name that this rule looks into.
+    #[error("no master has the name that rule {0} looks into")]
     NoMaster(u64),
     /// The master of this rule has no column of the name at this position: 1, 2 and so on for the keys,
     /// which are tested first, and 0 for the column of the head.
+    #[error("the master of rule {0} has no column of the name at position {1}")]
     NoColumn(u64, u64),
     /// There was no memory. It may come in place of any other answer.
+    #[error("there was no memory")]
     NoMemory,
 }
 
@@ -41,24 +47,24 @@ impl From<NoMemory> for BindFault {
 #[tactic(auto, unfolding(crate::specs::Binding::bound))]
 pub fn bind(
     alloc: Global,
-    book: &Rulebook,
+    rulebook: &Rulebook,
     schema: &Schema,
     masters: &[(Text, Master)],
     folded: &[u16],
 ) -> Result<Kit, BindFault>
     requires schema { IsSchema schema.now }
-    requires book { IsRulebook schema.now book.now }
+    requires rulebook { IsRulebook schema.now rulebook.now }
     requires masters { AreMasters masters.now }
     requires folded { AreFolded schema.now folded.now }
     ensures kit { IfOk result (λ kit.
-        bound book.now schema.now masters.now folded.now ≡ Ok kit) }
+        bound rulebook.now schema.now masters.now folded.now ≡ Ok kit) }
     ensures valid { IfOk result IsValid }
 
     // Each refusal but want of memory, exactly where it comes.
     ensures fault { IfErr result (λ fault. fault ≢ BindFault.NoMemory
-        → bound book.now schema.now masters.now folded.now ≡ Err fault) }
+        → bound rulebook.now schema.now masters.now folded.now ≡ Err fault) }
 {
-    let rules = rules_of(alloc, masters, book.lines.as_slice())?;
+    let rules = rules_of(alloc, masters, rulebook.lines.as_slice())?;
     let grids = grids_of(alloc, masters)?;
     let width = schema.attributes.len() as u16;
     let flags = flags_of(alloc, width, folded)?;

@@ -3,23 +3,20 @@ ghost use Rattle.std.specs.Prelude.{◌≡◌, ◌≢◌, ◌++◌, ◌∷◌, [
 ghost use Rattle.std.specs.Str.{bytes_eq};
 ghost use Rattle.fix_model.specs.declared.pattern.Pat.TheVariants as pat;
 ghost use Rattle.schema_core.specs.Schemas.{IsSchema};
-ghost use Rattle.rule_text.specs.Reading.{content, attribute_of, is_long, blank_line, draft_behind, has_name, has_attribute, with_name, with_master, with_key, with_key_column, with_head, with_head_column, with_asked, with_cond, with_test, with_constant, with_negated, with_text, with_set, with_line, with_token};
+ghost use Rattle.rule_text.specs.Reading.{content, attribute_of, is_long, blank_line, draft_behind, has_name};
+ghost use Rattle.rule_text.specs.Reading.{has_attribute, with_name, with_master, with_key, with_key_column};
+ghost use Rattle.rule_text.specs.Reading.{with_head, with_head_column, with_asked, with_cond, with_test};
+ghost use Rattle.rule_text.specs.Reading.{with_constant, with_negated, with_text, with_set, with_line, with_token};
 
 use crate::fault::RuleFault;
+use crate::grammar::{Expected, Taken};
 use crate::place::Place;
 use crate::rulebook::RuleLine;
-use crate::state::{State, Taken};
 use crate::token::{Mark, Token};
-use desk_base::{List, MAX_TEXT, NoMemory, Text};
+use desk_base::{List, MAX_CONDITIONS, MAX_KEYS, MAX_SET, MAX_TEXT, NoMemory, Text};
 use fix_model::Pat;
 use schema_core::Schema;
 use std::alloc::Global;
-
-const MAX_KEYS: usize = 8;
-
-const MAX_CONDS: usize = 8;
-
-const MAX_TEXTS: usize = 64;
 
 /// What is read of a rulebook so far.
 #[derive(Debug, Drop)]
@@ -235,7 +232,7 @@ impl Draft {
         ensures fault { IfErr result (λ fault. fault ≢ RuleFault.NoMemory
             → with_asked schema.now word.now place self.old ≡ Err fault) }
     {
-        if self.line.conds.len() >= MAX_CONDS {
+        if self.line.conds.len() >= MAX_CONDITIONS {
             return Err(RuleFault::TooMany(place.line, place.column));
         }
         let Some(attribute) = attribute_of(schema, word) else {
@@ -313,7 +310,7 @@ impl Draft {
         ensures fault { IfErr result (λ fault. fault ≢ RuleFault.NoMemory
             → with_text text.now place self.old ≡ Err fault) }
     {
-        if self.texts.len() >= MAX_TEXTS {
+        if self.texts.len() >= MAX_SET {
             return Err(RuleFault::TooMany(place.line, place.column));
         }
         if is_long(text) {
@@ -356,39 +353,39 @@ impl Draft {
         Ok(())
     }
 
-    /// Takes a token by its state. After a refusal the draft is of no use.
+    /// Takes a token by what was expected there. After a refusal the draft is of no use.
     #[tactic(auto, unfolding(crate::specs::Reading::with_token))]
     pub fn take(&mut self, alloc: Global, schema: &Schema, taken: &Taken) -> Result<(), RuleFault>
         requires { IsSchema schema.now }
-        ensures read { OnOk result (with_token schema.now taken.now.state taken.now.token taken.now.place self.old
+        ensures read { OnOk result (with_token schema.now taken.now.expected taken.now.token taken.now.place self.old
             ≡ Ok self.new) }
         ensures fault { IfErr result (λ fault. fault ≢ RuleFault.NoMemory
-            → with_token schema.now taken.now.state taken.now.token taken.now.place self.old
+            → with_token schema.now taken.now.expected taken.now.token taken.now.place self.old
             ≡ Err fault) }
     {
         let token = &taken.token;
         let place = taken.place;
-        match taken.state {
-            State::Name => self.take_name(alloc, token.content(), place),
-            State::Master => self.take_master(alloc, token.content()),
-            State::Key => self.take_key(schema, token.content(), place),
-            State::KeyColumn => self.take_key_column(alloc, token.content(), place),
-            State::Head => self.take_head(schema, token.content(), place),
-            State::HeadColumn => self.take_head_column(alloc, token.content(), place),
-            State::Cond => self.take_asked(schema, token.content(), place),
-            State::Test => self.take_test(token),
-            State::Negated => self.take_negated(alloc, token, place),
-            State::Item => self.take_text(alloc, token.content(), place),
-            State::AfterItem => self.take_after_text(alloc, token),
-            State::Const => self.take_constant(alloc, token.content(), place),
-            State::AfterHead | State::AfterCond => self.take_after_line(alloc, token),
-            State::Book
-            | State::From
-            | State::Colon
-            | State::KeyEquals
-            | State::AfterKey
-            | State::HeadEquals
-            | State::Open => Ok(()),
+        match taken.expected {
+            Expected::Name => self.take_name(alloc, token.content(), place),
+            Expected::Master => self.take_master(alloc, token.content()),
+            Expected::Key => self.take_key(schema, token.content(), place),
+            Expected::KeyColumn => self.take_key_column(alloc, token.content(), place),
+            Expected::Head => self.take_head(schema, token.content(), place),
+            Expected::HeadColumn => self.take_head_column(alloc, token.content(), place),
+            Expected::Cond => self.take_asked(schema, token.content(), place),
+            Expected::Test => self.take_test(token),
+            Expected::Negated => self.take_negated(alloc, token, place),
+            Expected::Item => self.take_text(alloc, token.content(), place),
+            Expected::AfterItem => self.take_after_text(alloc, token),
+            Expected::Const => self.take_constant(alloc, token.content(), place),
+            Expected::AfterHead | Expected::AfterCond => self.take_after_line(alloc, token),
+            Expected::Rule
+            | Expected::From
+            | Expected::Colon
+            | Expected::KeyEquals
+            | Expected::AfterKey
+            | Expected::HeadEquals
+            | Expected::Open => Ok(()),
         }
     }
 }

@@ -1,51 +1,152 @@
-//! From bytes to the tokens of the grammar.
-ghost use Rattle.std.specs.Prelude.{◌≡◌, ◌≢◌, Ok, Err, IfOk, IfErr};
-ghost use Rattle.rule_text.specs.Grammar.{tokens_of};
+//! The grammar: what is expected, and which token may come there.
+ghost use Rattle.std.specs.Prelude.{◌≡◌};
+ghost use Rattle.rule_text.specs.Grammar.{next, leads, after_key, after_head, test, negated, after_item, after_cond};
 
-use crate::fault::RuleFault;
 use crate::place::Place;
-use crate::state::{State, Taken, next};
-use crate::token::{Piece, piece_at};
-use std::alloc::Global;
+use crate::token::{Mark, Token};
 
-/// The tokens of a text, each with the state that takes it and its place.
-pub fn tokens_of(alloc: Global, text: &[u8]) -> Result<Vec<Taken>, RuleFault>
-    ensures tokens { IfOk result (λ tokens. tokens_of text.now ≡ Ok tokens.items) }
-    ensures fault { IfErr result (λ fault. fault ≢ RuleFault.NoMemory
-        → tokens_of text.now ≡ Err fault) }
+/// What is expected next.
+#[derive(Clone, Copy, Debug, PartialEq, Eq)]
+pub enum Expected {
+    /// A rule, or the end.
+    Rule,
+    /// The rule's name.
+    Name,
+    From,
+    /// The master's name.
+    Master,
+    Colon,
+    /// A key's attribute.
+    Key,
+    KeyEquals,
+    /// A key's column.
+    KeyColumn,
+    AfterKey,
+    /// The attribute that is fixed.
+    Head,
+    HeadEquals,
+    /// The column that it is fixed from.
+    HeadColumn,
+    AfterHead,
+    /// A condition's attribute.
+    Cond,
+    /// What it asks.
+    Test,
+    /// What `not` asks.
+    Negated,
+    Open,
+    /// A text of a set.
+    Item,
+    AfterItem,
+    /// The one constant.
+    Const,
+    AfterCond,
+}
+
+/// A token, with what was expected there and its place.
+#[derive(Debug, Drop)]
+pub struct Taken {
+    pub expected: Expected,
+    pub token: Token,
+    pub place: Place,
+}
+
+fn leads(taken: bool, expected: Expected) -> Option<Expected>
+    ensures { result ≡ leads taken expected }
 {
-    let mut tokens = Vec::new(alloc);
-    let mut state = State::Book;
-    let mut place = Place { line: 1, column: 1 };
-    let mut rest = text;
-    while !rest.is_empty() {
-        let more = match piece_at(alloc, rest)? {
-            Piece::Gap(more) => more,
-            Piece::Spelled(token, more) => {
-                let Some(after) = next(state, &token) else {
-                    return Err(RuleFault::Syntax(place.line, place.column));
-                };
-                if tokens
-                    .push(Taken {
-                        state,
-                        token,
-                        place,
-                    })
-                    .is_err()
-                {
-                    return Err(RuleFault::NoMemory);
-                }
-                state = after;
-                more
-            }
-            Piece::Stray => return Err(RuleFault::Syntax(place.line, place.column)),
-        };
-        let (passed, left) = rest.split_at(more + 1);
-        place = place.behind(passed);
-        rest = left;
+    if taken { Some(expected) } else { None }
+}
+
+/// What is expected behind the token, where it is what is expected now.
+#[tactic(auto, unfolding(crate::specs::Grammar::next))]
+pub fn next(expected: Expected, token: &Token) -> Option<Expected>
+    ensures { result ≡ next expected token.now }
+{
+    match expected {
+        Expected::Rule => leads(token.is_keyword(b"rule"), Expected::Name),
+        Expected::Name => leads(token.is_name(), Expected::From),
+        Expected::From => leads(token.is_keyword(b"from"), Expected::Master),
+        Expected::Master => leads(token.is_name(), Expected::Colon),
+        Expected::Colon => leads(token.is_sign(Mark::Colon), Expected::Key),
+        Expected::Key => leads(token.is_name(), Expected::KeyEquals),
+        Expected::KeyEquals => leads(token.is_sign(Mark::Equals), Expected::KeyColumn),
+        Expected::KeyColumn => leads(token.is_column(), Expected::AfterKey),
+        Expected::AfterKey => after_key(token),
+        Expected::Head => leads(token.is_name(), Expected::HeadEquals),
+        Expected::HeadEquals => leads(token.is_sign(Mark::Equals), Expected::HeadColumn),
+        Expected::HeadColumn => leads(token.is_column(), Expected::AfterHead),
+        Expected::AfterHead => after_head(token),
+        Expected::Cond => leads(token.is_name(), Expected::Test),
+        Expected::Test => test(token),
+        Expected::Negated => negated(token),
+        Expected::Open => leads(token.is_sign(Mark::Opening), Expected::Item),
+        Expected::Item => leads(token.is_quoted(), Expected::AfterItem),
+        Expected::AfterItem => after_item(token),
+        Expected::Const => leads(token.is_quoted(), Expected::AfterCond),
+        Expected::AfterCond => after_cond(token),
     }
-    match state {
-        State::Book => Ok(tokens),
-        _ => Err(RuleFault::Syntax(place.line, place.column)),
+}
+
+fn after_key(token: &Token) -> Option<Expected>
+    ensures { result ≡ after_key token.now }
+{
+    if token.is_sign(Mark::Comma) {
+        Some(Expected::Key)
+    } else {
+        leads(token.is_sign(Mark::Arrow), Expected::Head)
+    }
+}
+
+fn after_head(token: &Token) -> Option<Expected>
+    ensures { result ≡ after_head token.now }
+{
+    if token.is_keyword(b"when") {
+        Some(Expected::Cond)
+    } else {
+        leads(token.is_sign(Mark::Semicolon), Expected::Rule)
+    }
+}
+
+fn test(token: &Token) -> Option<Expected>
+    ensures { result ≡ test token.now }
+{
+    if token.is_keyword(b"is") {
+        Some(Expected::Const)
+    } else if token.is_keyword(b"not") {
+        Some(Expected::Negated)
+    } else if token.is_keyword(b"in") {
+        Some(Expected::Open)
+    } else {
+        leads(token.is_keyword(b"any"), Expected::AfterCond)
+    }
+}
+
+fn negated(token: &Token) -> Option<Expected>
+    ensures { result ≡ negated token.now }
+{
+    if token.is_quoted() {
+        Some(Expected::AfterCond)
+    } else {
+        leads(token.is_keyword(b"in"), Expected::Open)
+    }
+}
+
+fn after_item(token: &Token) -> Option<Expected>
+    ensures { result ≡ after_item token.now }
+{
+    if token.is_sign(Mark::Comma) {
+        Some(Expected::Item)
+    } else {
+        leads(token.is_sign(Mark::Closing), Expected::AfterCond)
+    }
+}
+
+fn after_cond(token: &Token) -> Option<Expected>
+    ensures { result ≡ after_cond token.now }
+{
+    if token.is_sign(Mark::Comma) {
+        Some(Expected::Cond)
+    } else {
+        leads(token.is_sign(Mark::Semicolon), Expected::Rule)
     }
 }

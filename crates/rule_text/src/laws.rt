@@ -2,10 +2,10 @@
 //! the text and the schema, so each text has exactly one result.
 ghost use Rattle.std.specs.Prelude.{◌≡◌, ◌≢◌, ◌↔◌, List, Ok, Err};
 ghost use Rattle.schema_core.specs.Schemas.{IsSchema};
-ghost use Rattle.rule_text.specs.declared.state.Taken.{Taken as TakenOf};
+ghost use Rattle.rule_text.specs.declared.grammar.Taken.{Taken as TakenOf};
 ghost use Rattle.rule_text.specs.declared.token.Token.{Token as TokenOf};
 ghost use Rattle.rule_text.specs.BookTokens.{IsTextOf};
-ghost use Rattle.rule_text.specs.Grammar.{tokens_of};
+ghost use Rattle.rule_text.specs.Tokenizer.{tokens_of};
 ghost use Rattle.rule_text.specs.Sentences.{Spells, IsSentence, tokens_alone};
 ghost use Rattle.rule_text.specs.Rulebooks.{IsRulebook};
 ghost use Rattle.rule_text.specs.Reading.{read_rules};
@@ -35,24 +35,24 @@ pub fn one_spelling(text: &[u8])
 {}
 
 /// A text reads as nothing but rulebooks.
-pub fn only_rulebooks(text: &[u8], schema: &Schema, book: &Rulebook)
-    requires { read_rules text.now schema.now ≡ Ok book.now }
-    ensures { IsRulebook schema.now book.now }
+pub fn only_rulebooks(text: &[u8], schema: &Schema, rulebook: &Rulebook)
+    requires { read_rules text.now schema.now ≡ Ok rulebook.now }
+    ensures { IsRulebook schema.now rulebook.now }
 {}
 
 /// A text reads as a rulebook exactly where that is a rulebook over the schema and the tokens of the text are
 /// the rulebook's, each column taken as a string however it is written.
-pub fn read_by_its_tokens(text: &[u8], schema: &Schema, book: &Rulebook)
+pub fn read_by_its_tokens(text: &[u8], schema: &Schema, rulebook: &Rulebook)
     requires { IsSchema schema.now }
-    ensures { (read_rules text.now schema.now ≡ Ok book.now)
-        ↔ (IsRulebook schema.now book.now × IsTextOf schema.now book.now text.now) }
+    ensures { (read_rules text.now schema.now ≡ Ok rulebook.now)
+        ↔ (IsRulebook schema.now rulebook.now × IsTextOf schema.now rulebook.now text.now) }
 {}
 
 /// Every rulebook is read from a text: from the one that it is printed as.
-pub fn every_rulebook(schema: &Schema, book: &Rulebook)
+pub fn every_rulebook(schema: &Schema, rulebook: &Rulebook)
     requires schema { IsSchema schema.now }
-    requires book { IsRulebook schema.now book.now }
-    ensures { read_rules (printed book.now schema.now) schema.now ≡ Ok book.now }
+    requires rulebook { IsRulebook schema.now rulebook.now }
+    ensures { read_rules (printed rulebook.now schema.now) schema.now ≡ Ok rulebook.now }
 {}
 
 /// Want of memory is no fault of a text.

@@ -8,8 +8,6 @@
 #![tactic(auto)]
 
 mod binding;
-#[cfg(test)]
-mod binding_tests;
 mod draft;
 mod fault;
 mod grammar;
@@ -18,10 +16,8 @@ mod place;
 mod printing;
 mod reading;
 mod rulebook;
-mod state;
-#[cfg(test)]
-mod tests;
 mod token;
+mod tokenizer;
 
 pub use binding::{BindFault, bind};
 pub use fault::RuleFault;

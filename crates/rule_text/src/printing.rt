@@ -4,7 +4,9 @@ ghost use Rattle.std.specs.List.{AllByRecursion};
 ghost use Rattle.schema_core.specs.Schemas.{IsSchema};
 ghost use Rattle.rule_text.specs.Rulebooks.{IsRulebook, IsLine, IsPlain, IsPattern};
 ghost use Rattle.rule_text.specs.Reading.{read_rules};
-ghost use Rattle.rule_text.specs.Printing.{doubled, string_text, column_text, attribute_text, separator, listed, pair_text, set_text, pattern_text, cond_text, conds_text, line_text, printed};
+ghost use Rattle.rule_text.specs.Printing.{doubled, string_text, column_text, attribute_text, separator, listed};
+ghost use Rattle.rule_text.specs.Printing.{pair_text, set_text, pattern_text, cond_text, conds_text, line_text};
+ghost use Rattle.rule_text.specs.Printing.{printed};
 
 use crate::rulebook::{RuleLine, Rulebook};
 use desk_base::{List, NoMemory, Text, is_word};
@@ -13,14 +15,14 @@ use schema_core::Schema;
 use std::alloc::Global;
 
 /// Prints a rulebook, each rule on a line of its own. What is printed reads as the same rulebook.
-pub fn print(alloc: Global, book: &Rulebook, schema: &Schema) -> Result<List<u8>, NoMemory>
+pub fn print(alloc: Global, rulebook: &Rulebook, schema: &Schema) -> Result<List<u8>, NoMemory>
     requires schema { IsSchema schema.now }
-    requires book { IsRulebook schema.now book.now }
-    ensures text { IfOk result (λ text. text ≡ printed book.now schema.now) }
-    ensures again { IfOk result (λ text. read_rules text schema.now ≡ Ok book.now) }
+    requires rulebook { IsRulebook schema.now rulebook.now }
+    ensures text { IfOk result (λ text. text ≡ printed rulebook.now schema.now) }
+    ensures again { IfOk result (λ text. read_rules text schema.now ≡ Ok rulebook.now) }
 {
     let mut out = Vec::new(alloc);
-    'lines: for line in book.lines.as_slice() {
+    'lines: for line in rulebook.lines.as_slice() {
         put_line(&mut out, schema, line)?;
     }
     Ok(List::from_vec(out))

@@ -6,22 +6,20 @@ ghost use Rattle.rule_text.specs.Reading.{read_rules, begins_rule, extra_rule, d
 
 use crate::draft::Draft;
 use crate::fault::RuleFault;
-use crate::grammar::tokens_of;
+use crate::grammar::{Expected, Taken};
 use crate::place::Place;
 use crate::rulebook::Rulebook;
-use crate::state::{State, Taken};
+use crate::tokenizer::tokens_of;
+use desk_base::MAX_RULES;
 use schema_core::Schema;
 use std::alloc::Global;
-
-/// The greatest number of rules.
-const MAX_RULES: usize = 200;
 
 /// Reads a rulebook over a schema. Otherwise it names the first test that the text fails, with the line
 /// and the column.
 #[tactic(auto, unfolding(crate::specs::Reading::read_rules))]
 pub fn read(alloc: Global, text: &[u8], schema: &Schema) -> Result<Rulebook, RuleFault>
     requires { IsSchema schema.now }
-    ensures book { IfOk result (λ book. read_rules text.now schema.now ≡ Ok book) }
+    ensures rulebook { IfOk result (λ rulebook. read_rules text.now schema.now ≡ Ok rulebook) }
     ensures sound { IfOk result (IsRulebook schema.now) }
 
     // Each refusal but want of memory, exactly where it comes.
@@ -55,7 +53,7 @@ fn extra_rule(tokens: &[Taken]) -> Option<Place>
 fn begins_rule(token: &Taken) -> bool
     ensures { result ≡ begins_rule token.now }
 {
-    matches!(token.state, State::Book)
+    matches!(token.expected, Expected::Rule)
 }
 
 /// What the tokens add, one after the other.

@@ -1,9 +1,10 @@
 //! The tokens of a text, and how they are spelled.
 ghost use Rattle.std.specs.Prelude.{◌≡◌, ◌+◌, ◌≤◌, ◌∷◌, length, Some, None, IfOk};
-ghost use Rattle.std.specs.Str.{is_utf8};
-ghost use Rattle.rule_text.specs.Tokens.{piece_at, mark_at, word_at, quoted, string_of, is_blank, is_in_line, comment_length, word_length};
+ghost use Rattle.rule_text.specs.Tokens.{is_keyword, is_name, is_quoted, is_column, is_sign, piece_at, mark_at};
+ghost use Rattle.rule_text.specs.Tokens.{word_at, quoted, string_of, is_blank, is_in_line, comment_length};
+ghost use Rattle.rule_text.specs.Tokens.{word_length};
 
-use desk_base::{List, NoMemory, is_word_byte, starts_word};
+use desk_base::{List, NoMemory, is_utf8, is_word, is_word_byte, starts_word};
 use std::alloc::Global;
 
 /// A mark.
@@ -27,6 +28,58 @@ pub enum Token {
     Quoted(List<u8>),
     /// A mark.
     Sign(Mark),
+}
+
+impl Token {
+    /// Whether it is this word.
+    pub fn is_keyword(&self, word: &[u8]) -> bool
+        ensures { result ≡ is_keyword word.now self.now }
+    {
+        match self {
+            Token::Word(bytes) => bytes.as_slice() == word,
+            Token::Quoted(_) | Token::Sign(_) => false,
+        }
+    }
+
+    /// Whether it is a word of at most 32 bytes.
+    pub fn is_name(&self) -> bool
+        ensures { result ≡ is_name self.now }
+    {
+        match self {
+            Token::Word(bytes) => is_word(bytes.as_slice()),
+            Token::Quoted(_) | Token::Sign(_) => false,
+        }
+    }
+
+    /// Whether it is a string.
+    pub fn is_quoted(&self) -> bool
+        ensures { result ≡ is_quoted self.now }
+    {
+        match self {
+            Token::Quoted(_) => true,
+            Token::Word(_) | Token::Sign(_) => false,
+        }
+    }
+
+    /// Whether it may stand for a column: a word of any length, or a string.
+    pub fn is_column(&self) -> bool
+        ensures { result ≡ is_column self.now }
+    {
+        match self {
+            Token::Word(_) | Token::Quoted(_) => true,
+            Token::Sign(_) => false,
+        }
+    }
+
+    /// Whether it is this mark.
+    pub fn is_sign(&self, mark: Mark) -> bool
+        ensures { result ≡ is_sign mark self.now }
+    {
+        match self {
+            Token::Sign(own) => *own as u8 == mark as u8,
+            Token::Word(_) | Token::Quoted(_) => false,
+        }
+    }
 }
 
 /// What stands at the front of some bytes, with the number of its bytes behind the first.
@@ -108,15 +161,6 @@ fn mark_at(first: u8, rest: &[u8]) -> Piece
         (b')', _) => Piece::Spelled(Token::Sign(Mark::Closing), 0),
         (b'-', [b'>', ..]) => Piece::Spelled(Token::Sign(Mark::Arrow), 1),
         _ => Piece::Stray,
-    }
-}
-
-fn is_utf8(bytes: &[u8]) -> bool
-    ensures { result ≡ is_utf8 bytes.now }
-{
-    match std::str::from_utf8(bytes) {
-        Ok(_) => true,
-        Err(_) => false,
     }
 }
 

@@ -6,5 +6,6 @@ use Rattle.rule_text.proofs.reading.read.Goals as goal
 pub returns-clause-sound : goal.returns-clause-sound
 unfolding read_rules
 returns-clause-sound c =
-    let read : read_rules c.args.text.now c.args.schema.now ≡ Ok (record { lines = c.in_ok-draft.draft.lines }) = search rules in
+    let read : read_rules c.args.text.now c.args.schema.now ≡ Ok (record { lines = c.in_ok-draft.draft.lines }) =
+    search rules in
     IsRulebook-from_text _ _ _ read

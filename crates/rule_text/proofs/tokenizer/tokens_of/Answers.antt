@@ -1,8 +1,8 @@
 use Rattle.std.proofs.Common.{◌<◌, ◌∙◌, sym, length, rules}
 use Rattle.rule_text.proofs.Strings.{gap-within, token-within}
 use Rattle.rule_text.proofs.Tokens.{goes_on-gap, goes_on-token, stops-stray, stops-token}
-use Rattle.rule_text.proofs.grammar.tokens_of.Goals as goal
-use Rattle.rule_text.proofs.grammar.tokens_of.Goals.{in-Gap, in-Spelled+in-Some+else-is_err}
+use Rattle.rule_text.proofs.tokenizer.tokens_of.Goals as goal
+use Rattle.rule_text.proofs.tokenizer.tokens_of.Goals.{in-Gap, in-Spelled+in-Some+else-is_err}
 
 pub split_at-requires : goal.split_at-requires
 split_at-requires c =

@@ -1,0 +1,30 @@
+//! Tries the cases in `data/`: texts of rules, how they are read and printed, and what they bind to.
+//!
+//! The words are the files of cases; a file's name up to its first `-` says what is tried. `docs/cases.md` says how
+//! a case is written, and the README which parts these have.
+#![tactic(auto)]
+
+mod binding;
+mod texts;
+
+use desk_cases::{Case, Part, Subject, try_files};
+use std::alloc::Global;
+use std::test::Fail;
+
+/// What reads, prints and binds.
+#[derive(Drop)]
+struct Rules;
+
+impl Subject for Rules {
+    fn answer(&mut self, alloc: Global, kind: &str, case: &Case) -> Result<Vec<Part>, Fail> {
+        match kind {
+            "read" => texts::answer(alloc, case),
+            "bind" => binding::answer(alloc, case),
+            _ => Err(Fail::new("a file of cases has an unknown kind")),
+        }
+    }
+}
+
+fn main(rt: HostRuntime) -> Result<(), Fail> {
+    try_files(&rt, &mut Rules)
+}

@@ -1,0 +1,51 @@
+//! From bytes to the tokens of the grammar.
+ghost use Rattle.std.specs.Prelude.{◌≡◌, ◌≢◌, Ok, Err, IfOk, IfErr};
+ghost use Rattle.rule_text.specs.Tokenizer.{tokens_of};
+
+use crate::fault::RuleFault;
+use crate::grammar::{Expected, Taken, next};
+use crate::place::Place;
+use crate::token::{Piece, piece_at};
+use std::alloc::Global;
+
+/// The tokens of a text, each with what was expected there and its place.
+pub fn tokens_of(alloc: Global, text: &[u8]) -> Result<Vec<Taken>, RuleFault>
+    ensures tokens { IfOk result (λ tokens. tokens_of text.now ≡ Ok tokens.items) }
+    ensures fault { IfErr result (λ fault. fault ≢ RuleFault.NoMemory
+        → tokens_of text.now ≡ Err fault) }
+{
+    let mut tokens = Vec::new(alloc);
+    let mut expected = Expected::Rule;
+    let mut place = Place { line: 1, column: 1 };
+    let mut rest = text;
+    while !rest.is_empty() {
+        let more = match piece_at(alloc, rest)? {
+            Piece::Gap(more) => more,
+            Piece::Spelled(token, more) => {
+                let Some(after) = next(expected, &token) else {
+                    return Err(RuleFault::Syntax(place.line, place.column));
+                };
+                if tokens
+                    .push(Taken {
+                        expected,
+                        token,
+                        place,
+                    })
+                    .is_err()
+                {
+                    return Err(RuleFault::NoMemory);
+                }
+                expected = after;
+                more
+            }
+            Piece::Stray => return Err(RuleFault::Syntax(place.line, place.column)),
+        };
+        let (passed, left) = rest.split_at(more + 1);
+        place = place.behind(passed);
+        rest = left;
+    }
+    match expected {
+        Expected::Rule => Ok(tokens),
+        _ => Err(RuleFault::Syntax(place.line, place.column)),
+    }
+}
