@@ -102,9 +102,21 @@ pub fn answer(alloc: Global, case: &Case) -> Result<Vec<Part>, Fail> {
     }
     if told.status == 0 {
         let mapped = line_over_map(alloc, call.input)?;
-        add_other(alloc, &mut answer, "output over a map", &told, mapped.as_slice())?;
+        add_other(
+            alloc,
+            &mut answer,
+            "output over a map",
+            &told,
+            mapped.as_slice(),
+        )?;
         let sorted = line_over_sorted(alloc, call.input)?;
-        add_other(alloc, &mut answer, "output over a sorted index", &told, sorted.as_slice())?;
+        add_other(
+            alloc,
+            &mut answer,
+            "output over a sorted index",
+            &told,
+            sorted.as_slice(),
+        )?;
     }
     Ok(answer)
 }
