@@ -1,5 +1,5 @@
 -- What is bound is a valid kit.
-use Rattle.std.proofs.Common.{◌≡◌, ◌≢◌, ℕ, zero, suc, ◌+◌, ◌<◌, ◌≤◌, ◌==◌, Bool, false, List, [], ◌∷◌, length, get_or}
+use Rattle.std.proofs.Common.{◌≡◌, ◌≢◌, ℕ, suc, ◌+◌, ◌<◌, ◌≤◌, ◌==◌, Bool, false, List, [], ◌∷◌, length}
 use Rattle.std.proofs.Common.{map, position, Option, Some, None, refl, sym, arith}
 use Rattle.std.specs.Prelude.{All, AllPairs, slice_index_or, unwrap_or}
 use Rattle.std.specs.List.{AllByRecursion}
@@ -23,7 +23,7 @@ use Rattle.rule_text.specs.declared.rulebook.RuleLine.{RuleLine}
 use Rattle.rule_text.specs.declared.rulebook.Rulebook.{Rulebook}
 use Rattle.rule_text.specs.Reading.{has_attribute}
 use Rattle.rule_text.specs.Rulebooks.{IsPlain, IsPattern, AreDistinct, ArePairs, IsLine, IsRulebook}
-use Rattle.rule_text.specs.Binding.{AreMasters, AreFolded, master_of, master_at, column_of, column_fault, keys_fault}
+use Rattle.rule_text.specs.Binding.{AreMasters, master_of, master_at, column_of, column_fault, keys_fault}
 use Rattle.rule_text.specs.Binding.{columns_fault, line_fault, first_fault, bound_key, rule_of, kit_of}
 
 -- where the first of two faults is none, neither is one
