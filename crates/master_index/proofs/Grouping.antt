@@ -1,6 +1,6 @@
 -- Entries of rows in the order of their keys, one row more at a time.
-use Rattle.std.proofs.Common.{◌≡◌, ◌≢◌, ◌⊎◌, inl, inr, ◌<◌, ◌≤◌, ◌+◌, ◌-◌, ◌∙◌, ◌++◌, ℕ, Bool, true, false, List, [], ◌∷◌, length, get_or, set, Some, None, ap, sym, refl, subst, arith, length-append, length-set}
-use Rattle.std.specs.Prelude.{Option, All, AllPairs, Any}
+use Rattle.std.proofs.Common.{◌≡◌, ◌≢◌, ◌⊎◌, inl, inr, ◌<◌, ◌≤◌, ◌+◌, ◌-◌, ◌∙◌, ◌++◌, ℕ, false, List, [], ◌∷◌, length, get_or, set, Some, None, ap, sym, refl, subst, arith, length-append, length-set}
+use Rattle.std.specs.Prelude.{Option, Any}
 use Rattle.std.specs.Cmp.{IsStrictWeakOrder, IsTotalOrder, ranked}
 use Rattle.std.specs.List.Sorted.{IsSorted}
 use Rattle.std.proofs.lemmas.List.MinMax.{ranks_by}

@@ -1,9 +1,7 @@
 -- The search for a key among entries by halves, and how many comparisons it makes.
 use Rattle.std.proofs.Common.{◌≡◌, ◌≢◌, ◌⊎◌, inl, inr, ◌<◌, ◌≤◌, ◌+◌, ◌-◌, ◌*◌, ◌/◌, ◌^◌, ◌∙◌, min, ℕ, List, [], ◌∷◌, length, get_or, map, ap, sym, refl, add-one, arith, leb, leb-true, leb-false}
-use Rattle.std.specs.Prelude.{All}
 use Rattle.std.specs.List.{AllByRecursion}
 use Rattle.std.specs.Ordering.{ordering_reverse}
-use Rattle.std.specs.declared.cmp.Ordering.{Ordering}
 use Rattle.std.specs.declared.cmp.Ordering.TheVariants.{Less, Equal, Greater}
 use Rattle.std.proofs.Math.Nat.{eq-or-lt_of_le, mul_assoc, mul-le-mul_left, pow-suc}
 use Rattle.std.proofs.lemmas.Bool.{cases_Bool}
@@ -14,10 +12,10 @@ use Rattle.desk_base.specs.Counts.{Counts}
 use Rattle.fix_model.specs.declared.book.Hit.{Hit}
 use Rattle.fix_model.specs.declared.kit.Kit.{Kit}
 use Rattle.fix_model.specs.declared.rule.Rule.{Rule}
-use Rattle.fix_model.specs.Alike.{AreAlike, compared}
+use Rattle.fix_model.specs.Alike.{compared}
 use Rattle.fix_model.specs.Application.{IsUsable, RowAgrees}
 use Rattle.fix_model.specs.Comparison.{key_order, row_key, sought_key}
-use Rattle.fix_model.specs.Hit.{IsFound, IsHit, IsMissed}
+use Rattle.fix_model.specs.Hit.{IsHit, IsMissed}
 use Rattle.fix_model.specs.Rules.{from_text, is_folded, master_of, master_text}
 use Rattle.fix_model.proofs.Hits.{IsHitOf-iff}
 use Rattle.master_index.specs.Counts.{RisesByDigits}

@@ -11,8 +11,8 @@ use Rattle.fix_model.specs.declared.book.Hit.{Hit}
 use Rattle.fix_model.specs.declared.kit.Kit.{Kit}
 use Rattle.fix_model.specs.declared.rule.Rule.{Rule}
 use Rattle.fix_model.specs.Application.{IsUsable}
-use Rattle.fix_model.specs.Comparison.{key_order, row_key}
-use Rattle.fix_model.specs.Rules.{from_text, master_of, rule_at}
+use Rattle.fix_model.specs.Comparison.{row_key}
+use Rattle.fix_model.specs.Rules.{from_text, rule_at}
 use Rattle.fix_model.proofs.Hits.{IsHitOf-iff, IsHitOf-text}
 use Rattle.master_index.specs.Sorted.{AreEntriesOf, AreSortedBefore}
 use Rattle.fix_model.specs.Entries.{earlier_twin}

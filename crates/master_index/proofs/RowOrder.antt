@@ -1,5 +1,5 @@
 -- The order of two rows by their keys, and the usable rows one by one.
-use Rattle.std.proofs.Common.{◌≡◌, ◌<◌, ◌≤◌, ◌+◌, ◌++◌, ◌∷◌, ◌∙◌, inl, inr, ℕ, List, [], Bool, true, false, length, get_or, refl, sym, subst, arith, length-append}
+use Rattle.std.proofs.Common.{◌≡◌, ◌<◌, ◌≤◌, ◌+◌, ◌++◌, ◌∷◌, ◌∙◌, inl, inr, ℕ, List, [], true, length, refl, subst, arith, length-append}
 use Rattle.std.specs.Prelude.{All}
 use Rattle.std.specs.List.{Contains}
 use Rattle.std.specs.Cmp.Lexicographic.{slice_cmp}
@@ -14,7 +14,7 @@ use Rattle.fix_model.specs.declared.rule.Rule.{Rule}
 use Rattle.fix_model.specs.Alike.{compared}
 use Rattle.fix_model.specs.Application.{IsUsable}
 use Rattle.fix_model.specs.Comparison.{key_order, row_key}
-use Rattle.fix_model.specs.Rules.{is_folded, master_of, master_text}
+use Rattle.fix_model.specs.Rules.{is_folded, master_text}
 use Rattle.fix_model.proofs.Order.{slice_cmp-map}
 use Rattle.master_index.specs.Sorted.{AreSortedRows, StandsBefore}
 

@@ -1,5 +1,5 @@
 -- Rules that share a triple, and the places that are kept for them, one rule more at a time.
-use Rattle.std.proofs.Common.{◌≡◌, ◌<◌, ◌≤◌, ◌+◌, ◌++◌, ◌∷◌, ◌∙◌, ◌&&◌, ℕ, Bool, true, false, List, [], length, map, get_or, inl, inr, refl, sym, ap, arith, filter, length-append, subst}
+use Rattle.std.proofs.Common.{◌≡◌, ◌<◌, ◌≤◌, ◌+◌, ◌++◌, ◌∷◌, ◌∙◌, ◌&&◌, ℕ, Bool, true, List, [], length, map, get_or, inl, inr, refl, sym, ap, arith, filter, length-append, subst}
 use Rattle.std.specs.Prelude.{◌≢◌, Some, None, is_none, ◌==◌, All}
 use Rattle.std.specs.Bool.{beq}
 use Rattle.std.specs.Cmp.{booleans_Decides}

@@ -177,6 +177,7 @@ fn answers_of_all(
 
 /// Which of the zip and the street are folded.
 const NEITHER: (bool, bool) = (false, false);
+
 const BOTH: (bool, bool) = (true, true);
 
 /// What all books answer for a zip, which is covered, and a street, which may be.

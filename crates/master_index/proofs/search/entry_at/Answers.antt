@@ -1,9 +1,8 @@
-use Rattle.std.proofs.Common.{◌≡◌, ◌<◌, ◌≤◌, ◌+◌, ◌-◌, ◌*◌, ◌/◌, ◌∙◌, length, get_or, sym, arith}
+use Rattle.std.proofs.Common.{◌<◌, ◌≤◌, ◌+◌, ◌-◌, ◌/◌, ◌∙◌, length, sym, arith}
 use Rattle.std.specs.Prelude.{None}
-use Rattle.std.specs.declared.cmp.Ordering.TheVariants.{Less, Equal, Greater}
 use Rattle.fix_model.specs.declared.book.Hit.{Hit}
 use Rattle.fix_model.specs.Application.{IsUsable}
-use Rattle.fix_model.specs.Comparison.{key_order, row_key, sought_key}
+use Rattle.fix_model.specs.Comparison.{row_key, sought_key}
 use Rattle.fix_model.specs.Rules.{from_text, master_of, rule_at}
 use Rattle.fix_model.specs.States.{value_at}
 use Rattle.master_index.proofs.Halving.{compares-halved, halves, IsHalved-none, IsHalved-once, IsHit-entry, IsMissed-narrowed, IsNarrowed-greater, IsNarrowed-less, IsNarrowed-whole, RisesByDigits-halved}

@@ -1,4 +1,3 @@
-use Rattle.std.proofs.Common.{arith}
 use Rattle.fix_model.specs.Application.{IsUsable}
 use Rattle.master_index.proofs.RowOrder.{AreUsableBefore-pass, AreUsableBefore-push}
 use Rattle.master_index.proofs.sorting.usable_rows.Goals as goal
