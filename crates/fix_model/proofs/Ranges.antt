@@ -1,8 +1,8 @@
 -- Numbers in a row, and those of them that pass a test.
-use Rattle.std.proofs.Common.{◌≡◌, ◌+◌, ℕ, zero, suc, Bool, true, false, [], ◌∷◌, ◌++◌, filter, refl, arith, ◌∙◌, ap, add-one}
+use Rattle.std.proofs.Common.{◌≡◌, ◌+◌, ℕ, zero, suc, Bool, true, false, [], ◌∷◌, ◌++◌, filter, map, refl, arith, ◌∙◌, ap, add-one}
 use Rattle.std.specs.Prelude.{sum_by}
 use Rattle.std.specs.List.{range_with_len}
-use Rattle.std.proofs.lemmas.List.{append-nil}
+use Rattle.std.proofs.lemmas.List.{append-nil, map-append}
 use Rattle.std.proofs.lemmas.List.Elements.{filter-append}
 use Rattle.std.proofs.lemmas.List.Sums.{sum_by-append}
 
@@ -12,6 +12,14 @@ range_with_len-suc from zero = ap (λ n. n ∷ []) (omega arith)
 range_with_len-suc from (suc count) =
     let place : from + 1 + count ≡ from + suc count = omega arith in
     ap (λ l. from ∷ l) (range_with_len-suc (from + 1) count ∙ ap (λ n. range_with_len (from + 1) count ++ n ∷ []) place)
+
+-- so the images of the numbers below one more are one more
+pub map-range-suc : {X : Type 0} (f : ℕ → X) (count : ℕ)
+    → map f (range_with_len 0 (count + 1)) ≡ map f (range_with_len 0 count) ++ f count ∷ []
+map-range-suc f count =
+    let whole : range_with_len 0 (count + 1) ≡ range_with_len 0 count ++ count ∷ [] =
+    rw add-one (range_with_len-suc 0 count ∙ ap (λ n. range_with_len 0 count ++ n ∷ []) (omega arith)) in
+    ap (map f) whole ∙ map-append f (range_with_len 0 count) (count ∷ [])
 
 module _ (test : ℕ → Bool) (count : ℕ) where
   -- one number more adds what the filter leaves of it

@@ -52,3 +52,11 @@ pub record IsFix (kit : Kit) (state : State) (first : List Step) (certain : Bool
 pub record IsConflict (kit : Kit) (state : State) (first second : List Step) : Type 0 where
   pub is_first : IsFirstRun kit state first
   pub is_second : IsSecondRun kit state first second
+
+-- there is a unique fix, certain or not
+abbrev pub HasFix : Kit → State → Bool → Type 0
+HasFix kit state certain = (first : List Step) × (dissent : Option Step) × IsFix kit state first certain dissent
+
+-- there is a conflict
+abbrev pub HasConflict : Kit → State → Type 0
+HasConflict kit state = (first : List Step) × (second : List Step) × IsConflict kit state first second

@@ -14,3 +14,4 @@ pub mod Sought
 pub mod States
 pub mod Valid
 pub mod Plain
+pub mod Regions

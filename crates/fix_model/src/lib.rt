@@ -33,7 +33,7 @@ pub use list_book::ListBook;
 pub use names::Names;
 pub use ordering::compare;
 pub use pattern::{Pat, matches};
-pub use region::{Region, RowVerdict};
+pub use region::{Region, RowVerdict, row_state};
 pub use rows::{Sought, is_usable};
 pub use rule::Rule;
 pub use state::{Cell, State, Step};

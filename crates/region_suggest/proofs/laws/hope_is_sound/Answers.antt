@@ -1,0 +1,40 @@
+use Rattle.std.proofs.Common.{◌∙◌, ◌++◌, [], List, ℕ, refl, sym, inl, inr}
+use Rattle.std.specs.Prelude.{Contains}
+use Rattle.fix_model.specs.Run.{end_of}
+use Rattle.fix_model.specs.States.{IsCovered}
+use Rattle.fix_model.proofs.Lengths.{IsCovered-end_of, IsMaximalRun-exists}
+use Rattle.fix_model.proofs.Runs.{end_of-append}
+use Rattle.fix_engine.proofs.Ends.{IsInside-alike}
+use Rattle.region_suggest.proofs.Lists.{All-Contains}
+use Rattle.region_suggest.proofs.Wider.{IsCovered-within, IsRun-behind, IsRun-wider, IsWider-start, covered-closed}
+use Rattle.region_suggest.proofs.laws.hope_is_sound.Goals as goal
+
+pub returns : goal.returns
+returns c = λ attribute within flags closed.
+    let kit = c.args.kit.now in
+    let valid = c.requires.valid in
+    let state = c.args.state.now in
+    let more = c.args.confirmed.now in
+    let run = c.args.run.now in
+    let attributes = c.args.attributes.now in
+    let open_end = λ (one : ℕ) (h : Contains attributes one).
+    All-Contains (λ some. ¬ IsCovered (end_of kit state run) some) attributes one c.requires.uncovered h in
+    let open_start = λ (one : ℕ) (h : Contains attributes one) (is : IsCovered state one).
+    open_end one h (IsCovered-end_of kit state run one c.requires.run is).0 in
+    let wider = IsWider-start kit state more attributes c.requires.confirms open_start in
+    let ends = IsRun-wider kit valid attributes state more run wider c.requires.fits c.requires.confirmed_fits
+    c.requires.run open_end in
+    let rest = IsMaximalRun-exists kit valid more run c.requires.confirmed_fits ends.0 in
+    let fix = c.requires.certain.2 in
+    let alike = fix.unique (run ++ rest.0) rest.1 in
+    let into = IsInside-alike kit valid more c.requires.certain.0 (run ++ rest.0) c.requires.confirmed_fits
+    fix.is_first.maximal.0 rest.1 alike in
+    let last : IsCovered (end_of kit (end_of kit more run) rest.0) attribute =
+    rw end_of-append at (into.covered attribute (fix.is_certain.0 refl attribute within)) in
+    covered-closed kit valid attributes (end_of kit state run) flags closed (end_of kit more run) rest.0 ends.2
+    ends.1.inside
+    (IsRun-behind kit more run rest.0 rest.1.0)
+    (λ one covered. elim (ends.1.only one covered) [
+      | inl before ↦ closed.covered one before
+      | inr listed ↦ closed.given_ones one (IsCovered-within kit (end_of kit more run) ends.2 one covered) listed
+    ]) attribute last

@@ -1,0 +1,3 @@
+pub mod Hope
+pub mod Need
+pub mod Verdicts
