@@ -1,6 +1,6 @@
 -- The state of a region row, and the states that confirm the row.
-use Rattle.std.proofs.Common.{◌≡◌, ◌≢◌, ◌⊎◌, ◌<◌, ◌≤◌, ◌+◌, ◌∙◌, ◌==◌, ◌||◌, ℕ, zero, suc, Bool, true, false, List, [], ◌∷◌, cond, get_or, length, map, refl, sym, ap, eq-eqb, eqb-true, zero-add, inl, inr, arith}
-use Rattle.std.specs.Prelude.{◌↔◌, Contains, Option, Some, None, position, unwrap_or}
+use Rattle.std.proofs.Common.{◌≡◌, ◌<◌, ◌≤◌, ◌+◌, ◌∙◌, ◌==◌, ℕ, suc, true, false, List, [], ◌∷◌, get_or, length, map, refl, sym, ap, eq-eqb, eqb-true, inl, inr, arith}
+use Rattle.std.specs.Prelude.{Contains, Some, position, unwrap_or}
 use Rattle.std.specs.List.{position_from}
 use Rattle.std.proofs.lemmas.Bool.{cases_Bool}
 use Rattle.std.proofs.Math.ListN.{get_or-eq_default}
@@ -10,13 +10,12 @@ use Rattle.std.proofs.lemmas.List.FromFn.{get_or-map-range_with_len, length-map-
 use Rattle.desk_base.specs.Places.{flags_of, is_listed}
 use Rattle.fix_model.specs.declared.kit.Kit.{Kit}
 use Rattle.fix_model.specs.declared.state.Cell.{Cell}
-use Rattle.fix_model.specs.declared.state.Cell.TheVariants.{Uncovered, Confirmed, Fixed}
+use Rattle.fix_model.specs.declared.state.Cell.TheVariants.{Uncovered, Confirmed}
 use Rattle.fix_model.specs.declared.state.State.{State}
 use Rattle.fix_model.specs.Regions.{ConfirmsExactly, row_state, row_texts, text_for}
-use Rattle.fix_model.specs.States.{Fits, IsCovered, cell_at, confirmed_cell, is_covering, shown, value_at}
+use Rattle.fix_model.specs.States.{Fits, IsCovered, cell_at, confirmed_cell, shown, value_at}
 use Rattle.fix_model.proofs.Deciding.{decide_less}
 use Rattle.fix_model.proofs.States.{Fits-confirmed}
-use Rattle.fix_engine.specs.Departures.{IsInside}
 use Rattle.region_suggest.proofs.Lists.{All-Contains, Contains-behind, Contains-cases, Contains-first}
 use Rattle.region_suggest.proofs.Twins.{AreTwins}
 

@@ -1,19 +1,16 @@
 -- States that cover the same attributes with the same values have the same runs.
-use Rattle.std.proofs.Common.{◌≡◌, ◌≢◌, ◌⊎◌, ◌<◌, ◌∙◌, ℕ, Bool, true, false, List, [], ◌∷◌, get_or, refl, sym, ap, subst, inl, inr}
-use Rattle.std.specs.Prelude.{◌↔◌, Option, Some, None}
-use Rattle.std.proofs.lemmas.Bool.{cases_Bool}
+use Rattle.std.proofs.Common.{◌∙◌, true, List, [], ◌∷◌, refl, sym}
+use Rattle.std.specs.Prelude.{Option, Some, None}
 use Rattle.fix_model.specs.declared.kit.Kit.{Kit}
 use Rattle.fix_model.specs.declared.state.State.{State}
 use Rattle.fix_model.specs.declared.state.Step.{Step}
 use Rattle.fix_model.specs.Application.{Fires, after}
-use Rattle.fix_model.specs.FirstRun.{IsFirstRun}
-use Rattle.fix_model.specs.Fix.{AreAllCovered, Dissents, EndAlike, IsDissent, IsFix}
-use Rattle.fix_model.specs.Rules.{rule_at, step_text}
-use Rattle.fix_model.specs.Run.{IsFinal, IsMaximalRun, IsRun, end_of}
-use Rattle.fix_model.specs.States.{Fits, IsCovered, record_of, value_at}
+use Rattle.fix_model.specs.Fix.{AreAllCovered, Dissents, IsDissent, IsFix}
+use Rattle.fix_model.specs.Rules.{rule_at}
+use Rattle.fix_model.specs.Run.{IsMaximalRun, IsRun, end_of}
+use Rattle.fix_model.specs.States.{Fits}
 use Rattle.fix_model.specs.Valid.{IsValid}
 use Rattle.fix_model.proofs.Covered.{IsCovered-after, value_at-after}
-use Rattle.fix_model.proofs.Lengths.{Fits-end_of}
 use Rattle.fix_model.proofs.Runs.{typed-end_of}
 use Rattle.fix_model.proofs.States.{Fits-after}
 use Rattle.fix_engine.specs.Departures.{IsInside}

@@ -1,15 +1,14 @@
 -- Confirming more than a state: its run is a run still, and what it leads to beyond was hoped for.
-use Rattle.std.proofs.Common.{◌≡◌, ◌≢◌, ◌⊎◌, ◌<◌, ◌≤◌, ◌∙◌, ℕ, Bool, true, false, List, [], ◌∷◌, ◌++◌, eqb, eqb-true, get_or, length, refl, sym, ap, subst, inl, inr, arith}
-use Rattle.std.specs.Prelude.{◌↔◌, All, Contains}
+use Rattle.std.proofs.Common.{◌⊎◌, ◌<◌, ◌≤◌, ◌∙◌, ℕ, Bool, List, [], ◌∷◌, ◌++◌, eqb, eqb-true, get_or, length, refl, sym, ap, inl, inr, arith}
+use Rattle.std.specs.Prelude.{Contains}
 use Rattle.std.proofs.lemmas.Bool.{cases_Bool, eqb-false}
 use Rattle.fix_model.specs.declared.kit.Kit.{Kit}
 use Rattle.fix_model.specs.declared.state.Cell.{Cell}
-use Rattle.fix_model.specs.declared.state.Cell.TheVariants.{Confirmed, Uncovered}
+use Rattle.fix_model.specs.declared.state.Cell.TheVariants.{Uncovered}
 use Rattle.fix_model.specs.declared.state.State.{State}
 use Rattle.fix_model.specs.declared.state.Step.{Step}
 use Rattle.fix_model.specs.Alike.{AreAlike}
 use Rattle.fix_model.specs.Application.{Fires, after}
-use Rattle.fix_model.specs.Hit.{SomeRowAgrees, covered_keys}
 use Rattle.fix_model.specs.Pattern.{Matches}
 use Rattle.fix_model.specs.Rules.{is_folded, master_text, rule_at}
 use Rattle.fix_model.specs.Run.{IsRun, end_of}
@@ -25,7 +24,6 @@ use Rattle.fix_engine.specs.Departures.{IsInside}
 use Rattle.fix_engine.specs.Flags.{IsFlagged}
 use Rattle.fix_engine.proofs.Ends.{IsEnabled-inside, IsInside-after, RowAgrees-inside, cell_at-head, cell_at-other, value_at-head}
 use Rattle.region_suggest.specs.Hope.{ConfirmsMore, IsClosed, IsOpen}
-use Rattle.region_suggest.proofs.Lists.{All-Contains}
 use Rattle.region_suggest.proofs.Rows.{Contains-is_listed, is_listed-Contains}
 use Rattle.region_suggest.proofs.Twins.{IsInside-step, IsInside-then}
 use Rattle.desk_base.specs.Places.{is_listed}

@@ -1,4 +1,4 @@
-use Rattle.std.proofs.Common.{◌≡◌, ◌≤◌, ◌+◌, ◌*◌, ◌∙◌, ◌++◌, ◌∷◌, [], ℕ, List, ap, sym, subst, get_or, length, length-append, arith}
+use Rattle.std.proofs.Common.{◌≡◌, ◌+◌, ◌∙◌, ◌++◌, ◌∷◌, [], ℕ, List, ap, subst, length, length-append, arith}
 use Rattle.std.proofs.lemmas.List.{get_or_read}
 use Rattle.fix_model.specs.declared.region.RowVerdict.{RowVerdict}
 use Rattle.fix_model.specs.declared.state.State.{State}

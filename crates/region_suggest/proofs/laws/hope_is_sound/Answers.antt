@@ -1,4 +1,4 @@
-use Rattle.std.proofs.Common.{◌∙◌, ◌++◌, [], List, ℕ, refl, sym, inl, inr}
+use Rattle.std.proofs.Common.{◌++◌, ℕ, refl, inl, inr}
 use Rattle.std.specs.Prelude.{Contains}
 use Rattle.fix_model.specs.Run.{end_of}
 use Rattle.fix_model.specs.States.{IsCovered}
