@@ -1,5 +1,5 @@
 -- Tables stay tables where the changes fit.
-use Rattle.std.proofs.Common.{◌≡◌, ℕ, ◌+◌, ◌<◌, ◌^◌, Bool, true, false, List, [], ◌∷◌, ◌++◌, length, All, arith, rules}
+use Rattle.std.proofs.Common.{◌≡◌, ℕ, ◌+◌, ◌<◌, Bool, true, false, List, [], ◌∷◌, ◌++◌, length, All, arith}
 use Rattle.std.specs.Prelude.{if◌then◌else◌, ◌==◌}
 use Rattle.std.proofs.lemmas.Bool.Decides.{nat_tests}
 use Rattle.std.proofs.lemmas.List.{length-set, length-append}
@@ -7,7 +7,7 @@ use Rattle.std.proofs.lemmas.List.Elements.{All-push, All-set}
 use Rattle.desk_words.specs.declared.change.Change.{Change}
 use Rattle.desk_words.specs.declared.change.Change.TheVariants.{Clerk, Schema, Master, Rulebook, Edition, Region, Session, Record, Batch}
 use Rattle.desk_words.specs.declared.rows.clerk.ClerkRow.{ClerkRow}
-use Rattle.desk_words.specs.Changes.{Fits, FitAll, FitsAt, FitsBehind, changed, changed_all, put, with_caller, with_clerk, with_list}
+use Rattle.desk_words.specs.Changes.{Fits, FitAll, FitsAt, FitsBehind, changed, changed_all, put, with_clerk, with_list}
 use Rattle.desk_words.specs.Tables.{AreListsOf, AreTables, IsShort, Rows, list_at}
 
 -- a list stays so long, or grows by one where the place is its length
@@ -47,10 +47,15 @@ AreListsOf-with_clerk : {T : Type 0} (clerks : List ClerkRow) (lists : List (Lis
     → AreListsOf (length clerks) lists → AreListsOf (length (put clerks place row)) (with_clerk lists place
     (length clerks))
 AreListsOf-with_clerk {T} clerks lists place row are = record {
-  each = grind (arith, nat_tests, length-put clerks place row, length-with_clerk lists place (length clerks),
-    are.each);
+  each = grind (
+    arith,
+    nat_tests,
+    length-put clerks place row,
+    length-with_clerk lists place (length clerks),
+    are.each,
+  );
   short = if-holds (All IsShort) (place == length clerks) (lists ++ [] ∷ []) lists (All-push IsShort lists []
-    are.short (omega arith)) are.short;
+      are.short (omega arith)) are.short;
 }
 
 -- the facts, one for each table, that make tables
@@ -100,8 +105,11 @@ AreTables-changed rows (Region row) fits are = are_tables (changed rows (Region 
 AreTables-changed rows (Session clerk place row) fits are = are_tables (changed rows (Session clerk place row))
     are.steward are.clerks are.schemas are.masters are.rulebooks are.editions are.regions (AreListsOf-with_list
     (length rows.clerks) rows.sessions clerk (put (list_at rows.sessions clerk) place row) are.sessions
-    (IsShort-put (list_at rows.sessions clerk) place row fits.1 (are.sessions.short clerk [] (omega (arith,
-    are.sessions.each, fits.0))))) are.records are.batches
+    (IsShort-put (list_at rows.sessions clerk) place row fits.1 (are.sessions.short clerk [] (omega (
+      arith,
+      are.sessions.each,
+      fits.0,
+    ))))) are.records are.batches
 AreTables-changed rows (Record clerk row) fits are = are_tables (changed rows (Record clerk row)) are.steward
     are.clerks are.schemas are.masters are.rulebooks are.editions are.regions are.sessions (AreListsOf-with_list
     (length rows.clerks) rows.records clerk (list_at rows.records clerk ++ row ∷ []) are.records (IsShort-behind

@@ -8,11 +8,7 @@ pub enum Shown {
     Uncovered,
     Confirmed,
     /// By this rule with this row of this master, counted from 1.
-    Fixed {
-        rule: Text,
-        master: Text,
-        row: u32,
-    },
+    Fixed { rule: Text, master: Text, row: u32 },
 }
 
 /// An attribute with its value.

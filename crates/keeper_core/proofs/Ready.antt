@@ -9,7 +9,7 @@ use Rattle.desk_words.specs.Changes.{FitAll, changed}
 use Rattle.desk_words.specs.Tables.{AreTables, rows_of}
 use Rattle.keeper_core.specs.declared.room.Fresh.{Fresh}
 use Rattle.keeper_core.proofs.Rooms.{HavePlaces-fewer}
-use Rattle.keeper_core.specs.Making.{AreEmptyLists, AreFresh, HasPlaces, HasRoom, HavePlaces, IsReady, clerk_count}
+use Rattle.keeper_core.specs.Making.{AreEmptyLists, AreFresh, HasPlaces, HasRoom, IsReady, clerk_count}
 
 -- places for more are places for fewer
 HasPlaces-fewer : {T : Type 0} (rooms : Roomy (Roomy T)) (fewer count : ℕ) → fewer ≤ count → HasPlaces rooms count
@@ -57,7 +57,7 @@ IsReady-first tables fresh change changes ready = record {
   whole = ready.whole;
   room = HasRoom-fewer tables 1 (length (change ∷ changes)) (grind arith) ready.room;
   spare = AreFresh-fewer fresh (clerk_count (change ∷ changes)) (clerk_count (change ∷ [])) 1
-    (length (change ∷ changes)) (omega arith) (grind arith) ready.spare;
+      (length (change ∷ changes)) (omega arith) (grind arith) ready.spare;
 }
 
 -- after the first, all is ready for the others
@@ -72,9 +72,9 @@ IsReady-next tables new fresh left change changes ready rows room spare =
       fit = subst (λ one. FitAll one changes) (sym rows) ready.fit.1;
       whole = subst AreTables (sym rows) (AreTables-changed (rows_of tables) change ready.fit.0 ready.whole);
       room = HasRoom-fewer new (length changes) (most - 1) (grind arith)
-        (room (clerk_count (change ∷ changes)) most ready.room ready.spare);
+          (room (clerk_count (change ∷ changes)) most ready.room ready.spare);
       spare = spare (clerk_count changes) (length changes)
-        (AreFresh-fewer fresh (clerk_count (change ∷ changes)) (clerk_count (change ∷ []) + clerk_count changes)
+          (AreFresh-fewer fresh (clerk_count (change ∷ changes)) (clerk_count (change ∷ []) + clerk_count changes)
           (length changes) most (omega arith) (grind arith) ready.spare);
     }
 

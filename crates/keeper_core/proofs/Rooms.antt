@@ -1,5 +1,5 @@
 -- Rooms with reserved places, and what stands in them.
-use Rattle.std.proofs.Common.{◌≡◌, ℕ, ◌+◌, ◌-◌, ◌≤◌, ◌<◌, ◌∙◌, sym, ap, subst, List, [], ◌∷◌, ◌++◌, get_or, set, map, length, All, Some, arith}
+use Rattle.std.proofs.Common.{◌≡◌, ℕ, ◌-◌, ◌≤◌, ◌∙◌, sym, ap, subst, List, [], ◌∷◌, ◌++◌, get_or, set, map, length, All, Some, arith}
 use Rattle.std.specs.Prelude.{slice_get}
 use Rattle.std.proofs.lemmas.Bool.Decides.{nat_tests}
 use Rattle.std.proofs.lemmas.List.{length-append, map-append, map-set}
@@ -92,5 +92,5 @@ HasPlaces-push {A} rooms after room count is enough have =
     subst Has (sym is) (record {
       clerks = omega (arith, have.clerks);
       lists = All-push (λ one. count - 1 ≤ one.spare) rooms.items room
-        (HavePlaces-fewer (count - 1) count rooms.items (omega arith) have.lists) (omega arith);
+          (HavePlaces-fewer (count - 1) count rooms.items (omega arith) have.lists) (omega arith);
     })

@@ -19,11 +19,7 @@ pub struct Fresh {
 
 /// Makes room for changes that fit, and empty lists for the clerks that they bring. The rows stay; where there is
 /// no memory, some room may have been made.
-pub fn make_room(
-    alloc: Global,
-    tables: &mut Tables,
-    changes: &[Change],
-) -> Result<Fresh, NoMemory>
+pub fn make_room(alloc: Global, tables: &mut Tables, changes: &[Change]) -> Result<Fresh, NoMemory>
     requires fit { FitAll (rows_of tables.old) changes.now }
     requires whole { AreTables (rows_of tables.old) }
     ensures rows { rows_of tables.new ≡ rows_of tables.old }

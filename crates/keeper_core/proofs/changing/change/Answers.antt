@@ -1,4 +1,4 @@
-use Rattle.std.proofs.Common.{◌+◌, [], ◌∷◌, arith}
+use Rattle.std.proofs.Common.{◌+◌, arith}
 use Rattle.keeper_core.proofs.Ready.{AreFresh-fewer}
 use Rattle.keeper_core.proofs.changing.change.Goals as goal
 

@@ -10,12 +10,12 @@ pub left-preserved : goal.left-preserved
 left-preserved c =
     let others : List Change = reverse c.pop.new.self.items in
     let turned : reverse c.left.left.items ≡ c.in-Some.next ∷ others =
-        ap reverse c.in-Some.ensures.items ∙ reverse-push c.pop.new.self.items c.in-Some.next in
+    ap reverse c.in-Some.ensures.items ∙ reverse-push c.pop.new.self.items c.in-Some.next in
     let ready : IsReady c.left.tables c.left.fresh (c.in-Some.next ∷ others) =
-        subst (λ changes. IsReady c.left.tables c.left.fresh changes) turned c.left.invariant.ready in
+    subst (λ changes. IsReady c.left.tables c.left.fresh changes) turned c.left.invariant.ready in
     record {
       rows = ap (λ rows. changed_all rows others) c.change.ensures.rows
-        ∙ ap (λ changes. changed_all (rows_of c.left.tables) changes) (sym turned) ∙ c.left.invariant.rows;
+          ∙ ap (λ changes. changed_all (rows_of c.left.tables) changes) (sym turned) ∙ c.left.invariant.rows;
       ready = IsReady-next c.left.tables c.change.new.tables c.left.fresh c.change.new.fresh c.in-Some.next others ready
-        c.change.ensures.rows c.change.ensures.room c.change.ensures.fresh;
+          c.change.ensures.rows c.change.ensures.room c.change.ensures.fresh;
     }

@@ -1,4 +1,4 @@
-use Rattle.std.proofs.Common.{◌≡◌, ◌≤◌, ◌-◌, ap, sym, arith, [], ◌∷◌, ◌++◌}
+use Rattle.std.proofs.Common.{◌≡◌, ◌-◌, ap, arith, [], ◌∷◌, ◌++◌}
 use Rattle.keeper_core.proofs.Rooms.{items_of-set, HasPlaces-set}
 use Rattle.keeper_core.proofs.lists.push_own.Goals as goal
 
