@@ -16,12 +16,14 @@ slice_get-read {T} {rows} {items} {place} {row} same within is =
 pub EachBefore-more : {T : Type 0} {rows items : List T} {place : ℕ} {row : T} {test : Bool} (IsGood : ℕ → T → Type 0)
     → items ≡ rows → place < length items → row ≡ get_or items place row → EachBefore rows IsGood place
     → (IsTrue test ↔ IsGood place row) → test ≡ true → EachBefore rows IsGood (place + 1)
-EachBefore-more {T} {rows} {items} {place} {row} {test} IsGood same within is before decides passed earlier one below stands =
+EachBefore-more {T} {rows} {items} {place} {row} {test} IsGood same within is before decides passed earlier one below
+    stands =
     elim (cases_lt earlier place) [
       | inl less ↦ before earlier one less stands
       | inr least ↦
           let here : earlier ≡ place = omega arith in
-          let found : one ≡ row = same_Some one row (sym stands ∙ ap (slice_get rows) here ∙ slice_get-read same within is) in
+          let found : one ≡ row = same_Some one row (sym stands ∙ ap (slice_get rows) here ∙ slice_get-read same
+          within is) in
           let good : IsGood place row = decides.0 passed in
           let GoodAt : ℕ → Type 0 = λ n. IsGood n row in
           let Good : T → Type 0 = λ r. IsGood earlier r in

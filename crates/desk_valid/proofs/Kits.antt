@@ -36,19 +36,25 @@ value-from (Some value) there = (value, refl)
 
 module _ (rows : Rows) (valid : AreValid rows) where
   -- a rulebook reads
-  rules-read : (place : ℕ) → place < length rows.rulebooks → (rules : Rules) × (rules_at (published_of rows) place ≡ Some rules)
+  rules-read : (place : ℕ) → place < length rows.rulebooks
+      → (rules : Rules) × (rules_at (published_of rows) place ≡ Some rules)
   rules-read place within =
       let here = slice_get-there rows.rulebooks place within in
       let good : IsRulebookRow (published_of rows) place here.0 = valid.rulebooks place here.0 here.1 in
       let there = slice_get-there rows.schemas here.0.schema good.schema in
       let named : IsSchemaRow (published_of rows) here.0.schema there.0 = valid.schemas here.0.schema there.0 there.1 in
-      let schema : schema_at (published_of rows) here.0.schema ≡ Some named.schema = ap (option_and_then schema_in) there.1 ∙ named.reads in
+      let schema : schema_at (published_of rows) here.0.schema ≡ Some named.schema = ap (option_and_then schema_in)
+      there.1 ∙ named.reads in
       let Reads : Option _ → Type 0 = λ found. IfSome found (λ one. IsSome (rules_over here.0.body one)) in
-      let rules = value-from (rules_over here.0.body named.schema) (subst Reads schema good.reads) in
-      (rules.0, ap (option_and_then (rules_in (published_of rows))) here.1 ∙ ap (option_and_then (rules_over here.0.body)) schema ∙ rules.1)
+      let rules = value-from (rules_over here.0.body named.schema) (subst Reads schema good.reads) in (
+        rules.0,
+        ap (option_and_then (rules_in (published_of rows))) here.1 ∙ ap
+            (option_and_then (rules_over here.0.body)) schema ∙ rules.1,
+      )
 
   -- and so do masters
-  masters-read : (places : List ℕ) → All (λ place. place < length rows.masters) places → (masters : List (List ℕ × Master)) × (all_of (map (master_at (published_of rows)) places) ≡ Some masters)
+  masters-read : (places : List ℕ) → All (λ place. place < length rows.masters) places
+      → (masters : List (List ℕ × Master)) × (all_of (map (master_at (published_of rows)) places) ≡ Some masters)
   masters-read [] within = ([], refl)
   masters-read (place ∷ rest) within =
       let Within : ℕ → Type 0 = λ one. one < length rows.masters in
@@ -57,7 +63,10 @@ module _ (rows : Rows) (valid : AreValid rows) where
       let first = value-from (master_in here.0) good.reads in
       let others = masters-read rest (All-tail Within place rest within) in
       let one : master_at (published_of rows) place ≡ Some first.0 = ap (option_and_then master_in) here.1 ∙ first.1 in
-      let rest_of : Option (List ℕ × Master) → Option (List (List ℕ × Master)) = λ found. option_and_then (λ value. option_map (λ values. value ∷ values) (all_of (map (master_at (published_of rows)) rest))) found in
+      let rest_of : Option (List ℕ × Master)
+      → Option (List (List ℕ × Master)) = λ found. option_and_then
+      (λ value. option_map (λ values. value ∷ values) (all_of (map (master_at (published_of rows)) rest)))
+      found in
       (first.0 ∷ others.0, ap rest_of one ∙ ap (option_map (λ values. first.0 ∷ values)) others.1)
 
 -- an edition whose parts read and bind
@@ -67,14 +76,16 @@ pub record IsReadEdition (rows : Rows) (row : EditionRow) : Type 0 where
   pub binds : IsBinding parts row.folded
   pub bindable : AreBindable parts row.folded
 
-pub edition-read : (rows : Rows) (place : ℕ) (row : EditionRow) → AreValid rows → slice_get rows.editions place ≡ Some row → IsReadEdition rows row
+pub edition-read : (rows : Rows) (place : ℕ) (row : EditionRow) → AreValid rows
+    → slice_get rows.editions place ≡ Some row → IsReadEdition rows row
 edition-read rows place row valid stands =
     let good : IsEditionRow (published_of rows) place row = valid.editions place row stands in
     let rules = rules-read rows valid row.rulebook good.rulebook in
     let masters = masters-read rows valid row.masters good.masters in
     let whole : Parts = record { rules = rules.0; masters = masters.0 } in
     let reads : parts_of (published_of rows) row ≡ Some whole =
-    ap (option_and_then (λ found. option_map (λ named. let made : Parts = record { rules = found; masters = named } in made) (all_of (map (master_at (published_of rows)) row.masters)))) rules.1
+    ap (option_and_then (λ found. option_map (λ named. let made : Parts = record { rules = found; masters = named } in
+    made) (all_of (map (master_at (published_of rows)) row.masters)))) rules.1
     ∙ ap (option_map (λ named. let made : Parts = record { rules = rules.0; masters = named } in made)) masters.1 in
     let Binds : Option Parts → Type 0 = λ found. IfSome found (λ parts. IsBinding parts row.folded) in
     let binds : IsBinding whole row.folded = subst Binds reads good.binds in
@@ -86,50 +97,61 @@ edition-read rows place row valid stands =
       bindable = record {
         schema = sound.0;
         rulebook = sound.1;
-        masters = AreMasters-whole (published_of rows) row.masters masters.0 masters.1 good.few_masters good.named_apart;
+        masters = AreMasters-whole (published_of rows) row.masters masters.0 masters.1 good.few_masters
+            good.named_apart;
         fold = record { ascending = good.folded; within = binds.folded_within };
       };
     }
 
 -- the kit of the edition at a place
-pub bound_at-read : (rows : Rows) (place : ℕ) (row : EditionRow) (parts : Parts) → slice_get rows.editions place ≡ Some row → parts_of (published_of rows) row ≡ Some parts
+pub bound_at-read : (rows : Rows) (place : ℕ) (row : EditionRow) (parts : Parts)
+    → slice_get rows.editions place ≡ Some row → parts_of (published_of rows) row ≡ Some parts
     → bound_at (published_of rows) place ≡ bound_of parts row.folded
 bound_at-read rows place row parts stands reads =
     ap (option_and_then (bound_in (published_of rows))) stands
     ∙ ap (option_and_then (λ found. bound_of found row.folded)) reads
 
 -- parts that bind have a kit with its names
-pub bound_of-kit : (parts : Parts) (folded : List ℕ) (kit : Kit) → binding parts folded ≡ Ok kit → bound_of parts folded ≡ Some (record { kit = kit; names = names_of parts })
+pub bound_of-kit : (parts : Parts) (folded : List ℕ) (kit : Kit) → binding parts folded ≡ Ok kit
+    → bound_of parts folded ≡ Some (record { kit = kit; names = names_of parts })
 bound_of-kit parts folded kit is =
-    ap (λ (found : Result Kit BindFault). option_map (λ one. let made : Bound = record { kit = one; names = names_of parts } in made) (read found)) is
+    ap (λ (found : Result Kit BindFault). option_map (λ one. let made : Bound = record
+    { kit = one; names = names_of parts } in made) (read found)) is
 
 -- and it has all names
-IsNamedKit-bound : (parts : Parts) (folded : List ℕ) (kit : Kit) → AreBindable parts folded → binding parts folded ≡ Ok kit → IsNamedKit (record { kit = kit; names = names_of parts })
+IsNamedKit-bound : (parts : Parts) (folded : List ℕ) (kit : Kit) → AreBindable parts folded
+    → binding parts folded ≡ Ok kit → IsNamedKit (record { kit = kit; names = names_of parts })
 IsNamedKit-bound parts folded kit are is =
     let known = bound-parts parts.rules.rulebook parts.rules.schema parts.masters folded kit is in
     let Named : Kit → Type 0 = λ one. IsNamedKit (record { kit = one; names = names_of parts }) in
     subst Named known.1 (record {
-      valid = IsValid-kit_of parts.rules.rulebook parts.rules.schema parts.masters folded are.masters are.schema are.rulebook known.0;
+      valid = IsValid-kit_of parts.rules.rulebook parts.rules.schema parts.masters folded are.masters are.schema
+          are.rulebook known.0;
       attributes = refl;
       rules = simp length-map;
       masters = simp length-map;
     })
 
-pub edition-kit : (rows : Rows) (place : ℕ) → AreValid rows → place < length rows.editions → IsSomeAnd (bound_at (published_of rows) place) IsNamedKit
+pub edition-kit : (rows : Rows) (place : ℕ) → AreValid rows → place < length rows.editions
+    → IsSomeAnd (bound_at (published_of rows) place) IsNamedKit
 edition-kit rows place valid within =
     let here = slice_get-there rows.editions place within in
     let known = edition-read rows place here.0 valid here.1 in
     let Named : Option Bound → Type 0 = λ found. IsSomeAnd found IsNamedKit in
-    subst Named (sym (bound_at-read rows place here.0 known.parts here.1 known.reads ∙ bound_of-kit known.parts here.0.folded known.binds.kit known.binds.binds))
+    subst Named (sym (bound_at-read rows place here.0 known.parts here.1 known.reads ∙ bound_of-kit known.parts
+    here.0.folded known.binds.kit known.binds.binds))
     (IsNamedKit-bound known.parts here.0.folded known.binds.kit known.bindable known.binds.binds)
 
 -- what is known of the parts of an edition
-pub known-parts : (rows : Rows) (place : ℕ) (row : EditionRow) (parts : Parts) → AreValid rows → slice_get rows.editions place ≡ Some row → parts_of (published_of rows) row ≡ Some parts
-    → AreBindable parts row.folded × IsSome (bound_of parts row.folded) × (bound_at (published_of rows) place ≡ bound_of parts row.folded)
+pub known-parts : (rows : Rows) (place : ℕ) (row : EditionRow) (parts : Parts) → AreValid rows
+    → slice_get rows.editions place ≡ Some row → parts_of (published_of rows) row ≡ Some parts
+    → AreBindable parts row.folded × IsSome (bound_of parts row.folded) ×
+    (bound_at (published_of rows) place ≡ bound_of parts row.folded)
 known-parts rows place row parts valid stands reads =
     let known = edition-read rows place row valid stands in
     let same : known.parts ≡ parts = same_Some known.parts parts (sym known.reads ∙ reads) in
     let Bindable : Parts → Type 0 = λ one. AreBindable one row.folded in
     let Bound-to : Parts → Type 0 = λ one. IsSome (bound_of one row.folded) in
-    let made : IsSome (bound_of known.parts row.folded) = ap is_some (bound_of-kit known.parts row.folded known.binds.kit known.binds.binds) in
+    let made : IsSome (bound_of known.parts row.folded) = ap is_some
+    (bound_of-kit known.parts row.folded known.binds.kit known.binds.binds) in
     (subst Bindable same known.bindable, subst Bound-to same made, bound_at-read rows place row parts stands reads)

@@ -29,17 +29,20 @@ rows_before-later : {T : Type 0} (lists : List (List T)) (clerk other : ℕ) →
     → rows_before lists clerk + length (list_at lists clerk) ≤ rows_before lists other
 rows_before-later {T} lists clerk other less =
     let total : List (List T) → ℕ = λ some. sum_by length some in
-    let cut : take (clerk + 1) (take other lists) ≡ take (clerk + 1) lists = take-take (clerk + 1) other lists (omega arith) in
+    let cut : take (clerk + 1) (take other lists) ≡ take (clerk + 1) lists = take-take (clerk + 1) other lists
+    (omega arith) in
     omega (arith, rows_before-more lists clerk, sum_by-take-le length (take other lists) (clerk + 1), ap total cut)
 
 -- the rows of the clerks before this one are counted, and each is good
-pub record AreCounted {T : Type 0} (lists : List (List T)) (IsGood : ℕ → ℕ → T → Type 0) (before clerk : ℕ) : Type 0 where
-  pub counted : before ≡ rows_before lists clerk
-  pub few : before ≤ clerk * 2147483648
-  pub good : (earlier : ℕ) → earlier < clerk → EachAt (list_at lists earlier) (IsGood earlier)
+pub record AreCounted {T : Type 0} (lists : List (List T)) (IsGood : ℕ → ℕ → T → Type 0) (before clerk : ℕ) : Type 0
+  where
+    pub counted : before ≡ rows_before lists clerk
+    pub few : before ≤ clerk * 2147483648
+    pub good : (earlier : ℕ) → earlier < clerk → EachAt (list_at lists earlier) (IsGood earlier)
 
 -- a list is short
-short-list_at : {T : Type 0} (lists : List (List T)) (clerk : ℕ) → All IsShort lists → length (list_at lists clerk) < 2147483648
+short-list_at : {T : Type 0} (lists : List (List T)) (clerk : ℕ) → All IsShort lists
+    → length (list_at lists clerk) < 2147483648
 short-list_at lists clerk short =
     elim (cases_lt clerk (length lists)) [
       | inl within ↦ short clerk [] within
@@ -48,7 +51,8 @@ short-list_at lists clerk short =
 
 module _ {T : Type 0} (lists : List (List T)) (IsGood : ℕ → ℕ → T → Type 0) where
   -- no row fails before the first bad one of its list
-  fails_not : (clerk own other place : ℕ) → other ≡ clerk → EachBefore (list_at lists clerk) (IsGood clerk) own → place < own
+  fails_not : (clerk own other place : ℕ) → other ≡ clerk → EachBefore (list_at lists clerk) (IsGood clerk) own
+      → place < own
       → FailsAt (list_at lists other) (IsGood other) place → ⊥
   fails_not clerk own other place same before below fails =
       let Before : ℕ → Type 0 = λ n. EachBefore (list_at lists n) (IsGood n) own in
@@ -58,21 +62,30 @@ module _ {T : Type 0} (lists : List (List T)) (IsGood : ℕ → ℕ → T → Ty
   pub IsFirstOwn-found : (before clerk own : ℕ) → AreCounted lists IsGood before clerk
       → IsFirstBad (list_at lists clerk) (IsGood clerk) (Some own) → IsFirstOwn lists IsGood (Some (before + own))
   IsFirstOwn-found before clerk own have found =
-      let within : own < length (list_at lists clerk) = slice_get_within (list_at lists clerk) own found.0.row found.0.stands in (
+      let within : own < length (list_at lists clerk) = slice_get_within (list_at lists clerk) own found.0.row
+      found.0.stands in (
         record { clerk = clerk; own = own; joined = ap (λ n. n + own) have.counted; fails = found.0 },
         λ earlier below fails.
             elim (cases_order fails.clerk clerk) [
               | inl same ↦
                   let level : rows_before lists fails.clerk ≡ rows_before lists clerk = ap (rows_before lists) same in
-                  fails_not clerk own fails.clerk fails.own same found.1 (omega (arith, level, fails.joined, have.counted)) fails.fails
-              | inr (inl less) ↦ fails.fails.bad (have.good fails.clerk less fails.own fails.fails.row fails.fails.stands)
-              | inr (inr more) ↦ absurd (omega (arith, rows_before-later lists clerk fails.clerk more, fails.joined, have.counted))
+                  fails_not clerk own fails.clerk fails.own same found.1
+                  (omega (arith, level, fails.joined, have.counted)) fails.fails
+              | inr (inl less) ↦ fails.fails.bad (have.good fails.clerk less fails.own fails.fails.row
+                  fails.fails.stands)
+              | inr (inr more) ↦ absurd (omega (
+                arith,
+                rows_before-later lists clerk fails.clerk more,
+                fails.joined,
+                have.counted,
+              ))
             ],
       )
 
   -- one list of good rows more
   EachAt-more : (clerk : ℕ) → ((earlier : ℕ) → earlier < clerk → EachAt (list_at lists earlier) (IsGood earlier))
-      → EachAt (list_at lists clerk) (IsGood clerk) → (earlier : ℕ) → earlier < clerk + 1 → EachAt (list_at lists earlier) (IsGood earlier)
+      → EachAt (list_at lists clerk) (IsGood clerk) → (earlier : ℕ) → earlier < clerk + 1
+      → EachAt (list_at lists earlier) (IsGood earlier)
   EachAt-more clerk good last earlier below =
       elim (cases_lt earlier clerk) [
         | inl less ↦ good earlier less
@@ -92,13 +105,15 @@ module _ {T : Type 0} (lists : List (List T)) (IsGood : ℕ → ℕ → T → Ty
   }
 
   -- past the last list there is no row
-  pub EachOwn-all : (before count : ℕ) → length lists ≤ count → AreCounted lists IsGood before count → EachOwn lists IsGood
+  pub EachOwn-all : (before count : ℕ) → length lists ≤ count → AreCounted lists IsGood before count
+      → EachOwn lists IsGood
   EachOwn-all before count enough have clerk place row stands =
       elim (cases_lt clerk count) [
         | inl less ↦ have.good clerk less place row stands
         | inr least ↦
             let long : length lists ≤ clerk = omega arith in
             let none : list_at lists clerk ≡ [] = get_or_past lists clerk [] long in
-            let found : slice_get [] place ≡ Some row = subst (λ (list : List T). slice_get list place ≡ Some row) none stands in
+            let found : slice_get [] place ≡ Some row = subst (λ (list : List T). slice_get list place ≡ Some row)
+            none stands in
             absurd (cc)
       ]

@@ -8,7 +8,8 @@ use Rattle.std.proofs.lemmas.List.Elements.{All-push}
 use Rattle.desk_words.specs.declared.rows.record.RecordRow.{RecordRow}
 use Rattle.desk_valid.specs.Seen.{AreSeen}
 
-module _ (records : List RecordRow) (place : ℕ) (row : RecordRow) (within : place < length records) (is : row ≡ get_or records place row) where
+module _ (records : List RecordRow) (place : ℕ) (row : RecordRow) (within : place < length records)
+    (is : row ≡ get_or records place row) where
   -- one record more
   taken : take (place + 1) records ≡ take place records ++ row ∷ []
   taken = take_more records place row within ∙ ap (λ (one : RecordRow). take place records ++ one ∷ []) (sym is)
@@ -16,19 +17,22 @@ module _ (records : List RecordRow) (place : ℕ) (row : RecordRow) (within : pl
   -- what holds of them holds of the last
   All-last : (P : RecordRow → Type 0) → All P (take (place + 1) records) → P row
   All-last P all =
-      let last : get_or (take (place + 1) records) place row ≡ row = get_or-take (place + 1) records place row (omega arith) ∙ sym is in
+      let last : get_or (take (place + 1) records) place row ≡ row = get_or-take (place + 1) records place row
+      (omega arith) ∙ sym is in
       subst P last (all place row (omega (arith, length-take (place + 1) records)))
 
   -- and of those before it
   All-before : (P : RecordRow → Type 0) → All P (take (place + 1) records) → All P (take place records)
   All-before P all k d below =
       let less : k < place = omega (arith, length-take place records) in
-      let same : get_or (take (place + 1) records) k d ≡ get_or (take place records) k d = get_or-take (place + 1) records k d (omega arith) ∙ sym (get_or-take place records k d less) in
+      let same : get_or (take (place + 1) records) k d ≡ get_or (take place records) k d = get_or-take (place + 1)
+      records k d (omega arith) ∙ sym (get_or-take place records k d less) in
       subst P same (all k d (omega (arith, length-take (place + 1) records)))
 
   -- the flag of the session that it names is put on
   pub AreSeen-more : (seen : List Bool) (sessions : ℕ) → 1 ≤ row.session → row.session ≤ sessions
-      → AreSeen seen sessions (take place records) → AreSeen (set seen (row.session - 1) true) sessions (take (place + 1) records)
+      → AreSeen seen sessions (take place records)
+      → AreSeen (set seen (row.session - 1) true) sessions (take (place + 1) records)
   AreSeen-more seen sessions counted there were = record {
     full = length-set seen (row.session - 1) true ∙ were.full;
     unseen = λ number some few.
@@ -43,7 +47,8 @@ module _ (records : List RecordRow) (place : ℕ) (row : RecordRow) (within : pl
               let ne : number - 1 ≢ row.session - 1 = λ e. other (omega arith) in
               let kept : get_or (set seen (row.session - 1) true) (number - 1) false ≡ get_or seen (number - 1) false =
               get_or-set_other seen (row.session - 1) (number - 1) true false ne in (
-                λ off. subst Apart (sym taken) (All-push Other (take place records) row ((were.unseen number some few).0 (sym kept ∙ off)) other),
+                λ off. subst Apart (sym taken) (All-push Other (take place records) row
+                    ((were.unseen number some few).0 (sym kept ∙ off)) other),
                 λ apart. kept ∙ (were.unseen number some few).1 (All-before Other apart),
               )
         ];

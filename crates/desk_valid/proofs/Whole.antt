@@ -61,12 +61,16 @@ undamaged rows masters whole place fails = fails.bad (whole place fails.row fail
 undamaged rows rulebooks whole place fails = fails.bad (whole place fails.row fails.stands)
 undamaged rows editions whole place fails = fails.bad (whole place fails.row fails.stands)
 undamaged rows regions whole place fails = fails.bad (whole place fails.row fails.stands)
-undamaged rows sessions whole place fails = fails.fails.bad (whole fails.clerk fails.own fails.fails.row fails.fails.stands)
-undamaged rows records whole place fails = fails.fails.bad (whole fails.clerk fails.own fails.fails.row fails.fails.stands)
-undamaged rows batches whole place fails = fails.fails.bad (whole fails.clerk fails.own fails.fails.row fails.fails.stands)
+undamaged rows sessions whole place fails =
+    fails.fails.bad (whole fails.clerk fails.own fails.fails.row fails.fails.stands)
+undamaged rows records whole place fails =
+    fails.fails.bad (whole fails.clerk fails.own fails.fails.row fails.fails.stands)
+undamaged rows batches whole place fails =
+    fails.fails.bad (whole fails.clerk fails.own fails.fails.row fails.fails.stands)
 
 -- the first damaged row of a table behind whole ones is the first damage
-pub IsFirstDamage-from : (rows : Rows) (table : Table) (place : ℕ) → ((other : Table) → number_of other < number_of table → IsWhole rows other)
+pub IsFirstDamage-from : (rows : Rows) (table : Table) (place : ℕ)
+    → ((other : Table) → number_of other < number_of table → IsWhole rows other)
     → IsFirstDamaged rows table (Some place) → IsFirstDamage rows (record { table = number_of table; row = place + 1 })
 IsFirstDamage-from rows table place whole found = record {
   table = table;
@@ -110,28 +114,48 @@ AreValid-from rows are whole = record {
 }
 
 -- a place through the lists of clerks is below 2 ^ 62
-own-fits : {T : Type 0} (count : ℕ) (lists : List (List T)) (IsGood : ℕ → ℕ → T → Type 0) (place : ℕ) → count < 2147483648 → AreListsOf count lists
+own-fits : {T : Type 0} (count : ℕ) (lists : List (List T)) (IsGood : ℕ → ℕ → T → Type 0) (place : ℕ)
+    → count < 2147483648 → AreListsOf count lists
     → FailsOwn lists IsGood place → place < 4611686018427387904
 own-fits {T} count lists IsGood place few are fails =
-    let own : fails.own < length (list_at lists fails.clerk) = slice_get_within (list_at lists fails.clerk) fails.own fails.fails.row fails.fails.stands in
+    let own : fails.own < length (list_at lists fails.clerk) = slice_get_within (list_at lists fails.clerk) fails.own
+    fails.fails.row fails.fails.stands in
     elim (cases_lt fails.clerk (length lists)) [
       | inl within ↦
-          let all : All (λ (list : List T). length list ≤ 2147483648) lists = All-weaker IsShort (λ list. length list ≤ 2147483648) (λ list short. omega arith) lists are.short in
-          omega (arith, fails.joined, are.each, sum_by_more_le length lists fails.clerk [] within, sum_by-le length 2147483648 lists all)
+          let all : All (λ (list : List T). length list ≤ 2147483648) lists = All-weaker IsShort
+          (λ list. length list ≤ 2147483648) (λ list short. omega arith) lists are.short in
+          omega (
+            arith,
+            fails.joined,
+            are.each,
+            sum_by_more_le length lists fails.clerk [] within,
+            sum_by-le length
+                2147483648 lists all,
+          )
       | inr past ↦ absurd (omega (arith, ap length (get_or_past lists fails.clerk [] past)))
     ]
 
 -- and so is each damaged row's
-pub place-fits : (rows : Rows) (table : Table) (place : ℕ) → AreTables rows → IsDamaged rows table place → place < 4611686018427387904
-place-fits rows clerks place are fails = omega (arith, are.clerks, slice_get_within rows.clerks place fails.row fails.stands)
-place-fits rows schemas place are fails = omega (arith, are.schemas, slice_get_within rows.schemas place fails.row fails.stands)
-place-fits rows masters place are fails = omega (arith, are.masters, slice_get_within rows.masters place fails.row fails.stands)
-place-fits rows rulebooks place are fails = omega (arith, are.rulebooks, slice_get_within rows.rulebooks place fails.row fails.stands)
-place-fits rows editions place are fails = omega (arith, are.editions, slice_get_within rows.editions place fails.row fails.stands)
-place-fits rows regions place are fails = omega (arith, are.regions, slice_get_within rows.regions place fails.row fails.stands)
-place-fits rows sessions place are fails = own-fits (length rows.clerks) rows.sessions _ place are.clerks are.sessions fails
-place-fits rows records place are fails = own-fits (length rows.clerks) rows.records _ place are.clerks are.records fails
-place-fits rows batches place are fails = own-fits (length rows.clerks) rows.batches _ place are.clerks are.batches fails
+pub place-fits : (rows : Rows) (table : Table) (place : ℕ) → AreTables rows → IsDamaged rows table place
+    → place < 4611686018427387904
+place-fits rows clerks place are fails =
+    omega (arith, are.clerks, slice_get_within rows.clerks place fails.row fails.stands)
+place-fits rows schemas place are fails =
+    omega (arith, are.schemas, slice_get_within rows.schemas place fails.row fails.stands)
+place-fits rows masters place are fails =
+    omega (arith, are.masters, slice_get_within rows.masters place fails.row fails.stands)
+place-fits rows rulebooks place are fails =
+    omega (arith, are.rulebooks, slice_get_within rows.rulebooks place fails.row fails.stands)
+place-fits rows editions place are fails =
+    omega (arith, are.editions, slice_get_within rows.editions place fails.row fails.stands)
+place-fits rows regions place are fails =
+    omega (arith, are.regions, slice_get_within rows.regions place fails.row fails.stands)
+place-fits rows sessions place are fails =
+    own-fits (length rows.clerks) rows.sessions _ place are.clerks are.sessions fails
+place-fits rows records place are fails =
+    own-fits (length rows.clerks) rows.records _ place are.clerks are.records fails
+place-fits rows batches place are fails =
+    own-fits (length rows.clerks) rows.batches _ place are.clerks are.batches fails
 
 -- the tables as the code has them in their order
 abbrev pub tables : List Named

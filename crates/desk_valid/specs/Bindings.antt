@@ -16,7 +16,8 @@ use Rattle.desk_valid.specs.declared.parts.Parts.{Parts}
 -- the parts of an edition, where each reads
 abbrev pub parts_of : Published → EditionRow → Option Parts
 parts_of published row =
-    option_and_then (λ rules. option_map (λ masters. record { rules = rules; masters = masters }) (all_of (map (master_at published) row.masters)))
+    option_and_then (λ rules. option_map (λ masters. record { rules = rules; masters = masters })
+    (all_of (map (master_at published) row.masters)))
     (rules_at published row.rulebook)
 
 -- what they bind to, with these attributes folded

@@ -12,7 +12,8 @@ use Rattle.desk_valid.specs.Valid.{EachAt, EachOwn, IsOwnBatch, IsOwnRecord, IsO
 
 -- each row before a place is good
 abbrev pub EachBefore : {T : Type 0} → List T → (ℕ → T → Type 0) → ℕ → Type 0
-EachBefore {T} rows IsGood end = (place : ℕ) (row : T) → place < end → slice_get rows place ≡ Some row → IsGood place row
+EachBefore {T} rows IsGood end = (place : ℕ) (row : T) → place < end → slice_get rows place ≡ Some row
+    → IsGood place row
 
 -- there is none, and each row is good; or it is not good, and each before it is
 abbrev pub IsFirstBad : {T : Type 0} → List T → (ℕ → T → Type 0) → Option ℕ → Type 0

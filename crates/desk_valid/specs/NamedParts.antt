@@ -10,7 +10,8 @@ use Rattle.desk_valid.specs.Versions.{IsVersion}
 abbrev pub name_at : Published → ℕ → Option (List ℕ)
 name_at published place = option_map (λ master. master.name) (slice_get published.masters place)
 
--- one of at most 64 rows, the next version of its name, with a rulebook and at most 8 masters of different names, and folded attributes that ascend
+-- one of at most 64 rows, the next version of its name, with a rulebook and at most 8 masters of different names,
+-- and folded attributes that ascend
 pub record NamesParts (published : Published) (place : ℕ) (row : EditionRow) : Type 0 where
   pub few : place < 64
   pub version : IsVersion (λ one. one.name) published.editions place row.name row.version

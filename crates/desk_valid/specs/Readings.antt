@@ -34,7 +34,8 @@ master_at published place = option_and_then master_in (slice_get published.maste
 
 -- the rules that a body has over a schema
 abbrev pub rules_over : List ℕ → Schema → Option Rules
-rules_over body schema = option_map (λ rulebook. record { schema = schema; rulebook = rulebook }) (read (read_rules body schema))
+rules_over body schema =
+    option_map (λ rulebook. record { schema = schema; rulebook = rulebook }) (read (read_rules body schema))
 
 -- the rules of a row, over the schema that it names
 abbrev pub rules_in : Published → RulebookRow → Option Rules
@@ -52,4 +53,5 @@ all_of (first ∷ rest) = option_and_then (λ value. option_map (λ values. valu
 -- how many attributes an edition at a place has
 abbrev pub width_at : Published → ℕ → Option ℕ
 width_at published place =
-    option_map (λ rules. length rules.schema.attributes) (option_and_then (λ row. rules_at published row.rulebook) (slice_get published.editions place))
+    option_map (λ rules. length rules.schema.attributes) (option_and_then (λ row. rules_at published row.rulebook)
+    (slice_get published.editions place))

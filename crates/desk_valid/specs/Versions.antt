@@ -8,6 +8,7 @@ abbrev pub count_before : {T : Type 0} → (T → List ℕ) → List T → ℕ �
 count_before name_of rows place name = count_by (λ earlier. bytes_eq (name_of earlier) name) (take place rows)
 
 -- the version is the next of its name, which the rows before have up to it
-pub record IsVersion {T : Type 0} (name_of : T → List ℕ) (rows : List T) (place : ℕ) (name : List ℕ) (version : ℕ) : Type 0 where
+pub record IsVersion {T : Type 0} (name_of : T → List ℕ) (rows : List T) (place : ℕ) (name : List ℕ) (version : ℕ) :
+    Type 0 where
   pub named : IsTrue (is_name name)
   pub next : version ≡ count_before name_of rows place name + 1

@@ -38,7 +38,8 @@ fn first_of_clerk(tables: &Tables, clerk: usize) -> Option<u64>
 }
 
 fn is_batch_row(tables: &Tables, clerk: usize, row: &BatchRow) -> bool
-    ensures { IsTrue result ↔ IsBatchRow (published_of (rows_of tables.now)) (list_at (rows_of tables.now).sessions clerk) row.now }
+    ensures { IsTrue result
+        ↔ IsBatchRow (published_of (rows_of tables.now)) (list_at (rows_of tables.now).sessions clerk) row.now }
 {
     let sessions = own_list(&tables.sessions, clerk);
     let count = row.count as usize;

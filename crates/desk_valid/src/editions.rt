@@ -90,7 +90,8 @@ fn are_named_apart(tables: &Tables, places: &[u32]) -> bool
 /// Whether the master at one of these places has the name of this one.
 fn has_same_name(tables: &Tables, places: &[u32], place: u32) -> bool
     ensures { IsTrue result
-        ↔ Any (λ other. name_at (published_of (rows_of tables.now)) place ≡ name_at (published_of (rows_of tables.now)) other) places.now }
+        ↔ Any (λ other. name_at (published_of (rows_of tables.now)) place
+        ≡ name_at (published_of (rows_of tables.now)) other) places.now }
 {
     places
         .iter()
@@ -99,7 +100,8 @@ fn has_same_name(tables: &Tables, places: &[u32], place: u32) -> bool
 
 /// Whether the masters at two places have the same name.
 fn are_same_name(tables: &Tables, one: u32, other: u32) -> bool
-    ensures { IsTrue result ↔ (name_at (published_of (rows_of tables.now)) one ≡ name_at (published_of (rows_of tables.now)) other) }
+    ensures { IsTrue result
+        ↔ (name_at (published_of (rows_of tables.now)) one ≡ name_at (published_of (rows_of tables.now)) other) }
 {
     let masters = tables.masters.as_slice();
     let Some(one) = masters.get(one as usize) else {

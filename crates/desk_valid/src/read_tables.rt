@@ -112,7 +112,8 @@ fn all_rules(
     schemas: &[Option<Schema>],
 ) -> Result<List<Option<Rules>>, NoMemory>
     requires { schemas.now ≡ map schema_in (published_of (rows_of tables.now)).schemas }
-    ensures { IfOk result (λ rules. rules ≡ map (rules_in (published_of (rows_of tables.now))) (published_of (rows_of tables.now)).rulebooks) }
+    ensures { IfOk result (λ rules. rules
+        ≡ map (rules_in (published_of (rows_of tables.now))) (published_of (rows_of tables.now)).rulebooks) }
 {
     let mut rules = List::new(alloc);
     'rows: for row in tables.rulebooks.as_slice() {

@@ -40,7 +40,8 @@ fn reads(read: &ReadTables<'_>, place: usize, row: &RulebookRow) -> bool
     requires read { AreRead read.now }
     requires stands { slice_get (published_in read.now).rulebooks place ≡ Some row.now }
     ensures { IsTrue result
-        ↔ IfSome (schema_at (published_in read.now) row.now.schema) (λ schema. IsSome (rules_over row.now.body schema)) }
+        ↔ IfSome (schema_at (published_in read.now) row.now.schema)
+        (λ schema. IsSome (rules_over row.now.body schema)) }
 {
     read.schema_at(row.schema as usize).is_none() || read.rules_at(place).is_some()
 }

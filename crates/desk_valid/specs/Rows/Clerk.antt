@@ -40,7 +40,8 @@ IsClerksAct Changed = ⊤
 IsClerksAct Committed = ⊤
 IsClerksAct Batched = ⊤
 
--- the target is a place in the table that the act names: for a clerk above the steward's, for what a clerk does in the caller's own list
+-- the target is a place in the table that the act names: for a clerk above the steward's, for what a clerk does in
+-- the caller's own list
 abbrev pub HasTarget : Rows → ℕ → Act → ℕ → Type 0
 HasTarget rows caller Nothing target = target ≡ 0
 HasTarget rows caller Clerk target = (0 < target) × (target < length rows.clerks)

@@ -12,7 +12,8 @@ use Rattle.desk_valid.specs.Versions.{IsVersion}
 -- the masters have another name each
 abbrev pub AreNamedApart : Published → List ℕ → Type 0
 AreNamedApart published masters =
-    AllPairs (λ one other. option_map (λ master. master.name) (slice_get published.masters one) ≢ option_map (λ master. master.name) (slice_get published.masters other)) masters
+    AllPairs (λ one other. option_map (λ master. master.name) (slice_get published.masters one) ≢ option_map
+    (λ master. master.name) (slice_get published.masters other)) masters
 
 -- the folded attributes are attributes of the schema, and the parts bind to a kit whose index is not too wide
 pub record IsBinding (parts : Parts) (folded : List ℕ) : Type 0 where

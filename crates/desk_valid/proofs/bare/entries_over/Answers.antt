@@ -12,16 +12,33 @@ places-preserved c =
     let kit = c.args.kit.now in
     let place = c.places.place in
     let test = λ (n : ℕ). is_none (earlier_twin kit n) in
-    let told : c.is_none.result ≡ test place = is_none-negated (earlier_twin kit place) c.is_none.result (rw c.earlier_twin.ensures at c.is_none.ensures) in
+    let told : c.is_none.result ≡ test place = is_none-negated (earlier_twin kit place) c.is_none.result
+    (rw c.earlier_twin.ensures at c.is_none.ensures) in
     elim c.if-is_none.branch [
       | then-is_none w ↦
-          let count : get_or c.args.counts.now w.from.result 0 ≡ counted c.args.counts.now kit place = rw (w.from.ensures, w.rule.ensures.rule) refl in
+          let count : get_or c.args.counts.now w.from.result 0 ≡ counted c.args.counts.now kit place = rw
+          (w.from.ensures, w.rule.ensures.rule) refl in
           record {
-            sum = rw (sum_by-filter-range-passes test place (counted c.args.counts.now kit) (sym told ∙ w.if-is_none.true)) (omega (arith, count, c.places.invariant.sum, w.entries-is, w.from-entries.ensures));
-            fits = omega (arith, c.places.invariant.fits, w.entries-is, w.from-entries.ensures, c.type_inv.counts w.from.result);
+            sum = rw (sum_by-filter-range-passes test place (counted c.args.counts.now kit)
+                (sym told ∙ w.if-is_none.true)) (omega (
+                  arith,
+                  count,
+                  c.places.invariant.sum,
+                  w.entries-is,
+                  w.from-entries.ensures,
+                ));
+            fits = omega (
+              arith,
+              c.places.invariant.fits,
+              w.entries-is,
+              w.from-entries.ensures,
+              c.type_inv.counts
+                  w.from.result,
+            );
           }
       | else-is_none w ↦ record {
-        sum = rw (filter-range-fails test place (sym told ∙ w.if-is_none.false)) (w.entries-is ∙ c.places.invariant.sum);
+        sum = rw (filter-range-fails test place (sym told ∙ w.if-is_none.false))
+            (w.entries-is ∙ c.places.invariant.sum);
         fits = omega (arith, c.places.invariant.fits, w.entries-is);
       }
     ]

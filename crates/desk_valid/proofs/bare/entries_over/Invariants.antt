@@ -8,6 +8,7 @@ use Rattle.desk_valid.proofs.bare.entries_over.Given as goal
 -- the entries of the triples so far
 abbrev pub invariant-places : goal.invariant-places
 invariant-places l = record {
-  sum : l.entries ≡ sum_by (counted l.counts l.kit) (filter (λ place. is_none (earlier_twin l.kit place)) (range_with_len 0 l.place));
+  sum : l.entries ≡ sum_by (counted l.counts l.kit) (filter (λ place. is_none (earlier_twin l.kit place))
+      (range_with_len 0 l.place));
   fits : l.entries ≤ 4294967295 * l.place;
 }

@@ -5,4 +5,5 @@ use Rattle.desk_valid.proofs.batches.first_of_clerk.Given as goal
 
 -- each row so far is what it has to be
 abbrev pub invariant-rows : goal.invariant-rows
-invariant-rows l = EachBefore (list_at (rows_of l.tables).batches l.clerk) (IsOwnBatch (rows_of l.tables) l.clerk) l.place
+invariant-rows l =
+    EachBefore (list_at (rows_of l.tables).batches l.clerk) (IsOwnBatch (rows_of l.tables) l.clerk) l.place

@@ -4,7 +4,11 @@ use Rattle.desk_valid.proofs.First.{EachAt-from_before, EachBefore-more}
 use Rattle.desk_valid.proofs.masters.first_damaged.Goals as goal
 
 pub rows-preserved : goal.rows-preserved
-rows-preserved c = EachBefore-more (IsMasterRow (published_in c.args.read.now)) c.as_slice-row-items.ensures c.rows-test.true c.row-item.is c.rows.invariant c.is_master_row.ensures c.if-not-is_master_row.false
+rows-preserved c =
+    EachBefore-more (IsMasterRow (published_in c.args.read.now)) c.as_slice-row-items.ensures c.rows-test.true
+    c.row-item.is c.rows.invariant c.is_master_row.ensures c.if-not-is_master_row.false
 
 pub returns : goal.returns
-returns c = EachAt-from_before (IsMasterRow (published_in c.args.read.now)) c.as_slice-row-items.ensures c.rows-test.false c.rows.invariant
+returns c =
+    EachAt-from_before (IsMasterRow (published_in c.args.read.now)) c.as_slice-row-items.ensures c.rows-test.false
+    c.rows.invariant

@@ -9,5 +9,6 @@ use Rattle.desk_valid.proofs.records.first_of_clerk.Given as goal
 abbrev pub invariant-rows : goal.invariant-rows
 invariant-rows l = record {
   good : EachBefore (list_at (rows_of l.tables).records l.clerk) (IsOwnRecord (rows_of l.tables) l.clerk) l.place;
-  seen : AreSeen l.seen (length (list_at (rows_of l.tables).sessions l.clerk)) (take l.place (list_at (rows_of l.tables).records l.clerk));
+  seen : AreSeen l.seen (length (list_at (rows_of l.tables).sessions l.clerk))
+      (take l.place (list_at (rows_of l.tables).records l.clerk));
 }

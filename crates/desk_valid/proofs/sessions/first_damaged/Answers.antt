@@ -6,10 +6,16 @@ use Rattle.desk_valid.proofs.Own.{AreCounted-more, EachOwn-all, IsFirstOwn-found
 use Rattle.desk_valid.proofs.sessions.first_damaged.Goals as goal
 
 pub returns-in-Some : goal.returns-in-Some
-returns-in-Some c = IsFirstOwn-found (rows_in c.args.read.now).sessions (IsOwnSession (rows_in c.args.read.now)) c.clerks.before c.clerks.clerk c.in-Some.own c.clerks.invariant c.in-Some.ensures
+returns-in-Some c =
+    IsFirstOwn-found (rows_in c.args.read.now).sessions (IsOwnSession (rows_in c.args.read.now)) c.clerks.before
+    c.clerks.clerk c.in-Some.own c.clerks.invariant c.in-Some.ensures
 
 pub clerks-preserved : goal.clerks-preserved
-clerks-preserved c = AreCounted-more (rows_in c.args.read.now).sessions (IsOwnSession (rows_in c.args.read.now)) c.clerks.before c.clerks.clerk c.requires.tables.sessions.short c.own_list.ensures c.clerks.invariant c.in_default.ensures
+clerks-preserved c =
+    AreCounted-more (rows_in c.args.read.now).sessions (IsOwnSession (rows_in c.args.read.now)) c.clerks.before
+    c.clerks.clerk c.requires.tables.sessions.short c.own_list.ensures c.clerks.invariant c.in_default.ensures
 
 pub returns : goal.returns
-returns c = EachOwn-all (rows_in c.args.read.now).sessions (IsOwnSession (rows_in c.args.read.now)) c.clerks.before c.clerks.clerk (simp length-map (omega arith)) c.clerks.invariant
+returns c =
+    EachOwn-all (rows_in c.args.read.now).sessions (IsOwnSession (rows_in c.args.read.now)) c.clerks.before
+    c.clerks.clerk (simp length-map (omega arith)) c.clerks.invariant

@@ -6,4 +6,5 @@ use Rattle.desk_valid.proofs.sessions.first_of_clerk.Given as goal
 
 -- each row so far is what it has to be
 abbrev pub invariant-rows : goal.invariant-rows
-invariant-rows l = EachBefore (list_at (rows_in l.read).sessions l.clerk) (IsOwnSession (rows_in l.read) l.clerk) l.place
+invariant-rows l =
+    EachBefore (list_at (rows_in l.read).sessions l.clerk) (IsOwnSession (rows_in l.read) l.clerk) l.place
