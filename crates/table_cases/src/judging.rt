@@ -1,0 +1,68 @@
+//! What is found in the tables of a case.
+ghost use Rattle.std.specs.Prelude.{◌<◌, ◌↔◌, All, length, IsTrue};
+ghost use Rattle.desk_words.specs.Tables.{AreListsOf, AreTables, lists_of, rows_of};
+
+use crate::rows::tables;
+use desk_base::{Duplicate, Room};
+use desk_cases::Case;
+use desk_valid::{Bad, Damage, valid};
+use desk_words::Tables;
+use std::alloc::Global;
+use std::test::Fail;
+
+/// `valid`, or the table and the row of the first damage. A copy of the tables has to be found the same.
+pub fn found(alloc: Global, case: &Case) -> Result<String, Fail> {
+    let tables = tables(alloc, case)?;
+    let copy = tables.copy()?;
+    let found = judged(alloc, &tables)?;
+    if judged(alloc, &copy)?.as_str() != found.as_str() {
+        return Err(Fail::new("a copy is found otherwise"));
+    }
+    Ok(found)
+}
+
+fn judged(alloc: Global, tables: &Tables) -> Result<String, Fail> {
+    if !are_tables(tables) {
+        return Err(Fail::new("the rows of a case are no tables"));
+    }
+    match valid(alloc, tables) {
+        Ok(()) => Ok(String::from_str(alloc, "valid")?),
+        Err(Bad::Damaged(Damage { table, row })) => {
+            Ok(format!(in alloc; "table {table} row {row}")?)
+        }
+        Err(Bad::NoMemory) => Err(Fail::new("there was no memory")),
+    }
+}
+
+/// The most rows of a list in a case.
+const MOST: usize = 1_000_000;
+
+/// Whether these are tables, none of them long.
+fn are_tables(tables: &Tables) -> bool
+    ensures { IsTrue result → AreTables (rows_of tables.now) }
+{
+    let clerks = tables.clerks.len();
+    clerks > 0
+        && clerks < MOST
+        && tables.schemas.len() < MOST
+        && tables.masters.len() < MOST
+        && tables.rulebooks.len() < MOST
+        && tables.editions.len() < MOST
+        && tables.regions.len() < MOST
+        && are_lists(&tables.sessions, clerks)
+        && are_lists(&tables.records, clerks)
+        && are_lists(&tables.batches, clerks)
+}
+
+/// Whether there is a list for each clerk, none of them long.
+fn are_lists<T>(lists: &Room<Room<T>>, clerks: usize) -> bool
+    ensures { IsTrue result → AreListsOf clerks (lists_of lists.now) }
+{
+    lists.len() == clerks && are_short(lists.as_slice())
+}
+
+fn are_short<T>(lists: &[Room<T>]) -> bool
+    ensures { IsTrue result ↔ All (λ list. length list.items < 1000000) lists.now }
+{
+    lists.iter().all(|list| list.len() < MOST)
+}

@@ -1,0 +1,146 @@
+//! The rows of the first six tables.
+use crate::fields::{act, attributes, body, field, number, numbers, text, texts};
+use crate::own::own_row;
+use desk_base::{List, Room};
+use desk_cases::Case;
+use desk_words::{
+    ClerkRow, Digest, EditionRow, MasterRow, RegionRow, RulebookRow, SchemaRow, Tables,
+};
+use fix_model::Region;
+use std::alloc::Global;
+use std::test::Fail;
+
+/// The tables of a case: each part but the last is a row, in the order of the rows.
+pub fn tables(alloc: Global, case: &Case) -> Result<Tables, Fail> {
+    let mut tables = Tables {
+        clerks: Room::new(alloc),
+        schemas: Room::new(alloc),
+        masters: Room::new(alloc),
+        rulebooks: Room::new(alloc),
+        editions: Room::new(alloc),
+        regions: Room::new(alloc),
+        sessions: Room::new(alloc),
+        records: Room::new(alloc),
+        batches: Room::new(alloc),
+    };
+    for part in &case.parts {
+        let Ok(line) = std::str::from_utf8(part.content.as_slice()) else {
+            return Err(Fail::new("a row is no text"));
+        };
+        row(alloc, &mut tables, part.name.as_str(), line)?;
+    }
+    Ok(tables)
+}
+
+fn row(alloc: Global, tables: &mut Tables, table: &str, line: &str) -> Result<(), Fail> {
+    match table {
+        "clerk" => clerk(alloc, tables, line),
+        "schema" => schema(alloc, tables, line),
+        "master" => master(alloc, tables, line),
+        "rulebook" => rulebook(alloc, tables, line),
+        "edition" => edition(alloc, tables, line),
+        "region" => region(alloc, tables, line),
+        "wanted" => Ok(()),
+        _ => own_row(alloc, tables, table, line),
+    }
+}
+
+/// Name, number, act, target, and the byte that the digest repeats.
+fn clerk(alloc: Global, tables: &mut Tables, line: &str) -> Result<(), Fail> {
+    let (name, line) = field(line)?;
+    let (last, line) = field(line)?;
+    let (done, line) = field(line)?;
+    let (target, byte) = field(line)?;
+    let (Ok(last), Ok(byte)) = (last.parse(), byte.parse()) else {
+        return Err(Fail::new("a clerk has a field that is no number"));
+    };
+    let row = ClerkRow {
+        name: text(alloc, name)?,
+        last,
+        digest: Digest { bytes: [byte; 32] },
+        act: act(done)?,
+        target: number(target)?,
+    };
+    tables.clerks.push(row)?;
+    tables.sessions.push(Room::new(alloc))?;
+    tables.records.push(Room::new(alloc))?;
+    tables.batches.push(Room::new(alloc))?;
+    Ok(())
+}
+
+/// Name, version and body.
+fn schema(alloc: Global, tables: &mut Tables, line: &str) -> Result<(), Fail> {
+    let (name, line) = field(line)?;
+    let (version, rest) = field(line)?;
+    let row = SchemaRow {
+        name: text(alloc, name)?,
+        version: number(version)?,
+        body: body(alloc, rest)?,
+    };
+    tables.schemas.push(row)?;
+    Ok(())
+}
+
+/// Name, version and body.
+fn master(alloc: Global, tables: &mut Tables, line: &str) -> Result<(), Fail> {
+    let (name, line) = field(line)?;
+    let (version, rest) = field(line)?;
+    let row = MasterRow {
+        name: text(alloc, name)?,
+        version: number(version)?,
+        body: body(alloc, rest)?,
+    };
+    tables.masters.push(row)?;
+    Ok(())
+}
+
+/// Name, version, schema and body.
+fn rulebook(alloc: Global, tables: &mut Tables, line: &str) -> Result<(), Fail> {
+    let (name, line) = field(line)?;
+    let (version, line) = field(line)?;
+    let (schema, rest) = field(line)?;
+    let row = RulebookRow {
+        name: text(alloc, name)?,
+        version: number(version)?,
+        schema: number(schema)?,
+        body: body(alloc, rest)?,
+    };
+    tables.rulebooks.push(row)?;
+    Ok(())
+}
+
+/// Name, version, rulebook, masters and folded attributes.
+fn edition(alloc: Global, tables: &mut Tables, line: &str) -> Result<(), Fail> {
+    let (name, line) = field(line)?;
+    let (version, line) = field(line)?;
+    let (rulebook, line) = field(line)?;
+    let (masters, folded) = field(line)?;
+    let row = EditionRow {
+        name: text(alloc, name)?,
+        version: number(version)?,
+        rulebook: number(rulebook)?,
+        masters: numbers(alloc, masters)?,
+        folded: attributes(alloc, folded)?,
+    };
+    tables.editions.push(row)?;
+    Ok(())
+}
+
+/// Edition, attributes, and rows of texts with `|` between.
+fn region(alloc: Global, tables: &mut Tables, line: &str) -> Result<(), Fail> {
+    let (edition, line) = field(line)?;
+    let (attrs, tableau) = field(line)?;
+    let mut rows = List::new(alloc);
+    for row in tableau.split("|") {
+        rows.push(texts(alloc, row)?)?;
+    }
+    let row = RegionRow {
+        edition: number(edition)?,
+        region: Region {
+            attrs: attributes(alloc, attrs)?,
+            rows,
+        },
+    };
+    tables.regions.push(row)?;
+    Ok(())
+}
