@@ -38,7 +38,7 @@ fn judged(alloc: Global, tables: &Tables) -> Result<String, Fail> {
 const MOST: usize = 1_000_000;
 
 /// Whether these are tables, none of them long.
-fn are_tables(tables: &Tables) -> bool
+pub fn are_tables(tables: &Tables) -> bool
     ensures { IsTrue result → AreTables (rows_of tables.now) }
 {
     let clerks = tables.clerks.len();

@@ -1,10 +1,11 @@
-//! Tries the cases in `data/`: tables, with the damage that is found in them.
+//! Tries the cases in `data/`: tables, with the damage that is found in them, and calls of a keeper in memory.
 //!
 //! The words are the files of cases. `docs/cases.md` says how a case is written, and the README how a row is.
 #![tactic(auto)]
 
 mod fields;
 mod judging;
+mod keeping;
 mod own;
 mod rows;
 
@@ -12,13 +13,17 @@ use desk_cases::{Case, Part, Subject, try_files};
 use std::alloc::Global;
 use std::test::Fail;
 
-/// What finds the damage.
+/// What finds damage, and calls keepers.
 #[derive(Drop)]
-struct Judge;
+struct Desk;
 
-impl Subject for Judge {
-    fn answer(&mut self, alloc: Global, _kind: &str, case: &Case) -> Result<Vec<Part>, Fail> {
-        let found = judging::found(alloc, case)?;
+impl Subject for Desk {
+    fn answer(&mut self, alloc: Global, kind: &str, case: &Case) -> Result<Vec<Part>, Fail> {
+        let found = match kind {
+            "tables" => judging::found(alloc, case)?,
+            "keeper" => keeping::answers(alloc, case)?,
+            _ => return Err(Fail::new("a file of cases has an unknown kind")),
+        };
         let mut answer = Vec::new(alloc);
         answer.push(Part::new(alloc, "wanted", found.as_str().as_bytes())?)?;
         Ok(answer)
@@ -26,5 +31,5 @@ impl Subject for Judge {
 }
 
 fn main(rt: HostRuntime) -> Result<(), Fail> {
-    try_files(&rt, &mut Judge)
+    try_files(&rt, &mut Desk)
 }

@@ -11,5 +11,5 @@ returns-then-len-clerks g c = λ yes.
     record {
       each = rw length-map (sym c.len.ensures ∙ c.if-len-clerks.true);
       short = All-map IsShort items_of rooms
-        (λ place d within. let below = few place d within in omega (arith, below));
+          (λ place d within. let below = few place d within in omega (arith, below));
     }

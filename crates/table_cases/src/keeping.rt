@@ -1,0 +1,72 @@
+//! Calls of a keeper in memory, some of which fail.
+use crate::judging::are_tables;
+use crate::rows::tables;
+use desk_base::{List, Text};
+use desk_cases::Case;
+use desk_words::{Change, ClerkRow};
+use keeper_core::{KeepFail, Keeper, MemKeeper};
+use std::alloc::Global;
+use std::test::Fail;
+
+/// What the calls of a case answer, with a space between: `failed`, `done` for a commit, and for a load the number of
+/// the steward's last request in the tables that were loaded. The k-th call, where it commits, makes that number k.
+pub fn answers(alloc: Global, case: &Case) -> Result<String, Fail> {
+    let tables = tables(alloc, case)?;
+    if !are_tables(&tables) {
+        return Err(Fail::new("the rows of a case are no tables"));
+    }
+    let fails = List::from_vec(case.numbers(alloc, "fails")?);
+    let mut keeper = MemKeeper::new(tables, fails);
+    let mut answers = String::new(alloc);
+    let mut number = 0u64;
+    for call in case.text("calls").unwrap_or("").split_whitespace() {
+        number = number.saturating_add(1);
+        let answer = answer(alloc, &mut keeper, call, number)?;
+        if number > 1 {
+            answers.push_str(" ")?;
+        }
+        answers.push_str(answer.as_str())?;
+    }
+    Ok(answers)
+}
+
+/// What a call answers.
+fn answer(alloc: Global, keeper: &mut MemKeeper, call: &str, number: u64) -> Result<String, Fail> {
+    match call {
+        "load" => loaded(alloc, keeper),
+        "commit" => committed(alloc, keeper, number),
+        _ => Err(Fail::new("a keeper has no such call")),
+    }
+}
+
+fn loaded(alloc: Global, keeper: &mut MemKeeper) -> Result<String, Fail> {
+    match keeper.load() {
+        Ok(tables) => {
+            let last = tables
+                .clerks
+                .as_slice()
+                .first()
+                .map_or(0, |steward| steward.last);
+            Ok(format!(in alloc; "{last}")?)
+        }
+        Err(fail) => failed(alloc, fail),
+    }
+}
+
+fn committed(alloc: Global, keeper: &mut MemKeeper, number: u64) -> Result<String, Fail> {
+    let mut steward = ClerkRow::new(Text::of(alloc, "steward")?);
+    steward.last = number;
+    let mut changes = List::new(alloc);
+    changes.push(Change::Clerk(0, steward))?;
+    match keeper.commit(&changes) {
+        Ok(()) => Ok(String::from_str(alloc, "done")?),
+        Err(fail) => failed(alloc, fail),
+    }
+}
+
+fn failed(alloc: Global, fail: KeepFail) -> Result<String, Fail> {
+    match fail {
+        KeepFail::Failed => Ok(String::from_str(alloc, "failed")?),
+        KeepFail::NoMemory => Err(Fail::new("there was no memory")),
+    }
+}
