@@ -10,7 +10,7 @@ use fix_model::Region;
 use std::alloc::Global;
 use std::test::Fail;
 
-/// The tables of a case: each part but the last is a row, in the order of the rows.
+/// The tables of a case: each part is a row, in the order of the rows, but for what is wanted and the calls of a keeper.
 pub fn tables(alloc: Global, case: &Case) -> Result<Tables, Fail> {
     let mut tables = Tables {
         clerks: Room::new(alloc),
@@ -40,7 +40,7 @@ fn row(alloc: Global, tables: &mut Tables, table: &str, line: &str) -> Result<()
         "rulebook" => rulebook(alloc, tables, line),
         "edition" => edition(alloc, tables, line),
         "region" => region(alloc, tables, line),
-        "wanted" => Ok(()),
+        "wanted" | "fails" | "calls" => Ok(()),
         _ => own_row(alloc, tables, table, line),
     }
 }
