@@ -1,5 +1,12 @@
 pub mod Lists
+pub mod LeftSides
+pub mod Closures
+pub mod Openings
+pub mod Hopes
 pub mod Needs
-pub mod Rows
 pub mod Twins
+pub mod Rows
 pub mod Wider
+pub mod Tries
+pub mod Pairs
+pub mod Counts

@@ -23,7 +23,7 @@ use Rattle.fix_model.proofs.States.{Fits-after}
 use Rattle.fix_engine.specs.Departures.{IsInside}
 use Rattle.fix_engine.specs.Flags.{IsFlagged}
 use Rattle.fix_engine.proofs.Ends.{IsEnabled-inside, IsInside-after, RowAgrees-inside, cell_at-head, cell_at-other, value_at-head}
-use Rattle.region_suggest.specs.Hope.{ConfirmsMore, IsClosed, IsOpen}
+use Rattle.region_suggest.specs.Hope.{ConfirmsMore, IsHopeClosed, IsOpen}
 use Rattle.region_suggest.proofs.Rows.{Contains-is_listed, is_listed-Contains}
 use Rattle.region_suggest.proofs.Twins.{IsInside-step, IsInside-then}
 use Rattle.desk_base.specs.Places.{is_listed}
@@ -135,7 +135,7 @@ module _ (kit : Kit) (valid : IsValid kit) (attributes : List ℕ) where
       (Fits-after kit one step fits whole.0) (Fits-after kit other step fits' fires') whole.1 open_there in
       ((fires', later.0), later.1, later.2)
 
-  module _ (end : State) (flags : List Bool) (closed : IsClosed kit end (Contains attributes) flags) where
+  module _ (end : State) (flags : List Bool) (closed : IsHopeClosed kit end (Contains attributes) flags) where
     -- a rule that is applied beyond the end was open there
     IsOpen-beyond : (state : State) (step : Step) → IsInside kit end state → Fires kit state step
         → (IsCovered end (rule_at kit step.rule).head → ⊥) → IsOpen kit end (rule_at kit step.rule)

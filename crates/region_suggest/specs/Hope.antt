@@ -23,7 +23,7 @@ pub record IsOpen (kit : Kit) (state : State) (rule : Rule) : Type 0 where
 
 -- a closed set holds the covered attributes and the given ones and, with all keys and conditions of an open rule, its
 -- head
-pub record IsClosed (kit : Kit) (state : State) (given : ℕ → Type 0) (flags : List Bool) : Type 0 where
+pub record IsHopeClosed (kit : Kit) (state : State) (given : ℕ → Type 0) (flags : List Bool) : Type 0 where
   pub whole : length flags ≡ kit.width
   pub covered : (attribute : ℕ) → IsCovered state attribute → IsFlagged flags attribute
   pub given_ones : (attribute : ℕ) → attribute < kit.width → given attribute → IsFlagged flags attribute
@@ -32,7 +32,7 @@ pub record IsClosed (kit : Kit) (state : State) (given : ℕ → Type 0) (flags 
 
 -- the attribute is in the hoped closure, the least closed set: each closed set holds it
 abbrev pub IsHoped : Kit → State → (ℕ → Type 0) → ℕ → Type 0
-IsHoped kit state given attribute = (flags : List Bool) → IsClosed kit state given flags → IsFlagged flags attribute
+IsHoped kit state given attribute = (flags : List Bool) → IsHopeClosed kit state given flags → IsFlagged flags attribute
 
 -- the hoped closure is all attributes
 abbrev pub AreAllHoped : Kit → State → (ℕ → Type 0) → Type 0

@@ -1,3 +1,11 @@
 pub mod Hope
+pub mod Dependencies
+pub mod Closing
+pub mod Openings
 pub mod Need
+pub mod Trying
+pub mod Gains
+pub mod Offers
+pub mod Finding
 pub mod Verdicts
+pub mod Suggestions

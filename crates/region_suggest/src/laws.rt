@@ -30,8 +30,8 @@ pub fn a_certain_row_promises_a_certain_fix(
         × IsFix kit.now state.now first true dissent }
 {}
 
-/// The hoped closure is sound: where, after a run, it gives a certain fix to confirm some of the attributes that
-/// are still uncovered, to whatever texts, their hoped closure at the end of the run is all attributes. The run
+/// The hoped closure is sound. Let attributes be uncovered after a run. Where confirming them at the state before
+/// it, to whatever texts, gives a certain fix, their hoped closure at the end of the run is all attributes. The run
 /// may be any, so also the first run of a fix.
 pub fn hope_is_sound(kit: &Kit, state: &State, run: &[Step], attributes: &[u16], confirmed: &State)
     requires valid { IsValid kit.now }
