@@ -8,6 +8,7 @@
 
 mod checking;
 mod dependencies;
+mod fitting;
 mod gaining;
 pub mod laws;
 mod needing;
@@ -17,5 +18,6 @@ mod suggesting;
 mod suggestion;
 
 pub use checking::check;
+pub use fitting::is_region_of;
 pub use suggesting::suggest;
 pub use suggestion::Suggestion;
