@@ -19,8 +19,6 @@ mod sink;
 mod source;
 mod steps;
 mod str;
-#[cfg(test)]
-mod tests;
 mod text;
 mod words;
 

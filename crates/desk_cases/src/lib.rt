@@ -8,8 +8,6 @@ mod case;
 mod escapes;
 mod fault;
 mod reading;
-#[cfg(test)]
-mod tests;
 mod trying;
 
 pub use case::{Case, Part};

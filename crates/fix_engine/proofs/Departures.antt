@@ -18,7 +18,8 @@ use Rattle.fix_engine.specs.declared.leads.Lead.{Lead}
 use Rattle.fix_engine.specs.declared.leads.Lead.TheVariants.{Nothing, Keeps as KeepsThere, Leaves}
 use Rattle.fix_engine.specs.Departures.{CanDepart, EndsElsewhere, IsInside, IsLedTo, IsSupportedRun, Keeps, Supports}
 use Rattle.fix_engine.specs.Leads.{IsLead}
-use Rattle.fix_engine.proofs.Ends.{IsCovered-head, IsEnabled-inside, IsInside-after, RowAgrees-inside, cell_at-head, cell_at-other, head-within, same_value, value_at-head}
+use Rattle.fix_engine.proofs.Ends.{IsCovered-head, IsEnabled-inside, IsInside-after, RowAgrees-inside, cell_at-head}
+use Rattle.fix_engine.proofs.Ends.{cell_at-other, head-within, same_value, value_at-head}
 use Rattle.fix_engine.proofs.Truth.{same_record}
 
 -- ---- inside
@@ -138,7 +139,11 @@ module _ (kit : Kit) (valid : IsValid kit) (end : State) where
   -- a supported run is a run
   pub IsRun-supported : (state : State) (run : List Step) → IsSupportedRun kit end state run → IsRun kit state run
   IsRun-supported state [] supported = tt
-  IsRun-supported state (step ∷ rest) supported = (supported.0.fires, IsRun-supported (after kit state step) rest supported.1)
+  IsRun-supported state (step ∷ rest) supported = (
+    supported.0.fires,
+    IsRun-supported (after kit state step) rest
+        supported.1,
+  )
 
   -- where a step departs at the end of a run, the runs that go on from it end elsewhere
   pub elsewhere-behind : (state : State) (run rest : List Step) (step : Step) → Fits kit state → IsRun kit state run
@@ -233,8 +238,10 @@ module _ (kit : Kit) (valid : IsValid kit) (end : State) where
               (IsLedTo-after leads further fits' led step fires supported.0.keeps) supported.1 uncovered still in
               record {
                 after_it = step ∷ later.after_it;
-                supported =
-                    (record { fires = fires; supports = supported.0.supports; keeps = supported.0.keeps }, later.supported);
+                supported = (
+                  record { fires = fires; supports = supported.0.supports; keeps = supported.0.keeps },
+                  later.supported,
+                );
                 inside = later.inside;
                 led = later.led;
                 uncovered = later.uncovered;

@@ -1,5 +1,6 @@
 -- A run that keeps to the values at the end of a maximal run stays inside that end.
-use Rattle.std.proofs.Common.{◌≡◌, ◌≢◌, ◌<◌, ◌∙◌, ℕ, false, List, [], ◌∷◌, length, get_or, refl, sym, ap, subst, eqb, eqb-true, inl, inr, arith}
+use Rattle.std.proofs.Common.{◌≡◌, ◌≢◌, ◌<◌, ◌∙◌, ℕ, false, List, [], ◌∷◌, length, get_or, refl, sym, ap, subst, eqb}
+use Rattle.std.proofs.Common.{eqb-true, inl, inr, arith}
 use Rattle.std.specs.Prelude.{All, ⊤}
 use Rattle.std.proofs.lemmas.Bool.{cases_Bool, eqb-false}
 use Rattle.std.proofs.lemmas.List.{get_or-set_same, get_or-set_other}

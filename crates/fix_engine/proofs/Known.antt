@@ -1,18 +1,23 @@
 -- What is remembered of the looks stays true along a run, and each look is made once.
-use Rattle.std.proofs.Common.{◌≡◌, ◌≢◌, ◌<◌, ◌≤◌, ◌+◌, ◌∙◌, ℕ, zero, suc, List, [], ◌∷◌, length, set, get_or, replicate, refl, sym, ap, length-set, eqb, eqb-true, inl, inr, add-one, ◌++◌, arith}
-use Rattle.std.specs.Prelude.{Option, vec_capacity}
+use Rattle.std.proofs.Common.{◌≡◌, ◌≢◌, ◌<◌, ◌≤◌, ◌+◌, ◌∙◌, ◌++◌, ℕ, zero, suc, Bool, true, false, cond, inl, inr, refl}
+use Rattle.std.proofs.Common.{sym, ap, add-one}
+use Rattle.std.proofs.Common.{List, [], ◌∷◌, length, set, get_or, replicate, length-set, eqb, eqb-true, arith}
+use Rattle.std.specs.Prelude.{Option, filter, vec_capacity}
+use Rattle.std.specs.List.{count_by}
 use Rattle.std.proofs.lemmas.Bool.{cases_Bool, eqb-false}
+use Rattle.std.proofs.lemmas.List.Sums.{sum_by-cons}
 use Rattle.std.proofs.lemmas.List.{get_or-set_same, get_or-set_other, length-replicate}
 use Rattle.desk_base.specs.Counts.{Counts}
 use Rattle.fix_model.specs.declared.book.Hit.{Hit}
 use Rattle.fix_model.specs.declared.kit.Kit.{Kit}
 use Rattle.fix_model.specs.declared.state.State.{State}
 use Rattle.fix_model.specs.declared.state.Step.{Step}
-use Rattle.fix_model.specs.Application.{Fires, after}
+use Rattle.fix_model.specs.Application.{Fires, after, covered_left_sides, covers_left_side}
 use Rattle.fix_model.specs.Rules.{rule_at}
 use Rattle.fix_model.specs.States.{value_at}
 use Rattle.fix_model.proofs.Counts.{length-filter-set}
 use Rattle.fix_model.proofs.Covered.{IsCovered-after, same_keys, IsFound-values}
+use Rattle.fix_model.proofs.LeftSides.{covers_left_side-all}
 use Rattle.fix_engine.specs.declared.looks.Remembered.{Remembered}
 use Rattle.fix_engine.specs.declared.looks.Remembered.TheVariants.{Pending, Done}
 use Rattle.fix_engine.specs.declared.looks.Looks.{Looks}
@@ -46,6 +51,8 @@ AreKnown-after kit state step looks fires known = record {
       record {
         covered = λ k d h. IsCovered-after kit state step fires (get_or (rule_at kit place).keys k d).0
             (before.covered k d h);
+        conds = λ k d h. IsCovered-after kit state step fires (get_or (rule_at kit place).conds k d).0
+            (before.conds k d h);
         found = IsFound-values kit (rule_at kit place) (value_at kit state) (value_at kit (after kit state step))
             (same_keys kit state step fires (rule_at kit place) before.covered) answer before.found;
       };
@@ -125,3 +132,41 @@ LooksAround-step kit state step old new newer before after_these after_those fir
 pub replicate-push : (count : ℕ) → replicate count Pending ++ Pending ∷ [] ≡ replicate (count + 1) Pending
 replicate-push zero = refl
 replicate-push (suc count) = rw add-one (ap (λ looks. Pending ∷ looks) (replicate-push count ∙ rw add-one refl))
+
+-- where at each place one of two tests passes, they pass together as often as there are places
+count-either : {A B : Type 0} (one : A → Bool) (other : B → Bool) (xs : List A) (ys : List B) (a : A) (b : B)
+    → length xs ≡ length ys
+    → ((place : ℕ) → place < length xs → one (get_or xs place a) ≡ false → other (get_or ys place b) ≡ true)
+    → length ys ≤ length (filter one xs) + count_by other ys
+count-either one other [] [] a b even either = omega arith
+count-either one other [] (y ∷ ys) a b even either = absurd (omega arith)
+count-either one other (x ∷ xs) [] a b even either = absurd (omega arith)
+count-either one other (x ∷ xs) (y ∷ ys) a b even either =
+    let rest : length ys ≤ length (filter one xs) + count_by other ys =
+    count-either one other xs ys a b (omega arith) (λ place h fails. either (suc place) (omega (arith, h)) fails) in
+    let more : count_by other (y ∷ ys) ≡ cond (other y) 1 0 + count_by other ys =
+    sum_by-cons (λ b. cond (other b) 1 0) y ys in
+    elim (cases_Bool (one x)) [
+      | inl passes ↦ rw passes (omega (arith, rest, more))
+      | inr fails ↦
+          let counted : count_by other (y ∷ ys) ≡ 1 + count_by other ys =
+          more ∙ ap (λ (test : Bool). cond test 1 0 + count_by other ys) (either 0 (omega arith) fails) in
+          rw fails (omega (arith, rest, counted))
+    ]
+
+-- a rule that is not pending was looked up
+answer_of : (remembered : Remembered) → is_pending remembered ≡ false
+    → (answer : Option Hit) × (remembered ≡ Done answer)
+answer_of Pending done = absurd cc
+answer_of (Done answer) done = (answer, refl)
+
+-- and each that was looked up has a covered left side
+pub pending_count-covered : (kit : Kit) (state : State) (looks : List Remembered) → AreKnown kit state looks
+    → length kit.rules ≤ pending_count looks + covered_left_sides kit state
+pending_count-covered kit state looks known =
+    count-either is_pending (covers_left_side state) looks kit.rules Pending
+    (record { keys = []; head = 0; from = 0; master = 0; conds = [] }) known.whole
+    (λ place within done.
+    let told = answer_of (get_or looks place Pending) done in
+    let known_there = known.known place told.0 within told.1 in
+    covers_left_side-all state (rule_at kit place) known_there.covered known_there.conds)

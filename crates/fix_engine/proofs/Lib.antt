@@ -2,6 +2,7 @@ pub mod Ends
 pub mod Departures
 pub mod Leaving
 pub mod Reach
+pub mod Rooms
 pub mod Turns
 pub mod Verdicts
 pub mod Once

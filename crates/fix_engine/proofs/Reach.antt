@@ -1,5 +1,6 @@
 -- The flags of what can be covered, and of what can be departed at.
-use Rattle.std.proofs.Common.{◌≡◌, ◌≢◌, ◌<◌, ◌∙◌, ℕ, Bool, true, false, List, [], ◌∷◌, ◌++◌, length, length-set, get_or, map, set, refl, sym, ap, subst, eqb, eqb-true, inl, inr, arith}
+use Rattle.std.proofs.Common.{◌≡◌, ◌≢◌, ◌<◌, ◌∙◌, ℕ, Bool, true, false, List, [], ◌∷◌, ◌++◌, length, length-set}
+use Rattle.std.proofs.Common.{get_or, map, set, refl, sym, ap, subst, eqb, eqb-true, inl, inr, arith}
 use Rattle.std.specs.Prelude.{◌↔◌, IsTrue, IsSome, MatchBool, Option, Some, None}
 use Rattle.std.proofs.lemmas.Bool.{cases_Bool, eqb-false}
 use Rattle.std.proofs.lemmas.List.{get_or-set_same, get_or-set_other, map-set}
@@ -20,13 +21,15 @@ use Rattle.fix_model.proofs.Runs.{end_of-append}
 use Rattle.fix_model.proofs.States.{Fits-after}
 use Rattle.fix_engine.specs.declared.leads.Lead.{Lead}
 use Rattle.fix_engine.specs.declared.leads.Lead.TheVariants.{Nothing, Keeps as KeepsThere, Leaves}
-use Rattle.fix_engine.specs.Departures.{AreDepartures, CanDepart, IsClosed, IsLedTo, IsLeft, IsLeftSomehow, IsNextRule, IsReach, IsSupportedRun, Keeps, Supports}
+use Rattle.fix_engine.specs.Departures.{AreDepartures, CanDepart, IsClosed, IsLedTo, IsLeft, IsLeftSomehow}
+use Rattle.fix_engine.specs.Departures.{IsNextRule, IsReach, IsSupportedRun, Keeps, Supports}
 use Rattle.fix_engine.specs.Flags.{HasFlags, IsFlagged}
 use Rattle.fix_engine.specs.Leads.{AreLeads, IsLead, is_keeping, leaving_row}
 use Rattle.fix_engine.proofs.Ends.{IsEnabled-inside, RowAgrees-inside, cell_at-head, cell_at-other, head-within}
 use Rattle.fix_engine.proofs.Leaving.{leaving_row-leaves, leaving_row-some}
 use Rattle.fix_engine.proofs.Truth.{AreMatched-values}
-use Rattle.fix_engine.proofs.Departures.{CanDepart-step, IsFollowed, IsLedTo-after, IsInside-step, IsRun-supported, fires_further, follows}
+use Rattle.fix_engine.proofs.Departures.{CanDepart-step, IsFollowed, IsLedTo-after, IsInside-step, IsRun-supported}
+use Rattle.fix_engine.proofs.Departures.{fires_further, follows}
 
 -- ---- flags
 
@@ -317,7 +320,8 @@ module _ (kit : Kit) (valid : IsValid kit) (end : State) where
   CanDepart-left leads state attribute flags fits led reach closed = (
     (λ left.
         let some = some-row (leaving_row (get_or leads left.0 Nothing)) left.2.0.leaves in
-        CanDepart-flagged leads state fits led attribute flags reach left.0 some.0 left.1 some.1 left.2.0.head left.2.1),
+        CanDepart-flagged leads state fits led attribute flags reach left.0 some.0 left.1 some.1 left.2.0.head
+        left.2.1),
     λ depart. IsLeft-CanDepart leads state flags attribute fits led closed
         (λ other is. flagged_there leads state fits led attribute flags reach other
         (still_covered state reach.run other reach.supported is)) depart,

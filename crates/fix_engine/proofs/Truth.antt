@@ -1,5 +1,6 @@
 -- A record that agrees with a state and obeys the rules agrees with every state that they lead to.
-use Rattle.std.proofs.Common.{◌≡◌, ◌<◌, ◌∙◌, ℕ, true, List, [], ◌∷◌, length, get_or, refl, sym, ap, subst, eqb, eqb-true, inl, inr}
+use Rattle.std.proofs.Common.{◌≡◌, ◌<◌, ◌∙◌, ℕ, true, List, [], ◌∷◌, length, get_or, refl, sym, ap, subst, eqb}
+use Rattle.std.proofs.Common.{eqb-true, inl, inr}
 use Rattle.std.specs.Prelude.{All, None}
 use Rattle.std.proofs.lemmas.Bool.{cases_Bool, eqb-false}
 use Rattle.std.proofs.lemmas.List.{ext_get_or}
@@ -21,7 +22,8 @@ use Rattle.fix_model.proofs.Lengths.{IsCovered-end_of}
 use Rattle.fix_model.proofs.Runs.{typed-end_of}
 use Rattle.fix_model.proofs.States.{Fits-after}
 use Rattle.fix_engine.specs.Departures.{IsInside}
-use Rattle.fix_engine.proofs.Ends.{IsInside-end_of, IsInside-start, KeepsTo, cell_at-other, length-record_of, record_of-at, shown-open, value_at-head, value_at-other}
+use Rattle.fix_engine.proofs.Ends.{IsInside-end_of, IsInside-start, KeepsTo, cell_at-other, length-record_of}
+use Rattle.fix_engine.proofs.Ends.{record_of-at, shown-open, value_at-head, value_at-other}
 
 -- ---- other values with the same texts
 

@@ -1,5 +1,6 @@
 -- Which steps the second run can begin with, rule by rule.
-use Rattle.std.proofs.Common.{◌≡◌, ◌≢◌, ◌⊎◌, ◌<◌, ◌≤◌, ◌∙◌, ℕ, Bool, true, false, List, [], ◌∷◌, length, get_or, set, sym, subst, refl, leb, leb-true, leb-false, inl, inr}
+use Rattle.std.proofs.Common.{◌≡◌, ◌≢◌, ◌⊎◌, ◌<◌, ◌≤◌, ◌∙◌, ℕ, Bool, true, false, List, [], ◌∷◌, length, get_or, set}
+use Rattle.std.proofs.Common.{sym, subst, refl, leb, leb-true, leb-false, inl, inr}
 use Rattle.std.specs.Prelude.{◌↔◌, IsTrue}
 use Rattle.std.proofs.lemmas.Bool.{cases_Bool}
 use Rattle.std.proofs.lemmas.List.{get_or_default}
@@ -25,8 +26,10 @@ use Rattle.fix_engine.specs.declared.second_run.Turn.{Turn}
 use Rattle.fix_engine.specs.Departures.{AreDepartures, EndsElsewhere, IsLedTo, Keeps, Supports}
 use Rattle.fix_engine.specs.Flags.{IsFlagged}
 use Rattle.fix_engine.specs.Leads.{IsLead}
-use Rattle.fix_engine.specs.Turns.{CanDepartSomewhere, IsLeastElsewhere, IsLeastOf, IsLeastOfAll, IsLeftFrom, IsPassed, IsTurn}
-use Rattle.fix_engine.proofs.Departures.{CanDepart-elsewhere, CanDepart-step, IsLedTo-after, elsewhere-behind, elsewhere-exists, stays_there}
+use Rattle.fix_engine.specs.Turns.{CanDepartSomewhere, IsLeastElsewhere, IsLeastOf, IsLeastOfAll, IsLeftFrom}
+use Rattle.fix_engine.specs.Turns.{IsPassed, IsTurn}
+use Rattle.fix_engine.proofs.Departures.{CanDepart-elsewhere, CanDepart-step, IsLedTo-after, elsewhere-behind}
+use Rattle.fix_engine.proofs.Departures.{elsewhere-exists, stays_there}
 use Rattle.fix_engine.proofs.Ends.{IsEnabled-inside, RowAgrees-inside}
 use Rattle.fix_engine.proofs.Reach.{AreDepartures-after, head_stays, still_departs}
 

@@ -5,7 +5,7 @@ use Rattle.fix_model.specs.declared.kit.Kit.{Kit}
 use Rattle.fix_model.specs.declared.state.State.{State}
 use Rattle.fix_model.specs.declared.state.Step.{Step}
 use Rattle.fix_model.specs.FirstRun.{IsFirstRun}
-use Rattle.fix_model.specs.Fix.{AreAllCovered, IsConflict, IsDissent, IsFix}
+use Rattle.fix_model.specs.Fix.{AreAllCovered, IsConflict, IsDissent, IsFix, SomeRunDiffers}
 use Rattle.fix_model.specs.Run.{IsFinal, IsMaximalRun, end_of}
 use Rattle.fix_model.specs.States.{Fits, record_of}
 use Rattle.fix_model.specs.Valid.{IsValid}
@@ -18,7 +18,7 @@ use Rattle.fix_engine.specs.Flags.{IsFlagged}
 use Rattle.fix_engine.specs.Leads.{AreLeads}
 use Rattle.fix_engine.specs.Runs.{IsBegun, IsCompleted}
 use Rattle.fix_engine.specs.Turns.{BeginsElsewhere, IsLeastElsewhere, IsLeftFrom}
-use Rattle.fix_engine.proofs.Departures.{CanDepart-elsewhere}
+use Rattle.fix_engine.proofs.Departures.{CanDepart-elsewhere, elsewhere-exists}
 use Rattle.fix_engine.proofs.Ends.{IsInside-end_of, IsInside-start, KeepsTo, KeepsTo-record}
 
 -- whether two records are equal
@@ -121,25 +121,34 @@ module _ (kit : Kit) (old new : State) (runs : Runs) (leads : List Lead)
       (subst (λ (end : State). IsTrue certain ↔ AreAllCovered kit end) begun.ends is_certain)
       (subst (λ (end : State). IsDissent kit end dissent) begun.ends is_dissent)
 
-  -- where one is, a run can depart from its end
-  pub IsLeftFrom-begun : (back : State) (flags there : List Bool) → back ≡ old
-      → ((end : State) → IsLedTo kit back end leads → AreDepartures kit end back flags) → there ≡ flags
-      → (attribute : ℕ) × IsFlagged flags attribute → IsLeftFrom kit back new leads there
-  IsLeftFrom-begun back flags there same tells same_flags some =
-      let departures = AreDepartures-begun back flags same tells in
+  -- where one is, some maximal run ends in another record
+  pub SomeRunDiffers-begun : (flags : List Bool) → AreDepartures kit new old flags
+      → (attribute : ℕ) × IsFlagged flags attribute → SomeRunDiffers kit old runs.first.items
+  SomeRunDiffers-begun flags departures some =
+      let found = elsewhere-exists kit begun.valid new old some.0 fits ((departures.each some.0).0 some.1) in
+      record {
+        other = found.0;
+        maximal = found.1.0;
+        differs = λ same. found.1.1 (sym same ∙ ap (record_of kit) (sym begun.ends));
+      }
+
+  -- where some maximal run ends in another record, a run can depart from the end
+  pub IsLeftFrom-begun : (flags there : List Bool) → AreDepartures kit new old flags → there ≡ flags
+      → SomeRunDiffers kit old runs.first.items → IsLeftFrom kit old new leads there
+  IsLeftFrom-begun flags there departures same some =
       let left : IsLeftFrom kit old new leads flags = record {
         led = IsLedTo-begun;
         departures = departures;
-        somewhere = (some.0, (departures.each some.0).0 some.1);
+        somewhere = CanDepart-elsewhere kit begun.valid new leads old some.other fits IsLedTo-begun some.maximal
+            (λ alike. some.differs (ap (record_of kit) (sym begun.ends) ∙ sym alike));
       } in
-      rw (same, same_flags) left
+      rw same left
 
   -- and the run that departs and goes on by a first run is the second run
-  pub IsConflict-begun : (back mid later : State) (before run second : List Step) → back ≡ old → before ≡ []
-      → BeginsElsewhere kit new back mid before run → IsCompleted kit mid later run second
+  pub IsConflict-begun : (mid later : State) (before run second : List Step) → before ≡ []
+      → BeginsElsewhere kit new old mid before run → IsCompleted kit mid later run second
       → IsConflict kit old runs.first.items second
-  IsConflict-begun back mid later before run second same empty begins_there completed =
-      let begins : BeginsElsewhere kit new old mid before run = rw same at begins_there in
+  IsConflict-begun mid later before run second empty begins completed =
       let begun_is : run ≡ begins.rest = rw empty at begins.appended in
       let whole : second ≡ begins.rest ++ completed.rest = completed.appended
       ∙ ap (λ steps. steps ++ completed.rest) begun_is in

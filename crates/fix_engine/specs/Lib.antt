@@ -5,6 +5,7 @@ pub mod Next
 pub mod Leads
 pub mod Departures
 pub mod Turns
+pub mod Searches
 pub mod Verdicts
 pub mod WorkSeen
 pub mod Coding

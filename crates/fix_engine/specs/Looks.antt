@@ -1,5 +1,6 @@
 -- What is remembered of the looks into the book.
-use Rattle.std.specs.Prelude.{◌≡◌, ℕ, ◌+◌, ◌<◌, ◌≤◌, Bool, true, false, List, length, filter, All, Option, slice_index_or, vec_capacity}
+use Rattle.std.specs.Prelude.{◌≡◌, ℕ, ◌+◌, ◌<◌, ◌≤◌, Bool, true, false, List, length, filter, All, Option, vec_capacity}
+use Rattle.std.specs.Prelude.{slice_index_or}
 use Rattle.desk_base.specs.Counts.{Counts}
 use Rattle.fix_model.specs.declared.book.Hit.{Hit}
 use Rattle.fix_model.specs.declared.kit.Kit.{Kit}
@@ -20,9 +21,10 @@ is_pending (Done answer) = false
 abbrev pub pending_count : List Remembered → ℕ
 pending_count remembered = length (filter is_pending remembered)
 
--- a rule that was looked up has its keys covered, and its answer is what a look finds
+-- a rule that was looked up has its keys and conditions covered, and its answer is what a look finds
 pub record IsKnown (kit : Kit) (state : State) (place : ℕ) (answer : Option Hit) : Type 0 where
   pub covered : All (λ key. IsCovered state key.0) (rule_at kit place).keys
+  pub conds : All (λ cond. IsCovered state cond.0) (rule_at kit place).conds
   pub found : IsFound kit (value_at kit state) (rule_at kit place) answer
 
 -- there is a memory for each rule, and each answer that is remembered holds at the state

@@ -19,13 +19,3 @@ pub record IsRoomFor (work : WorkSeen) (kit : Kit) : Type 0 where
 pub record KeepsSize (old new : WorkSeen) : Type 0 where
   pub width : new.width ≡ old.width
   pub rules : new.rules ≡ old.rules
-
--- there is room for so many attributes and rules in each of the lists
-pub record HasRoom (attributes rules first second saved reach departures looks leads : ℕ) : Type 0 where
-  pub first_room : attributes ≤ first
-  pub second_room : attributes ≤ second
-  pub saved_room : attributes ≤ saved
-  pub reach_room : attributes ≤ reach
-  pub departures_room : attributes ≤ departures
-  pub looks_room : rules ≤ looks
-  pub leads_room : rules ≤ leads

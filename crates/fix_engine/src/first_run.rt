@@ -25,8 +25,9 @@ pub fn least<L, B: Book<L>>(work: &mut Work, book: &B, state: &mut State, counts
     ensures looks { counts.new.looks ≤ counts.old.looks + length (B.kit book.now).rules }
     ensures size { KeepsSize work.old work.new }
 {
-    work.runs.begin(&mut work.looks, book, state, counts);
-    work.runs.restore(state);
+    let search = &mut work.search;
+    search.runs.begin(&mut search.looks, book, state, counts);
+    search.runs.restore(state);
 }
 
 impl Looks {

@@ -11,7 +11,7 @@ ghost use Rattle.fix_engine.specs.Leads.{AreLeads, IsLead, is_keeping, leaving_r
 ghost use Rattle.fix_engine.specs.Looks.{Knows, LooksAround};
 
 use crate::looks::Looks;
-use desk_base::Steps;
+use desk_base::{MAX_RULES, Steps};
 use fix_model::{Book, Hit, State, Step, enabled, value};
 use std::alloc::{AllocError, Global};
 
@@ -98,7 +98,7 @@ impl Leads {
 
     /// The least step that dissents where these leads were found, and nothing fires.
     pub(crate) fn dissent(&self) -> Option<Step>
-        requires { length self.now.leads.items ≤ 200 }
+        requires { length self.now.leads.items ≤ MAX_RULES }
         ensures { (kit : KitOf) (end : StateOf) → IsFinal kit end → AreLeads kit end self.now.leads.items
             → IsDissent kit end result }
     {

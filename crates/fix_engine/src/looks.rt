@@ -57,6 +57,7 @@ impl Looks {
         requires rule_within { rule < length (B.kit book.now).rules }
         requires knows { Knows (B.kit book.now) state.now self.old }
         requires covered { All (λ key. IsCovered state.now key.0) (rule_at (B.kit book.now) rule).keys }
+        requires conds { All (λ cond. IsCovered state.now cond.0) (rule_at (B.kit book.now) rule).conds }
         ensures found { IsFound (B.kit book.now) (value_at (B.kit book.now) state.now)
             (rule_at (B.kit book.now) rule) result }
         ensures looks { LooksAround (B.kit book.now) state.now self.old self.new counts.old counts.new }

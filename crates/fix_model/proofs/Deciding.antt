@@ -1,5 +1,6 @@
 -- Whether a step fires can be decided, so a run that is not maximal goes on.
-use Rattle.std.proofs.Common.{◌≡◌, ◌≢◌, ◌⊎◌, inl, inr, ◌<◌, ◌≤◌, ℕ, zero, suc, Bool, true, false, List, [], ◌∷◌, length, get_or, refl, subst, sym, arith, leb, leb-true, leb-false}
+use Rattle.std.proofs.Common.{◌≡◌, ◌≢◌, ◌⊎◌, inl, inr, ◌<◌, ◌≤◌, ℕ, zero, suc, Bool, true, false, List, [], ◌∷◌}
+use Rattle.std.proofs.Common.{length, get_or, refl, subst, sym, arith, leb, leb-true, leb-false}
 use Rattle.std.proofs.lemmas.Bool.{cases_Bool}
 use Rattle.std.proofs.lemmas.List.Elements.{All-from_recursion, recursion_from_All}
 use Rattle.std.proofs.Math.Nat.{eq-or-lt_of_le}
@@ -47,7 +48,8 @@ module _ {A : Type 0} (P : A → Type 0) (decide : (a : A) → Decided (P a)) wh
     | inr none ↦ inr (λ each. none (recursion_from_All P items each))
   ]
 
-  not_here : (a : A) (items : List A) → ¬ P a → ¬ list.Any P items → (place : ℕ) (x : A) → place < length (a ∷ items) → get_or (a ∷ items) place x ≡ x → ¬ P x
+  not_here : (a : A) (items : List A) → ¬ P a → ¬ list.Any P items → (place : ℕ) (x : A) → place < length (a ∷ items)
+      → get_or (a ∷ items) place x ≡ x → ¬ P x
   not_here a items first later zero x within is p = first (subst P (sym is) p)
   not_here a items first later (suc place) x within is p = later (place, x, omega arith, is, p)
 
@@ -63,7 +65,8 @@ module _ {A : Type 0} (P : A → Type 0) (decide : (a : A) → Decided (P a)) wh
   ]
 
 -- whether some number below a bound has a property
-pub decide_below : (P : ℕ → Type 0) → ((n : ℕ) → Decided (P n)) → (bound : ℕ) → ((n : ℕ) × (n < bound) × P n) ⊎ ((n : ℕ) → n < bound → ¬ P n)
+pub decide_below : (P : ℕ → Type 0) → ((n : ℕ) → Decided (P n)) → (bound : ℕ) → ((n : ℕ) × (n < bound) × P n)
+    ⊎ ((n : ℕ) → n < bound → ¬ P n)
 decide_below P decide zero = inr (λ n h. absurd (omega arith))
 decide_below P decide (suc bound) = elim (decide bound) [
   | inl here ↦ inl (bound, omega arith, here)
@@ -93,8 +96,10 @@ decide_alike folded one other = decide_equal (compared folded one) (compared fol
 decide_match : (folded : Bool) (pat : Pat) (text : List ℕ) → Decided (Matches folded pat text)
 decide_match folded (Is constant) text = decide_alike folded constant text
 decide_match folded (IsNot constant) text = opposite (decide_alike folded constant text)
-decide_match folded (OneOf texts) text = decide_any (λ one. AreAlike folded one text) (λ one. decide_alike folded one text) texts
-decide_match folded (NoneOf texts) text = opposite (decide_any (λ one. AreAlike folded one text) (λ one. decide_alike folded one text) texts)
+decide_match folded (OneOf texts) text = decide_any (λ one. AreAlike folded one text)
+    (λ one. decide_alike folded one text) texts
+decide_match folded (NoneOf texts) text = opposite (decide_any (λ one. AreAlike folded one text)
+    (λ one. decide_alike folded one text) texts)
 decide_match folded Any text = inl tt
 
 pub decide_less : (m n : ℕ) → Decided (m < n)
@@ -105,15 +110,21 @@ decide_less m n = elim (cases_Bool (leb n m)) [
 
 module _ (kit : Kit) (state : State) where
   decide_usable : (rule : Rule) (row : ℕ) → Decided (IsUsable kit rule row)
-  decide_usable rule row = elim (both (decide_less row (length (master_of kit rule).rows)) (both (decide_all (λ key. master_text kit rule row key.1 ≢ []) (λ key. opposite (decide_equal (master_text kit rule row key.1) [])) rule.keys) (opposite (decide_equal (from_text kit rule row) [])))) [
-    | inl h ↦ inl (record { row_within = h.0; keys = h.1.0; from = h.1.1 })
-    | inr none ↦ inr (λ u. none (u.row_within, (u.keys, u.from)))
-  ]
+  decide_usable rule row = elim (both (decide_less row (length (master_of kit rule).rows))
+      (both (decide_all (λ key. master_text kit rule row key.1 ≢ [])
+      (λ key. opposite (decide_equal (master_text kit rule row key.1) [])) rule.keys)
+      (opposite (decide_equal (from_text kit rule row) [])))) [
+        | inl h ↦ inl (record { row_within = h.0; keys = h.1.0; from = h.1.1 })
+        | inr none ↦ inr (λ u. none (u.row_within, (u.keys, u.from)))
+      ]
 
   decide_agrees : (rule : Rule) (row : ℕ) → Decided (RowAgrees kit (value_at kit state) rule row)
   decide_agrees rule row =
-      let alike = λ (key : ℕ × ℕ). AreAlike (is_folded kit key.0) (value_at kit state key.0) (master_text kit rule row key.1) in
-      elim (both (decide_usable rule row) (decide_all alike (λ key. decide_alike (is_folded kit key.0) (value_at kit state key.0) (master_text kit rule row key.1)) rule.keys)) [
+      let alike = λ (key : ℕ × ℕ). AreAlike (is_folded kit key.0) (value_at kit state key.0)
+      (master_text kit rule row key.1) in
+      elim (both (decide_usable rule row)
+      (decide_all alike (λ key. decide_alike (is_folded kit key.0) (value_at kit state key.0)
+      (master_text kit rule row key.1)) rule.keys)) [
         | inl h ↦ inl (record { usable = h.0; alike = h.1 })
         | inr none ↦ inr (λ a. none (a.usable, a.alike))
       ]
@@ -121,7 +132,10 @@ module _ (kit : Kit) (state : State) where
   decide_enabled : (rule : Rule) → Decided (IsEnabled kit state rule)
   decide_enabled rule =
       let covered = λ (attribute : ℕ). decide_test (is_covering (cell_at state attribute)) in
-      elim (both (decide_all (λ key. IsCovered state key.0) (λ key. covered key.0) rule.keys) (both (decide_all (λ cond. IsCovered state cond.0) (λ cond. covered cond.0) rule.conds) (decide_all (λ cond. Matches (is_folded kit cond.0) cond.1 (value_at kit state cond.0)) (λ cond. decide_match (is_folded kit cond.0) cond.1 (value_at kit state cond.0)) rule.conds))) [
+      elim (both (decide_all (λ key. IsCovered state key.0) (λ key. covered key.0) rule.keys)
+      (both (decide_all (λ cond. IsCovered state cond.0) (λ cond. covered cond.0) rule.conds)
+      (decide_all (λ cond. Matches (is_folded kit cond.0) cond.1 (value_at kit state cond.0))
+      (λ cond. decide_match (is_folded kit cond.0) cond.1 (value_at kit state cond.0)) rule.conds))) [
         | inl h ↦ inl (record { keys = h.0; conds = h.1.0; matched = h.1.1 })
         | inr none ↦ inr (λ e. none (e.keys, (e.conds, e.matched)))
       ]
@@ -130,18 +144,22 @@ module _ (kit : Kit) (state : State) where
   pub decide_fires : (step : Step) → Decided (Fires kit state step)
   decide_fires step =
       let rule = rule_at kit step.rule in
-      elim (both (decide_less step.rule (length kit.rules)) (both (decide_enabled rule) (both (opposite (decide_test (is_covering (cell_at state rule.head)))) (decide_agrees rule step.row)))) [
+      elim (both (decide_less step.rule (length kit.rules)) (both (decide_enabled rule)
+      (both (opposite (decide_test (is_covering (cell_at state rule.head)))) (decide_agrees rule step.row)))) [
         | inl h ↦ inl (record { rule_within = h.0; enabled = h.1.0; uncovered = h.1.1.0; agrees = h.1.1.1 })
         | inr none ↦ inr (λ f. none (f.rule_within, (f.enabled, (f.uncovered, f.agrees))))
       ]
 
-  row_of : (place : ℕ) → ((step : Step) × Fires kit state step) ⊎ ((row : ℕ) → ¬ Fires kit state (record { rule = place; row = row }))
-  row_of place = elim (decide_below (λ row. Fires kit state (record { rule = place; row = row })) (λ row. decide_fires (record { rule = place; row = row })) (length (master_of kit (rule_at kit place)).rows)) [
-    | inl found ↦ inl (record { rule = place; row = found.0 }, found.2)
-    | inr none ↦ inr (λ row fires. none row fires.agrees.usable.row_within fires)
-  ]
+  row_of : (place : ℕ) → ((step : Step) × Fires kit state step)
+      ⊎ ((row : ℕ) → ¬ Fires kit state (record { rule = place; row = row }))
+  row_of place = elim (decide_below (λ row. Fires kit state (record { rule = place; row = row }))
+      (λ row. decide_fires (record { rule = place; row = row })) (length (master_of kit (rule_at kit place)).rows)) [
+        | inl found ↦ inl (record { rule = place; row = found.0 }, found.2)
+        | inr none ↦ inr (λ row fires. none row fires.agrees.usable.row_within fires)
+      ]
 
-  some_below : (bound : ℕ) → ((step : Step) × Fires kit state step) ⊎ ((place row : ℕ) → place < bound → ¬ Fires kit state (record { rule = place; row = row }))
+  some_below : (bound : ℕ) → ((step : Step) × Fires kit state step)
+      ⊎ ((place row : ℕ) → place < bound → ¬ Fires kit state (record { rule = place; row = row }))
   some_below zero = inr (λ place row h. absurd (omega arith))
   some_below (suc bound) = elim (row_of bound) [
     | inl found ↦ inl found

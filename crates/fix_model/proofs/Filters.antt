@@ -1,5 +1,6 @@
 -- What holds of the items that pass a test.
-use Rattle.std.proofs.Common.{◌≡◌, ◌<◌, ◌+◌, ◌∙◌, ◌++◌, ℕ, inl, inr, List, [], ◌∷◌, Bool, true, false, length, take, get_or, add-one, ap, refl}
+use Rattle.std.proofs.Common.{◌≡◌, ◌<◌, ◌+◌, ◌∙◌, ◌++◌, ℕ, inl, inr, List, [], ◌∷◌, Bool, true, false, length, take}
+use Rattle.std.proofs.Common.{get_or, add-one, ap, refl}
 use Rattle.std.proofs.Math.Seq.{take-suc}
 use Rattle.std.proofs.lemmas.List.{append-nil}
 use Rattle.std.proofs.lemmas.Bool.{cases_Bool}
@@ -26,19 +27,23 @@ module _ {A : Type 0} (P : A → Type 0) (test : A → Bool) where
 
   -- what holds of each item where it passes holds of those that pass
   pub All-filter_where : (items : List A) → All (λ a. test a ≡ true → P a) items → All P (filter test items)
-  All-filter_where items h = All-from_recursion P (filter test items) (passing items (recursion_from_All (λ a. test a ≡ true → P a) items h))
+  All-filter_where items h = All-from_recursion P (filter test items)
+      (passing items (recursion_from_All (λ a. test a ≡ true → P a) items h))
 
   -- what holds of those that pass holds of each item where it passes
   pub All_where-filter : (items : List A) → All P (filter test items) → All (λ a. test a ≡ true → P a) items
-  All_where-filter items h = All-from_recursion (λ a. test a ≡ true → P a) items (all_of items (recursion_from_All P (filter test items) h))
+  All_where-filter items h = All-from_recursion (λ a. test a ≡ true → P a) items
+      (all_of items (recursion_from_All P (filter test items) h))
 
 -- where all pass, all are left
-all_pass : {A : Type 0} (test : A → Bool) (items : List A) → AllByRecursion (λ a. test a ≡ true) items → filter test items ≡ items
+all_pass : {A : Type 0} (test : A → Bool) (items : List A) → AllByRecursion (λ a. test a ≡ true) items
+    → filter test items ≡ items
 all_pass test [] h = refl
 all_pass test (a ∷ items) h = rw h.0 (ap (λ l. a ∷ l) (all_pass test items h.1))
 
 -- where all items pass, the filter leaves the list as it is
-pub filter-all : {A : Type 0} (test : A → Bool) (items : List A) → All (λ a. test a ≡ true) items → filter test items ≡ items
+pub filter-all : {A : Type 0} (test : A → Bool) (items : List A) → All (λ a. test a ≡ true) items → filter test items
+    ≡ items
 filter-all test items h = all_pass test items (recursion_from_All (λ a. test a ≡ true) items h)
 
 module _ {A : Type 0} (test : A → Bool) (items : List A) (k : ℕ) (d : A) (within : k < length items) where
@@ -47,11 +52,13 @@ module _ {A : Type 0} (test : A → Bool) (items : List A) (k : ℕ) (d : A) (wi
   filter-take = rw (add-one, take-suc items k d within) (filter-append test (take k items) (get_or items k d ∷ []))
 
   -- one item more that passes stands behind those before it
-  pub filter-take-passes : test (get_or items k d) ≡ true → filter test (take (k + 1) items) ≡ filter test (take k items) ++ get_or items k d ∷ []
+  pub filter-take-passes : test (get_or items k d) ≡ true → filter test (take (k + 1) items)
+      ≡ filter test (take k items) ++ get_or items k d ∷ []
   filter-take-passes passes = filter-take ∙ rw passes refl
 
   -- one that fails does not
-  pub filter-take-fails : test (get_or items k d) ≡ false → filter test (take (k + 1) items) ≡ filter test (take k items)
+  pub filter-take-fails : test (get_or items k d) ≡ false → filter test (take (k + 1) items)
+      ≡ filter test (take k items)
   filter-take-fails fails = filter-take ∙ rw fails (append-nil (filter test (take k items)))
 
 -- a test fails where one that it implies fails

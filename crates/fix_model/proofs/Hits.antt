@@ -10,23 +10,27 @@ use Rattle.fix_model.specs.States.{IsCovered, cell_at, is_covering}
 use Rattle.fix_model.proofs.Filters.{filter-all}
 
 -- where all keys are covered, the covered keys are all keys
-pub covered_keys-all : (state : State) (rule : Rule) → All (λ key. IsCovered state key.0) rule.keys → covered_keys state rule ≡ rule.keys
+pub covered_keys-all : (state : State) (rule : Rule) → All (λ key. IsCovered state key.0) rule.keys
+    → covered_keys state rule ≡ rule.keys
 covered_keys-all state rule covered = filter-all (λ key. is_covering (cell_at state key.0)) rule.keys covered
 
 -- where nothing below has a property, what has it is not below
-pub least_from_none_below : (P : ℕ → Type 0) (row : ℕ) → ((other : ℕ) → other < row → ¬ P other) → (other : ℕ) → P other → row ≤ other
+pub least_from_none_below : (P : ℕ → Type 0) (row : ℕ) → ((other : ℕ) → other < row → ¬ P other) → (other : ℕ)
+    → P other → row ≤ other
 least_from_none_below P row none other there = elim (cases_Bool (leb row other)) [
   | inl within ↦ leb-true row other within
   | inr below ↦ absurd (none other (leb-false row other below) there)
 ]
 
 -- of two facts of which the second fails, a test of the first tells both
-pub tells_both : (test : Bool) (P same : Type 0) → (test ≡ true → P) → (P → test ≡ true) → ¬ same → MatchBool test (P × ¬ same) (P → same)
+pub tells_both : (test : Bool) (P same : Type 0) → (test ≡ true → P) → (P → test ≡ true) → ¬ same
+    → MatchBool test (P × ¬ same) (P → same)
 tells_both true P same told back other = (told refl, other)
 tells_both false P same told back other = λ p. absurd (let e = back p in cc)
 
 -- what holds in each of two cases changes case by case
-pub match_option : {A : Type 0} {P R : Type 0} (Q S : A → Type 0) (found : Option A) → (P → R) → ((item : A) → Q item → S item) → MatchOption found P Q → MatchOption found R S
+pub match_option : {A : Type 0} {P R : Type 0} (Q S : A → Type 0) (found : Option A) → (P → R)
+    → ((item : A) → Q item → S item) → MatchOption found P Q → MatchOption found R S
 match_option Q S None none some holds = none holds
 match_option Q S (Some item) none some holds = some item holds
 
@@ -51,11 +55,13 @@ module _ (P Q : ℕ → Type 0) (to : (row : ℕ) → P row → Q row) (back : (
     pub IsHitOf-iff : (hit : Hit) → IsHitOf text P hit → IsHitOf text Q hit
     IsHitOf-iff hit found = record {
       first = IsFirstOf-iff hit.first found.first;
-      other = match_option (IsOtherOf text P hit.first) (IsOtherOf text Q hit.first) hit.other (λ none row agrees. none row (back row agrees)) (IsOtherOf-iff hit.first) found.other;
+      other = match_option (IsOtherOf text P hit.first) (IsOtherOf text Q hit.first) hit.other
+          (λ none row agrees. none row (back row agrees)) (IsOtherOf-iff hit.first) found.other;
     }
 
 -- there is a least row with a property exactly where some row has it
-pub is_some-first : (P : ℕ → Type 0) (first : Option ℕ) → MatchOption first ((row : ℕ) → ¬ P row) (IsFirstOf P) → IsTrue (is_some first) ↔ ((row : ℕ) × P row)
+pub is_some-first : (P : ℕ → Type 0) (first : Option ℕ) → MatchOption first ((row : ℕ) → ¬ P row) (IsFirstOf P)
+    → IsTrue (is_some first) ↔ ((row : ℕ) × P row)
 is_some-first P None none = (λ never. absurd (let e = never in cc), λ some. absurd (none some.0 some.1))
 is_some-first P (Some row) first = (λ told. (row, first.agrees), λ some. refl)
 
@@ -72,5 +78,6 @@ module _ (text same : ℕ → List ℕ) (P : ℕ → Type 0) (equal : (row : ℕ
   pub IsHitOf-text : (hit : Hit) → IsHitOf text P hit → IsHitOf same P hit
   IsHitOf-text hit found = record {
     first = found.first;
-    other = match_option (IsOtherOf text P hit.first) (IsOtherOf same P hit.first) hit.other (λ all row agrees. rw (equal row, equal hit.first) at (all row agrees)) (other-text hit.first) found.other;
+    other = match_option (IsOtherOf text P hit.first) (IsOtherOf same P hit.first) hit.other
+        (λ all row agrees. rw (equal row, equal hit.first) at (all row agrees)) (other-text hit.first) found.other;
   }

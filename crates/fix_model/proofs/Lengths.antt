@@ -15,17 +15,26 @@ use Rattle.fix_model.proofs.States.{Fits-after}
 
 module _ (kit : Kit) (valid : IsValid kit) where
   -- each step of a run covers one attribute more
-  pub uncovered_count-end_of : (state : State) (run : List Step) → Fits kit state → IsRun kit state run → uncovered_count (end_of kit state run) + length run ≡ uncovered_count state
+  pub uncovered_count-end_of : (state : State) (run : List Step) → Fits kit state → IsRun kit state run
+      → uncovered_count (end_of kit state run) + length run ≡ uncovered_count state
   uncovered_count-end_of state [] fits whole = omega arith
-  uncovered_count-end_of state (step ∷ run) fits whole = omega (arith, uncovered_count-step kit state step valid fits whole.0, uncovered_count-end_of (after kit state step) run (Fits-after kit state step fits whole.0) whole.1)
+  uncovered_count-end_of state (step ∷ run) fits whole = omega (
+    arith,
+    uncovered_count-step kit state step valid fits whole.0,
+    uncovered_count-end_of (after kit state step)
+        run (Fits-after kit state step fits whole.0) whole.1,
+  )
 
   -- a run leaves a state of the kit
-  pub Fits-end_of : (state : State) (run : List Step) → Fits kit state → IsRun kit state run → Fits kit (end_of kit state run)
+  pub Fits-end_of : (state : State) (run : List Step) → Fits kit state → IsRun kit state run
+      → Fits kit (end_of kit state run)
   Fits-end_of state [] fits whole = fits
-  Fits-end_of state (step ∷ run) fits whole = Fits-end_of (after kit state step) run (Fits-after kit state step fits whole.0) whole.1
+  Fits-end_of state (step ∷ run) fits whole = Fits-end_of (after kit state step) run
+      (Fits-after kit state step fits whole.0) whole.1
 
   -- from each state some run is maximal
-  go_on : (fuel : ℕ) (state : State) → uncovered_count state ≤ fuel → Fits kit state → (rest : List Step) × IsMaximalRun kit state rest
+  go_on : (fuel : ℕ) (state : State) → uncovered_count state ≤ fuel → Fits kit state → (rest : List Step)
+      × IsMaximalRun kit state rest
   go_on zero state enough fits = elim (fires_or_final kit state) [
     | inr final ↦ ([], (tt, final))
     | inl found ↦ absurd (omega (arith, uncovered_count-step kit state found.0 valid fits found.1))
@@ -33,19 +42,26 @@ module _ (kit : Kit) (valid : IsValid kit) where
   go_on (suc fuel) state enough fits = elim (fires_or_final kit state) [
     | inr final ↦ ([], (tt, final))
     | inl found ↦
-        let next = go_on fuel (after kit state found.0) (omega (arith, uncovered_count-step kit state found.0 valid fits found.1)) (Fits-after kit state found.0 fits found.1) in
+        let next = go_on fuel (after kit state found.0)
+        (omega (arith, uncovered_count-step kit state found.0 valid fits found.1))
+        (Fits-after kit state found.0 fits found.1) in
         (found.0 ∷ next.0, ((found.1, next.1.0), next.1.1))
   ]
 
   -- a run goes on to a maximal one
-  pub IsMaximalRun-exists : (state : State) (run : List Step) → Fits kit state → IsRun kit state run → (rest : List Step) × IsMaximalRun kit state (run ++ rest)
+  pub IsMaximalRun-exists : (state : State) (run : List Step) → Fits kit state → IsRun kit state run
+      → (rest : List Step) × IsMaximalRun kit state (run ++ rest)
   IsMaximalRun-exists state run fits whole =
-      let more = go_on (uncovered_count (end_of kit state run)) (end_of kit state run) (omega arith) (Fits-end_of state run fits whole) in
+      let more = go_on (uncovered_count (end_of kit state run)) (end_of kit state run) (omega arith)
+      (Fits-end_of state run fits whole) in
       (more.0, (IsRun-append kit state run more.0 whole more.1.0, rw (end_of-append kit state run more.0) more.1.1))
 
 -- covered attributes stay covered along a run, with their values
-pub IsCovered-end_of : (kit : Kit) (state : State) (run : List Step) (attribute : ℕ) → IsRun kit state run → IsCovered state attribute → IsCovered (end_of kit state run) attribute × (value_at kit (end_of kit state run) attribute ≡ value_at kit state attribute)
+pub IsCovered-end_of : (kit : Kit) (state : State) (run : List Step) (attribute : ℕ) → IsRun kit state run
+    → IsCovered state attribute → IsCovered (end_of kit state run) attribute
+    × (value_at kit (end_of kit state run) attribute ≡ value_at kit state attribute)
 IsCovered-end_of kit state [] attribute whole covered = (covered, refl)
 IsCovered-end_of kit state (step ∷ run) attribute whole covered =
-    let later = IsCovered-end_of kit (after kit state step) run attribute whole.1 (IsCovered-after kit state step whole.0 attribute covered) in
+    let later = IsCovered-end_of kit (after kit state step) run attribute whole.1
+    (IsCovered-after kit state step whole.0 attribute covered) in
     (later.0, later.1 ∙ value_at-after kit state step whole.0 attribute covered)

@@ -23,7 +23,8 @@ module _ (kit : Kit) (unfolded : IsUnfolded kit) where
     | inr within ↦ unfolded attribute false (leb-false (length kit.folded) attribute within)
   ]
 
-  pub AreAlike-exact : (attribute : ℕ) (one other : List ℕ) → AreAlike (is_folded kit attribute) one other ↔ (one ≡ other)
+  pub AreAlike-exact : (attribute : ℕ) (one other : List ℕ) → AreAlike (is_folded kit attribute) one other
+      ↔ (one ≡ other)
   AreAlike-exact attribute one other = (
     λ alike. subst (λ flag. AreAlike flag one other) (is_folded-none attribute) alike,
     λ equal. subst (λ flag. AreAlike flag one other) (sym (is_folded-none attribute)) equal,
@@ -54,10 +55,13 @@ module _ (kit : Kit) (unfolded : IsUnfolded kit) where
           uncovered = fires.uncovered;
           matched = λ k d h.
               let cond = get_or rule.conds k d in
-              exactly cond.1 (value_at kit state cond.0) (subst (λ flag. Matches flag cond.1 (value_at kit state cond.0)) (is_folded-none cond.0) (fires.enabled.matched k d h));
+              exactly cond.1 (value_at kit state cond.0)
+              (subst (λ flag. Matches flag cond.1 (value_at kit state cond.0)) (is_folded-none cond.0)
+              (fires.enabled.matched k d h));
           equal = λ k d h.
               let key = get_or rule.keys k d in
-              (AreAlike-exact key.0 (value_at kit state key.0) (master_text kit rule step.row key.1)).0 (fires.agrees.alike k d h);
+              (AreAlike-exact key.0 (value_at kit state key.0) (master_text kit rule step.row key.1)).0
+              (fires.agrees.alike k d h);
         },
         λ fires. record {
           rule_within = fires.rule_within;
@@ -66,14 +70,16 @@ module _ (kit : Kit) (unfolded : IsUnfolded kit) where
             conds = fires.conds;
             matched = λ k d h.
                 let cond = get_or rule.conds k d in
-                subst (λ flag. Matches flag cond.1 (value_at kit state cond.0)) (sym (is_folded-none cond.0)) (loosely cond.1 (value_at kit state cond.0) (fires.matched k d h));
+                subst (λ flag. Matches flag cond.1 (value_at kit state cond.0)) (sym (is_folded-none cond.0))
+                (loosely cond.1 (value_at kit state cond.0) (fires.matched k d h));
           };
           uncovered = fires.uncovered;
           agrees = record {
             usable = fires.usable;
             alike = λ k d h.
                 let key = get_or rule.keys k d in
-                (AreAlike-exact key.0 (value_at kit state key.0) (master_text kit rule step.row key.1)).1 (fires.equal k d h);
+                (AreAlike-exact key.0 (value_at kit state key.0) (master_text kit rule step.row key.1)).1
+                (fires.equal k d h);
           };
         },
       )

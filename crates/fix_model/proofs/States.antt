@@ -16,7 +16,8 @@ IsCellOf-confirmed_cell kit true = tt
 IsCellOf-confirmed_cell kit false = tt
 
 -- typed texts with a flag each are a state of every kit of that width
-pub Fits-confirmed : (kit : Kit) (state : State) (flags : List Bool) → length state.typed ≡ length flags → state.cells ≡ map confirmed_cell flags → length state.typed ≡ kit.width → Fits kit state
+pub Fits-confirmed : (kit : Kit) (state : State) (flags : List Bool) → length state.typed ≡ length flags → state.cells
+    ≡ map confirmed_cell flags → length state.typed ≡ kit.width → Fits kit state
 Fits-confirmed kit state flags even is wide = record {
   typed = wide;
   cells = rw is (length-map flags confirmed_cell ∙ sym even ∙ wide);
@@ -24,9 +25,11 @@ Fits-confirmed kit state flags even is wide = record {
 }
 
 -- a step leaves a state of the kit
-pub Fits-after : (kit : Kit) (state : State) (step : Step) → Fits kit state → Fires kit state step → Fits kit (after kit state step)
+pub Fits-after : (kit : Kit) (state : State) (step : Step) → Fits kit state → Fires kit state step
+    → Fits kit (after kit state step)
 Fits-after kit state step fits fires = record {
   typed = fits.typed;
   cells = length-set state.cells (rule_at kit step.rule).head (Fixed step) ∙ fits.cells;
-  fixed = All-set (IsCellOf kit) state.cells (rule_at kit step.rule).head (Fixed step) (fires.rule_within, fires.agrees.usable.row_within) fits.fixed;
+  fixed = All-set (IsCellOf kit) state.cells (rule_at kit step.rule).head (Fixed step)
+      (fires.rule_within, fires.agrees.usable.row_within) fits.fixed;
 }

@@ -1,5 +1,6 @@
 -- When a rule is applied with a master row, and what that changes.
-use Rattle.std.specs.Prelude.{◌≢◌, ℕ, ◌<◌, List, [], length, All, slice_set}
+use Rattle.std.specs.Prelude.{◌≢◌, ℕ, ◌<◌, Bool, ◌&&◌, List, [], length, All, count_by, slice_set}
+use Rattle.std.specs.List.{list_all}
 use Rattle.desk_base.specs.Grid.{GridRows, cell_text}
 use Rattle.fix_model.specs.declared.rule.Rule.{Rule}
 use Rattle.fix_model.specs.declared.kit.Kit.{Kit}
@@ -9,7 +10,7 @@ use Rattle.fix_model.specs.declared.state.Step.{Step}
 use Rattle.fix_model.specs.Alike.{AreAlike}
 use Rattle.fix_model.specs.Pattern.{Matches}
 use Rattle.fix_model.specs.Rules.{rule_at, master_of, master_text, is_folded}
-use Rattle.fix_model.specs.States.{IsCovered, value_at}
+use Rattle.fix_model.specs.States.{IsCovered, cell_at, is_covering, value_at}
 
 -- the row is one of the master, and neither its cells at the rule's keys nor its `from` cell is blank
 pub record IsUsableIn (master : GridRows) (rule : Rule) (row : ℕ) : Type 0 where
@@ -33,6 +34,16 @@ RowAgrees kit values rule row = RowAgreesAt kit values rule rule.keys row
 -- each condition of the rule matches the value of its attribute
 abbrev pub AreMatched : Kit → (ℕ → List ℕ) → Rule → Type 0
 AreMatched kit values rule = All (λ cond. Matches (is_folded kit cond.0) cond.1 (values cond.0)) rule.conds
+
+-- whether the rule's keys and conditions, its left side, are covered
+abbrev pub covers_left_side : State → Rule → Bool
+covers_left_side state rule =
+    list_all (λ key. is_covering (cell_at state key.0)) rule.keys
+    && list_all (λ cond. is_covering (cell_at state cond.0)) rule.conds
+
+-- how many rules have a covered left side
+abbrev pub covered_left_sides : Kit → State → ℕ
+covered_left_sides kit state = count_by (covers_left_side state) kit.rules
 
 -- the rule's keys and conditions are covered, and each condition matches; of the keys' values nothing is said
 pub record IsEnabled (kit : Kit) (state : State) (rule : Rule) : Type 0 where

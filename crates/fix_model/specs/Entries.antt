@@ -13,7 +13,8 @@ is_same_key kit key other = (key.1 == other.1) && beq (is_folded kit key.0) (is_
 
 -- the rules have the same triple: the master, the keys in their order, each as its column and its flag, and `from`
 abbrev pub has_same_triple : Kit → Rule → Rule → Bool
-has_same_triple kit rule other = (rule.master == other.master) && pointwise (is_same_key kit) rule.keys other.keys && (rule.from == other.from)
+has_same_triple kit rule other =
+    (rule.master == other.master) && pointwise (is_same_key kit) rule.keys other.keys && (rule.from == other.from)
 
 -- the first rule before the one at this place that has the same triple, or none
 abbrev pub earlier_twin : Kit → ℕ → Option ℕ

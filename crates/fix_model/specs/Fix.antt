@@ -18,7 +18,8 @@ EndAlike kit state run other = record_of kit (end_of kit state run) ≡ record_o
 pub record IsSecondRun (kit : Kit) (state : State) (first second : List Step) : Type 0 where
   pub maximal : IsMaximalRun kit state second
   pub differs : ¬ EndAlike kit state first second
-  pub least : (other : List Step) → IsMaximalRun kit state other → (¬ EndAlike kit state first other) → (second ≡ other) ⊎ IsRunBefore second other
+  pub least : (other : List Step) → IsMaximalRun kit state other → (¬ EndAlike kit state first other)
+      → (second ≡ other) ⊎ IsRunBefore second other
 
 -- every attribute is covered
 abbrev pub AreAllCovered : Kit → State → Type 0
@@ -41,7 +42,8 @@ pub record IsLeastDissent (kit : Kit) (state : State) (step : Step) : Type 0 whe
 abbrev pub IsDissent : Kit → State → Option Step → Type 0
 IsDissent kit state dissent = MatchOption dissent ((step : Step) → ¬ Dissents kit state step) (IsLeastDissent kit state)
 
--- a unique fix: every maximal run ends in the record in which the first one ends. It is certain exactly where that end covers every attribute
+-- a unique fix: every maximal run ends in the record in which the first one ends. It is certain exactly where that end
+-- covers every attribute
 pub record IsFix (kit : Kit) (state : State) (first : List Step) (certain : Bool) (dissent : Option Step) : Type 0 where
   pub is_first : IsFirstRun kit state first
   pub unique : (other : List Step) → IsMaximalRun kit state other → EndAlike kit state first other
@@ -57,6 +59,12 @@ pub record IsConflict (kit : Kit) (state : State) (first second : List Step) : T
 abbrev pub HasFix : Kit → State → Bool → Type 0
 HasFix kit state certain = (first : List Step) × (dissent : Option Step) × IsFix kit state first certain dissent
 
--- there is a conflict
+-- some maximal run ends in another record than this run
+pub record SomeRunDiffers (kit : Kit) (state : State) (run : List Step) : Type 0 where
+  pub other : List Step
+  pub maximal : IsMaximalRun kit state other
+  pub differs : ¬ EndAlike kit state run other
+
+-- there is a conflict: some maximal run ends in another record than the first
 abbrev pub HasConflict : Kit → State → Type 0
-HasConflict kit state = (first : List Step) × (second : List Step) × IsConflict kit state first second
+HasConflict kit state = (first : List Step) × IsFirstRun kit state first × SomeRunDiffers kit state first

@@ -1,6 +1,7 @@
 -- What the pattern cells of a rule match.
 use Rattle.std.specs.Prelude.{ℕ, ◌≤◌, Bool, List, length, ⊤}
 use Rattle.std.specs.List as list
+use Rattle.desk_base.specs.declared.limits.TheConstants.{MAX_SET}
 use Rattle.fix_model.specs.Alike.{AreAlike}
 use Rattle.fix_model.specs.declared.pattern.Pat.{Pat}
 use Rattle.fix_model.specs.declared.pattern.Pat.TheVariants.{Is, IsNot, OneOf, NoneOf, Any}
@@ -19,8 +20,8 @@ Matches folded Any text = ⊤
 
 -- a finite set has 1 to 64 texts
 abbrev pub IsSized : Pat → Type 0
-IsSized (OneOf texts) = (1 ≤ length texts) × (length texts ≤ 64)
-IsSized (NoneOf texts) = (1 ≤ length texts) × (length texts ≤ 64)
+IsSized (OneOf texts) = (1 ≤ length texts) × (length texts ≤ MAX_SET)
+IsSized (NoneOf texts) = (1 ≤ length texts) × (length texts ≤ MAX_SET)
 IsSized (Is constant) = ⊤
 IsSized (IsNot constant) = ⊤
 IsSized Any = ⊤

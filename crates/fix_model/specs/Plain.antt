@@ -22,7 +22,8 @@ MatchesExactly (OneOf texts) text = list.Any (λ one. one ≡ text) texts
 MatchesExactly (NoneOf texts) text = ¬ list.Any (λ one. one ≡ text) texts
 MatchesExactly Any text = ⊤
 
--- the row is usable, keys and conditions are covered and the head is not, the conditions match, and the values at the keys equal the row's cells
+-- the row is usable, keys and conditions are covered and the head is not, the conditions match, and the values at the
+-- keys equal the row's cells
 pub record FiresExactly (kit : Kit) (state : State) (step : Step) : Type 0 where
   pub rule_within : step.rule < length kit.rules
   pub usable : IsUsable kit (rule_at kit step.rule) step.row
@@ -30,4 +31,5 @@ pub record FiresExactly (kit : Kit) (state : State) (step : Step) : Type 0 where
   pub conds : All (λ cond. IsCovered state cond.0) (rule_at kit step.rule).conds
   pub uncovered : ¬ IsCovered state (rule_at kit step.rule).head
   pub matched : All (λ cond. MatchesExactly cond.1 (value_at kit state cond.0)) (rule_at kit step.rule).conds
-  pub equal : All (λ key. value_at kit state key.0 ≡ master_text kit (rule_at kit step.rule) step.row key.1) (rule_at kit step.rule).keys
+  pub equal : All (λ key. value_at kit state key.0 ≡ master_text kit (rule_at kit step.rule) step.row key.1)
+      (rule_at kit step.rule).keys

@@ -1,5 +1,6 @@
 -- Regions: attributes that are confirmed together, and where it leads to confirm them to the texts of a row.
-use Rattle.std.specs.Prelude.{◌≡◌, ◌≢◌, ◌==◌, ℕ, ◌<◌, true, false, List, [], length, map, position, All, AllPairs, Contains, Option, slice_index_or, unwrap_or}
+use Rattle.std.specs.Prelude.{◌≡◌, ◌≢◌, ◌==◌, ℕ, ◌<◌, true, false, List, [], length, map, position, All, AllPairs}
+use Rattle.std.specs.Prelude.{Contains, Option, slice_index_or, unwrap_or}
 use Rattle.std.specs.List.{range_with_len}
 use Rattle.std.specs.Option.{option_map}
 use Rattle.desk_base.specs.Places.{flags_of}

@@ -20,7 +20,8 @@ pub record Aim : Type 0 where
 
 -- it is stored as its fields
 abbrev pub aim_code : Coded Aim
-aim_code = code_by (ℕ × (List ℕ × Bool)) (coded× coded_ℕ (coded× (coded_list coded_ℕ) coded_bool)) (λ a. (a.column, (a.text, a.folded))) (λ p. record { column = p.0; text = p.1.0; folded = p.1.1 }) (λ _. refl)
+aim_code = code_by (ℕ × (List ℕ × Bool)) (coded× coded_ℕ (coded× (coded_list coded_ℕ) coded_bool))
+    (λ a. (a.column, (a.text, a.folded))) (λ p. record { column = p.0; text = p.1.0; folded = p.1.1 }) (λ _. refl)
 
 -- what a stored text is seen as
 abbrev pub aim_of : SoughtText → Aim
@@ -28,7 +29,8 @@ aim_of sought = record { column = sought.column; text = sought.text.now; folded 
 
 -- for each covered key its column, the value of its attribute, and whether that is folded
 abbrev pub aims_at : Kit → State → List (ℕ × ℕ) → List Aim
-aims_at kit state keys = map (λ key. record { column = key.1; text = value_at kit state key.0; folded = is_folded kit key.0 }) keys
+aims_at kit state keys =
+    map (λ key. record { column = key.1; text = value_at kit state key.0; folded = is_folded kit key.0 }) keys
 
 -- what a look for a rule seeks
 abbrev pub aims_of : Kit → State → Rule → List Aim

@@ -1,5 +1,6 @@
 -- The record of a clerk and its covered attributes.
-use Rattle.std.specs.Prelude.{◌≡◌, ℕ, Bool, true, false, List, [], length, filter, map, not, All, IsTrue, slice_index_or, Option, Some, None, ⊤}
+use Rattle.std.specs.Prelude.{◌≡◌, ℕ, Bool, true, false, List, [], length, filter, map, not, All, IsTrue}
+use Rattle.std.specs.Prelude.{slice_index_or, Option, Some, None, ⊤}
 use Rattle.std.specs.List.{range_with_len}
 use Rattle.fix_model.specs.declared.kit.Kit.{Kit}
 use Rattle.fix_model.specs.declared.state.Cell.{Cell}

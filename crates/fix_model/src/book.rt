@@ -4,7 +4,7 @@ ghost use Rattle.fix_model.specs.declared.kit.Kit.{Kit as KitOf};
 ghost use Rattle.fix_model.specs.Hit.{IsFound, SomeRowAgrees};
 ghost use Rattle.fix_model.specs.Rules.{rule_at, step_text, IsStepOf, is_folded};
 ghost use Rattle.fix_model.specs.States.{Fits, IsCovered, value_at};
-ghost use Rattle.fix_model.specs.Application.{AreMatched, IsEnabled};
+ghost use Rattle.fix_model.specs.Application.{AreMatched, IsEnabled, covers_left_side};
 ghost use Rattle.fix_model.specs.Valid.{IsValid, IsValidRule};
 
 use crate::pattern::matches;
@@ -87,6 +87,13 @@ pub fn enabled<L, B: Book<L>>(book: &B, state: &State, rule: &Rule) -> bool
     has_covered_keys(state, rule)
         && has_covered_conds(state, rule)
         && are_matched::<L, B>(book, state, rule)
+}
+
+/// Whether the keys and the conditions of a rule are covered.
+pub fn covers_left_side(state: &State, rule: &Rule) -> bool
+    ensures { result ≡ covers_left_side state.now rule.now }
+{
+    has_covered_keys(state, rule) && has_covered_conds(state, rule)
 }
 
 fn has_covered_keys(state: &State, rule: &Rule) -> bool

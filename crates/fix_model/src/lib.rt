@@ -21,11 +21,9 @@ mod region;
 mod rows;
 mod rule;
 mod state;
-#[cfg(test)]
-mod tests;
 
 pub use application::fires;
-pub use book::{Book, Hit, enabled, value};
+pub use book::{Book, Hit, covers_left_side, enabled, value};
 pub use comparison::{alike, text_order};
 pub use kit::Kit;
 pub use lent_book::some_row_agrees;

@@ -32,6 +32,7 @@ pub struct Sought<'a> {
 
 impl<'a> Model for Sought<'a> {
     ghost use Rattle.std.specs.Prelude.{◌≡◌, ◌≤◌, List, length, map, take};
+    ghost use Rattle.desk_base.specs.declared.limits.TheConstants.{MAX_KEYS};
     ghost use Rattle.fix_model.specs.Sought.{Aim, aim_code, aim_of};
     ghost use Rattle.std.specs.Coded.{coded_list};
 
@@ -41,7 +42,7 @@ impl<'a> Model for Sought<'a> {
 
     ghost view = { λ s. map aim_of (take s.count s.texts) };
 
-    ghost invariant = { λ s. (length s.texts ≡ 8) × (s.count ≤ 8) };
+    ghost invariant = { λ s. (length s.texts ≡ MAX_KEYS) × (s.count ≤ MAX_KEYS) };
 }
 
 impl<'a> Sought<'a> {
@@ -71,7 +72,7 @@ impl<'a> Sought<'a> {
     }
 
     fn add(&mut self, column: u16, text: &'a str, folded: bool)
-        requires { length self.old < 8 }
+        requires { length self.old < MAX_KEYS }
         ensures { self.new ≡ self.old ++ (record { column = column; text = text.now; folded = folded }) ∷ [] }
     {
         self.texts[self.count] = SoughtText {

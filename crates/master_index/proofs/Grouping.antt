@@ -1,5 +1,6 @@
 -- Entries of rows in the order of their keys, one row more at a time.
-use Rattle.std.proofs.Common.{◌≡◌, ◌≢◌, ◌⊎◌, inl, inr, ◌<◌, ◌≤◌, ◌+◌, ◌-◌, ◌∙◌, ◌++◌, ℕ, false, List, [], ◌∷◌, length, get_or, set, Some, None, ap, sym, refl, subst, arith, length-append, length-set}
+use Rattle.std.proofs.Common.{◌≡◌, ◌≢◌, ◌⊎◌, inl, inr, ◌<◌, ◌≤◌, ◌+◌, ◌-◌, ◌∙◌, ◌++◌, ℕ, false, List, [], ◌∷◌, length}
+use Rattle.std.proofs.Common.{get_or, set, Some, None, ap, sym, refl, subst, arith, length-append, length-set}
 use Rattle.std.specs.Prelude.{Option, Any}
 use Rattle.std.specs.Cmp.{IsStrictWeakOrder, IsTotalOrder, ranked}
 use Rattle.std.specs.List.Sorted.{IsSorted}
@@ -25,7 +26,8 @@ pub key_order-total : IsTotalOrder key_order
 key_order-total = lists_total nat_list_cmp_total
 
 -- a first text that ties leaves it to the rest whether the keys are one
-exact-cons : (x y : List ℕ) (xs ys : List (List ℕ)) (order : Ordering) → order ≡ slice_cmp nat_cmp x y → ordering_then order (key_order xs ys) ≡ Equal → (key_order xs ys ≡ Equal → xs ≡ ys) → (x ∷ xs) ≡ (y ∷ ys)
+exact-cons : (x y : List ℕ) (xs ys : List (List ℕ)) (order : Ordering) → order ≡ slice_cmp nat_cmp x y
+    → ordering_then order (key_order xs ys) ≡ Equal → (key_order xs ys ≡ Equal → xs ≡ ys) → (x ∷ xs) ≡ (y ∷ ys)
 exact-cons x y xs ys Less is tied rest = absurd cc
 exact-cons x y xs ys Equal is tied rest = rw (exact_bytes x y (sym is), rest tied) refl
 exact-cons x y xs ys Greater is tied rest = absurd cc
@@ -39,7 +41,8 @@ key_order-exact (x ∷ xs) (y ∷ ys) tied = exact-cons x y xs ys (slice_cmp nat
 
 -- a key is not before itself
 pub key_order-irreflexive : (one other : List (List ℕ)) → key_order one other ≡ Less → one ≢ other
-key_order-irreflexive one other less same = absurd (let e = rw same at less in let f = tied_itself key_order-total other in cc)
+key_order-irreflexive one other less same = absurd (let e = rw same at less in let f = tied_itself key_order-total
+    other in cc)
 
 -- a number that is not less than another is the other or greater
 not_less-order : (row other : ℕ) (order : Ordering) → order ≡ nat_cmp row other → is_lt order ≡ false → other ≤ row
@@ -69,9 +72,11 @@ module _ (key : ℕ → List (List ℕ)) where
   row_order-ranks = ranks_by row_order-total (λ (row : ℕ). row)
 
   -- in rows that are sorted none is before one that stands before it
-  pub not_before-sorted : (rows : List ℕ) → IsSorted (row_order key) rows → (count : ℕ) → count < length rows → (other : ℕ) → StandsBefore rows count other → is_lt (row_order key (get_or rows count 0) other) ≡ false
+  pub not_before-sorted : (rows : List ℕ) → IsSorted (row_order key) rows → (count : ℕ) → count < length rows
+      → (other : ℕ) → StandsBefore rows count other → is_lt (row_order key (get_or rows count 0) other) ≡ false
   not_before-sorted rows sorted count within other is =
-      let far = sorted_far (λ (one other : ℕ). is_lt (row_order key one other)) row_order-ranks rows sorted is.0 count 0 (omega (arith, is.1)) within in
+      let far = sorted_far (λ (one other : ℕ). is_lt (row_order key one other)) row_order-ranks rows sorted is.0 count
+      0 (omega (arith, is.1)) within in
       rw is.2 at far
 
   -- such a row of the same key has a smaller number
@@ -103,17 +108,28 @@ module _ (P : ℕ → Type 0) (row : ℕ) (behind : (other : ℕ) → P other �
         least next (inr last) differs = rw last (behind other is.agrees)
 
     -- where all give one text and this row gives it, all give it
-    same-more : (first : ℕ) → ((other : ℕ) → P other → text other ≡ text first) → text row ≡ text first → (other : ℕ) → OneMore other → text other ≡ text first
+    same-more : (first : ℕ) → ((other : ℕ) → P other → text other ≡ text first) → text row ≡ text first → (other : ℕ)
+        → OneMore other → text other ≡ text first
     same-more first all same other (inl has) = all other has
     same-more first all same other (inr last) = rw last same
 
     -- what there is to find stays, where another text is found already or this row gives the same
-    IsHitOf-kept : (first : ℕ) (other : Option ℕ) → IsHitOf text P (record { first = first; other = other }) → (other ≡ None → text row ≡ text first) → IsHitOf text OneMore (record { first = first; other = other })
-    IsHitOf-kept first None is same = record { first = first-more first is.first; other = same-more first is.other (same refl) }
-    IsHitOf-kept first (Some other) is same = record { first = first-more first is.first; other = other-more first other is.other }
+    IsHitOf-kept : (first : ℕ) (other : Option ℕ) → IsHitOf text P (record { first = first; other = other })
+        → (other ≡ None → text row ≡ text first) → IsHitOf text OneMore (record { first = first; other = other })
+    IsHitOf-kept first None is same = record {
+      first = first-more first is.first;
+      other = same-more first is.other
+          (same refl);
+    }
+    IsHitOf-kept first (Some other) is same = record {
+      first = first-more first is.first;
+      other = other-more first
+          other is.other;
+    }
 
     -- else this row is the other one
-    IsHitOf-found : (first : ℕ) → IsHitOf text P (record { first = first; other = None }) → text row ≢ text first → IsHitOf text OneMore (record { first = first; other = Some row })
+    IsHitOf-found : (first : ℕ) → IsHitOf text P (record { first = first; other = None }) → text row ≢ text first
+        → IsHitOf text OneMore (record { first = first; other = Some row })
     IsHitOf-found first is differs = record {
       first = first-more first is.first;
       other = record { agrees = inr refl; differs = differs; least = least };
@@ -124,27 +140,37 @@ module _ (P : ℕ → Type 0) (row : ℕ) (behind : (other : ℕ) → P other �
         least next (inr last) other = rw last (omega arith)
 
     -- so what there is to find is the grown entry
-    pub IsHitOf-grown : (entry grown : Hit) → IsHitOf text P entry → IsGrown text entry row grown → IsHitOf text OneMore grown
-    IsHitOf-grown entry grown is (inl kept) = subst (IsHitOf text OneMore) (sym kept.0) (IsHitOf-kept entry.first entry.other is kept.1)
-    IsHitOf-grown entry grown is (inr found) = subst (IsHitOf text OneMore) (sym found.0) (IsHitOf-found entry.first (subst (λ other. IsHitOf text P (record { first = entry.first; other = other })) found.1 is) found.2)
+    pub IsHitOf-grown : (entry grown : Hit) → IsHitOf text P entry → IsGrown text entry row grown
+        → IsHitOf text OneMore grown
+    IsHitOf-grown entry grown is (inl kept) = subst (IsHitOf text OneMore) (sym kept.0)
+        (IsHitOf-kept entry.first entry.other is kept.1)
+    IsHitOf-grown entry grown is (inr found) = subst (IsHitOf text OneMore) (sym found.0)
+        (IsHitOf-found entry.first (subst (λ other. IsHitOf text P (record { first = entry.first; other = other }))
+        found.1 is) found.2)
 
 -- a grown entry has the first row of the entry
-pub IsGrown-first : (text : ℕ → List ℕ) (entry : Hit) (row : ℕ) (grown : Hit) → IsGrown text entry row grown → grown.first ≡ entry.first
+pub IsGrown-first : (text : ℕ → List ℕ) (entry : Hit) (row : ℕ) (grown : Hit) → IsGrown text entry row grown
+    → grown.first ≡ entry.first
 IsGrown-first text entry row grown (inl kept) = ap (λ (hit : Hit). hit.first) kept.0
 IsGrown-first text entry row grown (inr found) = ap (λ (hit : Hit). hit.first) found.0
 
 -- what has a property at a place of a list is in it
-pub Any-at : {A : Type 0} (P : A → Type 0) (items : List A) (k : ℕ) (d : A) → k < length items → P (get_or items k d) → Any P items
+pub Any-at : {A : Type 0} (P : A → Type 0) (items : List A) (k : ℕ) (d : A) → k < length items → P (get_or items k d)
+    → Any P items
 Any-at P items k d within has = (k, get_or items k d, within, get_or_default items k (get_or items k d) d within, has)
 
-module _ (key : ℕ → List (List ℕ)) (text : ℕ → List ℕ) (rows : List ℕ) (count : ℕ) (entries : List Hit) (are : AreEntries key text (StandsBefore rows count) count entries) where
+module _ (key : ℕ → List (List ℕ)) (text : ℕ → List ℕ) (rows : List ℕ) (count : ℕ) (entries : List Hit)
+    (are : AreEntries key text (StandsBefore rows count) count entries) where
   -- the row that comes next
   abbrev row : ℕ
   row = get_or rows count 0
 
   -- what there is to find at another key does not change by it
-  each-unchanged : (entry : Hit) → key entry.first ≢ key row → IsEntryOf key text (StandsBefore rows count) entry → IsEntryOf key text (StandsBefore rows (count + 1)) entry
-  each-unchanged entry differs is = IsHitOf-iff (λ (other : ℕ). StandsBefore rows count other × (key other ≡ key entry.first)) (λ (other : ℕ). StandsBefore rows (count + 1) other × (key other ≡ key entry.first))
+  each-unchanged : (entry : Hit) → key entry.first ≢ key row → IsEntryOf key text (StandsBefore rows count) entry
+      → IsEntryOf key text (StandsBefore rows (count + 1)) entry
+  each-unchanged entry differs is = IsHitOf-iff (λ (other : ℕ). StandsBefore rows count other ×
+      (key other ≡ key entry.first)) (λ (other : ℕ). StandsBefore rows (count + 1) other ×
+      (key other ≡ key entry.first))
       (λ other has. ((has.0.0, omega (arith, has.0.1), has.0.2), has.1))
       (λ other has. elim (eq-or-lt_of_le (let up_to : has.0.0 ≤ count = omega (arith, has.0.1) in up_to)) [
         | inl here ↦ absurd (differs (sym has.1 ∙ ap key (sym has.0.2 ∙ ap (λ (place : ℕ). get_or rows place 0) here)))
@@ -160,7 +186,8 @@ module _ (key : ℕ → List (List ℕ)) (text : ℕ → List ℕ) (rows : List 
   ]
 
   -- a row whose key is that of the last entry makes that entry grow
-  module _ (behind : (other : ℕ) → StandsBefore rows count other → key other ≡ key row → other ≤ row) (d : Hit) (some : 0 < length entries) where
+  module _ (behind : (other : ℕ) → StandsBefore rows count other → key other ≡ key row → other ≤ row) (d : Hit)
+      (some : 0 < length entries) where
     -- the last entry
     abbrev end : Hit
     end = get_or entries (length entries - 1) d
@@ -173,8 +200,11 @@ module _ (key : ℕ → List (List ℕ)) (text : ℕ → List ℕ) (rows : List 
       -- the first rows of the entries stay
       firsts : (k : ℕ) (e : Hit) → k < length entries → (get_or changed k e).first ≡ (get_or entries k e).first
       firsts k e within = elim (eq-or-lt_of_le (let up_to : k ≤ length entries - 1 = omega arith in up_to)) [
-        | inl here ↦ rw here (ap (λ (hit : Hit). hit.first) (get_or-set_same entries (length entries - 1) grown e (omega arith)) ∙ IsGrown-first text end row grown grows ∙ ap (λ (hit : Hit). hit.first) (get_or_default entries (length entries - 1) d e (omega arith)))
-        | inr before ↦ ap (λ (hit : Hit). hit.first) (get_or-set_other entries (length entries - 1) k grown e (omega arith))
+        | inl here ↦ rw here (ap (λ (hit : Hit). hit.first) (get_or-set_same entries (length entries - 1) grown e
+            (omega arith)) ∙ IsGrown-first text end row grown grows
+            ∙ ap (λ (hit : Hit). hit.first) (get_or_default entries (length entries - 1) d e (omega arith)))
+        | inr before ↦ ap (λ (hit : Hit). hit.first) (get_or-set_other entries (length entries - 1) k grown e
+            (omega arith))
       ]
 
       -- the grown entry is what there is to find at its key
@@ -186,7 +216,8 @@ module _ (key : ℕ → List (List ℕ)) (text : ℕ → List ℕ) (rows : List 
           let after : (other : ℕ) → P other → other ≤ row = λ other has. behind other has.0 (has.1 ∙ same) in
           let more : IsHitOf text (OneMore P row after) grown = IsHitOf-grown P row after text end grown is grows in
           let keys : key grown.first ≡ key end.first = ap key first in
-          IsHitOf-iff (OneMore P row after) (λ (other : ℕ). StandsBefore rows (count + 1) other × (key other ≡ key grown.first))
+          IsHitOf-iff (OneMore P row after) (λ (other : ℕ). StandsBefore rows (count + 1) other ×
+          (key other ≡ key grown.first))
           (λ other has. elim has [
             | inl before ↦ ((before.0.0, omega (arith, before.0.1), before.0.2), before.1 ∙ sym keys)
             | inr here ↦ ((count, omega arith, sym here), ap key here ∙ sym same ∙ sym keys)
@@ -205,12 +236,15 @@ module _ (key : ℕ → List (List ℕ)) (text : ℕ → List ℕ) (rows : List 
             each = λ k e h.
                 let within : k < length entries = omega (arith, size) in
                 elim (eq-or-lt_of_le (let up_to : k ≤ length entries - 1 = omega arith in up_to)) [
-                  | inl here ↦ rw here (rw (get_or-set_same entries (length entries - 1) grown e (omega arith)) grown-is)
+                  | inl here ↦ rw here (rw (get_or-set_same entries (length entries - 1) grown e (omega arith))
+                      grown-is)
                   | inr before ↦
-                      let differs : key (get_or entries k d).first ≢ key end.first = key_order-irreflexive _ _ (are.ascending k (length entries - 1) d before (omega arith)) in
+                      let differs : key (get_or entries k d).first ≢ key end.first = key_order-irreflexive
+                      _ _ (are.ascending k (length entries - 1) d before (omega arith)) in
                       let there = get_or_default entries k e d within in
                       rw (get_or-set_other entries (length entries - 1) k grown e (omega arith))
-                      (each-unchanged (get_or entries k e) (λ is. differs (ap (λ (hit : Hit). key hit.first) (sym there) ∙ is ∙ sym same)) (are.each k e within))
+                      (each-unchanged (get_or entries k e) (λ is. differs
+                      (ap (λ (hit : Hit). key hit.first) (sym there) ∙ is ∙ sym same)) (are.each k e within))
                 ];
             ascending = λ i j e below h.
                 let inside : j < length entries = omega (arith, size) in
@@ -220,7 +254,9 @@ module _ (key : ℕ → List (List ℕ)) (text : ℕ → List ℕ) (rows : List 
                   let found = are.whole other before in
                   let inside : found.0 < length entries = found.2 in
                   Any-at (λ (hit : Hit). key hit.first ≡ key other) changed found.0 d (omega (arith, size))
-                  (ap key (firsts found.0 d inside) ∙ ap (λ (hit : Hit). key hit.first) (get_or_default entries found.0 d found.1 inside ∙ found.3) ∙ found.4)
+                  (ap key (firsts found.0 d inside)
+                  ∙ ap (λ (hit : Hit). key hit.first) (get_or_default entries found.0 d found.1 inside ∙ found.3)
+                  ∙ found.4)
               | inr here ↦
                   Any-at (λ (hit : Hit). key hit.first ≡ key other) changed (length entries - 1) d (omega (arith, size))
                   (ap key (firsts (length entries - 1) d (omega arith)) ∙ same ∙ ap key (sym here))
@@ -228,34 +264,44 @@ module _ (key : ℕ → List (List ℕ)) (text : ℕ → List ℕ) (rows : List 
             few = omega (arith, size, are.few);
           }
 
-  -- where the last entry has another key than a row that is not before the others, the row's key is behind those of all entries
-  module _ (not_before : (other : ℕ) → StandsBefore rows count other → is_lt (row_order key row other) ≡ false) (other_key : ¬ EndsWithKey key entries row) where
+  -- where the last entry has another key than a row that is not before the others, the row's key is behind those of all
+  -- entries
+  module _ (not_before : (other : ℕ) → StandsBefore rows count other → is_lt (row_order key row other) ≡ false)
+      (other_key : ¬ EndsWithKey key entries row) where
     -- what is read past the last entry
     abbrev nothing : Hit
     nothing = record { first = 0; other = None }
 
     -- the key of the last entry is before that of the row
-    last-less : 0 < length entries → key_order (key (get_or entries (length entries - 1) nothing).first) (key row) ≡ Less
+    last-less : 0 < length entries → key_order (key (get_or entries (length entries - 1) nothing).first) (key row)
+        ≡ Less
     last-less some =
         let end = get_or entries (length entries - 1) nothing in
-        let is : IsEntryOf key text (StandsBefore rows count) end = are.each (length entries - 1) nothing (omega arith) in
+        let is : IsEntryOf key text (StandsBefore rows count) end = are.each (length entries - 1) nothing
+        (omega arith) in
         let order = key_order (key row) (key end.first) in
-        let not_less : is_lt order ≡ false = first_not_less order (nat_cmp row end.first) (not_before end.first is.first.agrees.0) in
-        let greater : order ≡ Greater = is_greater order not_less (λ tied. other_key (some, sym (key_order-exact (key row) (key end.first) tied))) in
+        let not_less : is_lt order ≡ false = first_not_less order (nat_cmp row end.first)
+        (not_before end.first is.first.agrees.0) in
+        let greater : order ≡ Greater = is_greater order not_less
+        (λ tied. other_key (some, sym (key_order-exact (key row) (key end.first) tied))) in
         key_order-total.antisymm (key end.first) (key row) ∙ ap ordering_reverse greater
 
     -- so are those of all entries
-    pub ahead-other_key : (k : ℕ) (d : Hit) → k < length entries → key_order (key (get_or entries k d).first) (key row) ≡ Less
+    pub ahead-other_key : (k : ℕ) (d : Hit) → k < length entries
+        → key_order (key (get_or entries k d).first) (key row) ≡ Less
     ahead-other_key k d within =
         let some : 0 < length entries = omega arith in
         let there = get_or_default entries k d nothing within in
         elim (eq-or-lt_of_le (let up_to : k ≤ length entries - 1 = omega arith in up_to)) [
           | inl here ↦ rw (there, here) (last-less some)
-          | inr before ↦ rw there (key_order-total.trans (key (get_or entries k nothing).first) (key (get_or entries (length entries - 1) nothing).first) (key row) (are.ascending k (length entries - 1) nothing before (omega arith)) (last-less some))
+          | inr before ↦ rw there (key_order-total.trans (key (get_or entries k nothing).first)
+              (key (get_or entries (length entries - 1) nothing).first) (key row)
+              (are.ascending k (length entries - 1) nothing before (omega arith)) (last-less some))
         ]
 
   -- a row whose key is behind those of all entries has an entry of its own
-  module _ (ahead : (k : ℕ) (d : Hit) → k < length entries → key_order (key (get_or entries k d).first) (key row) ≡ Less) where
+  module _ (ahead : (k : ℕ) (d : Hit) → k < length entries → key_order (key (get_or entries k d).first) (key row)
+      ≡ Less) where
     -- the entry of the row alone
     abbrev own : Hit
     own = record { first = row; other = None }
@@ -265,7 +311,8 @@ module _ (key : ℕ → List (List ℕ)) (text : ℕ → List ℕ) (rows : List 
     none-before other before same =
         let found = are.whole other before in
         let there = get_or_default entries found.0 found.1 found.1 found.2 in
-        key_order-irreflexive _ _ (ahead found.0 found.1 found.2) (ap (λ (hit : Hit). key hit.first) found.3 ∙ found.4 ∙ same)
+        key_order-irreflexive _ _ (ahead found.0 found.1 found.2)
+        (ap (λ (hit : Hit). key hit.first) found.3 ∙ found.4 ∙ same)
 
     -- its entry is what there is to find at its key
     own-is : IsEntryOf key text (StandsBefore rows (count + 1)) own
@@ -291,25 +338,46 @@ module _ (key : ℕ → List (List ℕ)) (text : ℕ → List ℕ) (rows : List 
           each = λ k e h. elim (eq-or-lt_of_le (let up_to : k ≤ length entries = omega (arith, size) in up_to)) [
             | inl here ↦ rw here (rw (get_or-append_seam entries own [] e) own-is)
             | inr before ↦ rw (get_or_append_left entries (own ∷ []) e k before)
-                (each-unchanged (get_or entries k e) (key_order-irreflexive _ _ (ahead k e before)) (are.each k e before))
+                (each-unchanged (get_or entries k e) (key_order-irreflexive _ _ (ahead k e before))
+                (are.each k e before))
           ];
-          ascending = λ i j e below h. elim (eq-or-lt_of_le (let up_to : j ≤ length entries = omega (arith, size) in up_to)) [
-            | inl here ↦
-                let inside : i < length entries = omega arith in
-                rw (here, get_or-append_seam entries own [] e, get_or_append_left entries (own ∷ []) e i inside) (ahead i e inside)
-            | inr before ↦ rw (get_or_append_left entries (own ∷ []) e j before, get_or_append_left entries (own ∷ []) e i (omega arith)) (are.ascending i j e below before)
-          ];
+          ascending = λ i j e below h. elim (eq-or-lt_of_le (let up_to : j ≤ length entries = omega (arith, size)
+              in up_to)) [
+                | inl here ↦
+                    let inside : i < length entries = omega arith in
+                    rw (here, get_or-append_seam entries own [] e, get_or_append_left entries (own ∷ []) e i inside)
+                    (ahead i e inside)
+                | inr before ↦ rw (
+                  get_or_append_left entries (own ∷ []) e j before,
+                  get_or_append_left entries (own ∷ [])
+                      e i (omega arith),
+                ) (are.ascending i j e below before)
+              ];
           whole = λ other is. elim (stands other is) [
             | inl before ↦
-                let found = are.whole other before in
-                (found.0, found.1, omega (arith, size, found.2), get_or_append_left entries (own ∷ []) found.1 found.0 found.2 ∙ found.3, found.4)
-            | inr here ↦ (length entries, own, omega (arith, size), get_or-append_seam entries own [] own, ap key (sym here))
+                let found = are.whole other before in (
+                  found.0,
+                  found.1,
+                  omega (arith, size, found.2),
+                  get_or_append_left entries (own ∷ []) found.1 found.0
+                      found.2 ∙ found.3,
+                  found.4,
+                )
+            | inr here ↦ (
+              length entries,
+              own,
+              omega (arith, size),
+              get_or-append_seam entries own [] own,
+              ap key
+                  (sym here),
+            )
           ];
           few = omega (arith, size, are.few);
         }
 
 -- no entries are those of no rows
-pub AreEntries-nil : (key : ℕ → List (List ℕ)) (text : ℕ → List ℕ) (rows : List ℕ) → AreEntries key text (StandsBefore rows 0) 0 []
+pub AreEntries-nil : (key : ℕ → List (List ℕ)) (text : ℕ → List ℕ) (rows : List ℕ)
+    → AreEntries key text (StandsBefore rows 0) 0 []
 AreEntries-nil key text rows = record {
   each = λ k d h. absurd (omega arith);
   ascending = λ i j d below h. absurd (omega arith);
@@ -318,11 +386,15 @@ AreEntries-nil key text rows = record {
 }
 
 -- entries of listed rows are those of rows that are listed otherwise
-pub AreEntries-iff : (key : ℕ → List (List ℕ)) (text : ℕ → List ℕ) (P Q : ℕ → Type 0) (to : (row : ℕ) → P row → Q row) (back : (row : ℕ) → Q row → P row) (count more : ℕ) (entries : List Hit) → count ≤ more → AreEntries key text P count entries → AreEntries key text Q more entries
+pub AreEntries-iff : (key : ℕ → List (List ℕ)) (text : ℕ → List ℕ) (P Q : ℕ → Type 0) (to : (row : ℕ) → P row → Q row)
+    (back : (row : ℕ) → Q row → P row) (count more : ℕ) (entries : List Hit) → count ≤ more
+    → AreEntries key text P count entries → AreEntries key text Q more entries
 AreEntries-iff key text P Q to back count more entries up_to are = record {
   each = λ k d h.
       let entry = get_or entries k d in
-      IsHitOf-iff (λ (row : ℕ). P row × (key row ≡ key entry.first)) (λ (row : ℕ). Q row × (key row ≡ key entry.first)) (λ row has. (to row has.0, has.1)) (λ row has. (back row has.0, has.1)) text entry (are.each k d h);
+      IsHitOf-iff (λ (row : ℕ). P row × (key row ≡ key entry.first))
+      (λ (row : ℕ). Q row × (key row ≡ key entry.first)) (λ row has. (to row has.0, has.1))
+      (λ row has. (back row has.0, has.1)) text entry (are.each k d h);
   ascending = are.ascending;
   whole = λ row is. are.whole row (back row is);
   few = omega (arith, are.few);

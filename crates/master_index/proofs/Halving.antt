@@ -1,5 +1,6 @@
 -- The search for a key among entries by halves, and how many comparisons it makes.
-use Rattle.std.proofs.Common.{◌≡◌, ◌≢◌, ◌⊎◌, inl, inr, ◌<◌, ◌≤◌, ◌+◌, ◌-◌, ◌*◌, ◌/◌, ◌^◌, ◌∙◌, min, ℕ, List, [], ◌∷◌, length, get_or, map, ap, sym, refl, add-one, arith, leb, leb-true, leb-false}
+use Rattle.std.proofs.Common.{◌≡◌, ◌≢◌, ◌⊎◌, inl, inr, ◌<◌, ◌≤◌, ◌+◌, ◌-◌, ◌*◌, ◌/◌, ◌^◌, ◌∙◌, min, ℕ, List, [], ◌∷◌}
+use Rattle.std.proofs.Common.{length, get_or, map, ap, sym, refl, add-one, arith, leb, leb-true, leb-false}
 use Rattle.std.specs.List.{AllByRecursion}
 use Rattle.std.specs.Ordering.{ordering_reverse}
 use Rattle.std.specs.declared.cmp.Ordering.TheVariants.{Less, Equal, Greater}
@@ -23,11 +24,13 @@ use Rattle.master_index.specs.Sorted.{AreEntries, AreEntriesOf}
 use Rattle.master_index.proofs.Grouping.{key_order-exact, key_order-irreflexive, key_order-total}
 
 -- the entries before one place are before the key, and those from another on behind it
-pub record IsNarrowed (key : ℕ → List (List ℕ)) (entries : List Hit) (sought : List (List ℕ)) (low high : ℕ) : Type 0 where
-  pub low_high : low ≤ high
-  pub within : high ≤ length entries
-  pub below : (k : ℕ) (d : Hit) → k < low → key_order (key (get_or entries k d).first) sought ≡ Less
-  pub above : (k : ℕ) (d : Hit) → high ≤ k → k < length entries → key_order (key (get_or entries k d).first) sought ≡ Greater
+pub record IsNarrowed (key : ℕ → List (List ℕ)) (entries : List Hit) (sought : List (List ℕ)) (low high : ℕ) : Type 0
+  where
+    pub low_high : low ≤ high
+    pub within : high ≤ length entries
+    pub below : (k : ℕ) (d : Hit) → k < low → key_order (key (get_or entries k d).first) sought ≡ Less
+    pub above : (k : ℕ) (d : Hit) → high ≤ k → k < length entries → key_order (key (get_or entries k d).first) sought
+        ≡ Greater
 
 -- a key that is behind another has it before itself
 turned_greater : (one other : List (List ℕ)) → key_order one other ≡ Greater → key_order other one ≡ Less
@@ -45,7 +48,8 @@ below_or one other = elim (cases_Bool (leb other one)) [
 ]
 
 -- at the beginning nothing is known
-pub IsNarrowed-whole : (key : ℕ → List (List ℕ)) (entries : List Hit) (sought : List (List ℕ)) → IsNarrowed key entries sought 0 (length entries)
+pub IsNarrowed-whole : (key : ℕ → List (List ℕ)) (entries : List Hit) (sought : List (List ℕ))
+    → IsNarrowed key entries sought 0 (length entries)
 IsNarrowed-whole key entries sought = record {
   low_high = omega arith;
   within = omega arith;
@@ -53,12 +57,14 @@ IsNarrowed-whole key entries sought = record {
   above = λ k d h g. absurd (omega arith);
 }
 
-module _ (key : ℕ → List (List ℕ)) (text : ℕ → List ℕ) (IsListed : ℕ → Type 0) (count : ℕ) (entries : List Hit) (are : AreEntries key text IsListed count entries) (sought : List (List ℕ)) where
+module _ (key : ℕ → List (List ℕ)) (text : ℕ → List ℕ) (IsListed : ℕ → Type 0) (count : ℕ) (entries : List Hit)
+    (are : AreEntries key text IsListed count entries) (sought : List (List ℕ)) where
   -- the key of the entry at a place
   abbrev key_at : ℕ → Hit → List (List ℕ)
   key_at k d = key (get_or entries k d).first
 
-  module _ (low high middle : ℕ) (d : Hit) (narrowed : IsNarrowed key entries sought low high) (from : low ≤ middle) (to : middle < high) where
+  module _ (low high middle : ℕ) (d : Hit) (narrowed : IsNarrowed key entries sought low high) (from : low ≤ middle)
+      (to : middle < high) where
     -- an entry before the key has all entries up to it before the key
     pub IsNarrowed-less : key_order (key_at middle d) sought ≡ Less → IsNarrowed key entries sought (middle + 1) high
     IsNarrowed-less less = record {
@@ -66,7 +72,9 @@ module _ (key : ℕ → List (List ℕ)) (text : ℕ → List ℕ) (IsListed : �
       within = narrowed.within;
       below = λ k e h. elim (eq-or-lt_of_le (let up_to : k ≤ middle = omega arith in up_to)) [
         | inl here ↦ rw (here, get_or_default entries middle e d (omega (arith, narrowed.within))) less
-        | inr before ↦ rw (get_or_default entries k e d (omega (arith, narrowed.within))) (key_order-total.trans (key_at k d) (key_at middle d) sought (are.ascending k middle d before (omega (arith, narrowed.within))) less)
+        | inr before ↦ rw (get_or_default entries k e d (omega (arith, narrowed.within)))
+            (key_order-total.trans (key_at k d) (key_at middle d) sought
+            (are.ascending k middle d before (omega (arith, narrowed.within))) less)
       ];
       above = narrowed.above;
     }
@@ -80,28 +88,33 @@ module _ (key : ℕ → List (List ℕ)) (text : ℕ → List ℕ) (IsListed : �
       above = λ k e h g. elim (eq-or-lt_of_le h) [
         | inl here ↦ rw (← here, get_or_default entries middle e d (omega (arith, narrowed.within))) greater
         | inr behind ↦ rw (get_or_default entries k e d g)
-            (turned_less sought (key_at k d) (key_order-total.trans sought (key_at middle d) (key_at k d) (turned_greater (key_at middle d) sought greater) (are.ascending middle k d behind g)))
+            (turned_less sought (key_at k d) (key_order-total.trans sought (key_at middle d) (key_at k d)
+            (turned_greater (key_at middle d) sought greater) (are.ascending middle k d behind g)))
       ];
     }
 
   -- where nothing is left, no listed row has the key
-  pub none-narrowed : (low high : ℕ) → IsNarrowed key entries sought low high → high ≤ low → (row : ℕ) → IsListed row → key row ≢ sought
+  pub none-narrowed : (low high : ℕ) → IsNarrowed key entries sought low high → high ≤ low → (row : ℕ) → IsListed row
+      → key row ≢ sought
   none-narrowed low high narrowed ended row listed same =
       let found = are.whole row listed in
       let k : ℕ = found.0 in
       let is : key_at k found.1 ≡ sought = ap (λ (hit : Hit). key hit.first) found.3 ∙ found.4 ∙ same in
       elim (below_or k low) [
         | inl before ↦ key_order-irreflexive (key_at k found.1) sought (narrowed.below k found.1 before) is
-        | inr behind ↦ (let greater = narrowed.above k found.1 (omega arith) found.2 in absurd (let e = rw is at greater in let f = tied_itself key_order-total sought in cc))
+        | inr behind ↦ (let greater = narrowed.above k found.1 (omega arith) found.2
+            in absurd (let e = rw is at greater in let f = tied_itself key_order-total sought in cc))
       ]
 
 -- two functions that give the same for each item give the same list
-map-same : {A B : Type 0} (f g : A → B) (items : List A) → AllByRecursion (λ item. f item ≡ g item) items → map f items ≡ map g items
+map-same : {A B : Type 0} (f g : A → B) (items : List A) → AllByRecursion (λ item. f item ≡ g item) items
+    → map f items ≡ map g items
 map-same f g [] same = refl
 map-same f g (item ∷ items) same = rw (same.0, map-same f g items same.1) refl
 
 -- and back
-same-map : {A B : Type 0} (f g : A → B) (items : List A) → map f items ≡ map g items → AllByRecursion (λ item. f item ≡ g item) items
+same-map : {A B : Type 0} (f g : A → B) (items : List A) → map f items ≡ map g items
+    → AllByRecursion (λ item. f item ≡ g item) items
 same-map f g [] same = tt
 same-map f g (item ∷ items) same = (cc, same-map f g items cc)
 
@@ -115,30 +128,39 @@ module _ (kit : Kit) (values : ℕ → List ℕ) (rule : Rule) where
   value key = compared (is_folded kit key.0) (values key.0)
 
   -- a usable row whose key is what is sought agrees
-  pub RowAgrees-key : (row : ℕ) → IsUsable kit rule row → row_key kit rule row ≡ sought_key kit values rule → RowAgrees kit values rule row
+  pub RowAgrees-key : (row : ℕ) → IsUsable kit rule row → row_key kit rule row ≡ sought_key kit values rule
+      → RowAgrees kit values rule row
   RowAgrees-key row usable same = record {
     usable = usable;
-    alike = All-from_recursion (λ (key : ℕ × ℕ). value key ≡ cell row key) rule.keys (same-map value (cell row) rule.keys (sym same));
+    alike = All-from_recursion (λ (key : ℕ × ℕ). value key ≡ cell row key) rule.keys
+        (same-map value (cell row) rule.keys (sym same));
   }
 
   -- and a row that agrees has this key
   pub row_key-agreeing : (row : ℕ) → RowAgrees kit values rule row → row_key kit rule row ≡ sought_key kit values rule
-  row_key-agreeing row agrees = sym (map-same value (cell row) rule.keys (recursion_from_All (λ (key : ℕ × ℕ). value key ≡ cell row key) rule.keys agrees.alike))
+  row_key-agreeing row agrees = sym (map-same value (cell row) rule.keys
+      (recursion_from_All (λ (key : ℕ × ℕ). value key ≡ cell row key) rule.keys agrees.alike))
 
   module _ (entries : List Hit) (are : AreEntriesOf kit rule entries) where
     -- the entry at the key is what a look finds
-    pub IsHit-entry : (k : ℕ) (d : Hit) → k < length entries → key_order (row_key kit rule (get_or entries k d).first) (sought_key kit values rule) ≡ Equal → IsHit kit values rule (get_or entries k d)
+    pub IsHit-entry : (k : ℕ) (d : Hit) → k < length entries
+        → key_order (row_key kit rule (get_or entries k d).first) (sought_key kit values rule) ≡ Equal
+        → IsHit kit values rule (get_or entries k d)
     IsHit-entry k d within tied =
         let entry = get_or entries k d in
         let same = key_order-exact (row_key kit rule entry.first) (sought_key kit values rule) tied in
-        IsHitOf-iff (λ (row : ℕ). IsUsable kit rule row × (row_key kit rule row ≡ row_key kit rule entry.first)) (RowAgrees kit values rule)
+        IsHitOf-iff (λ (row : ℕ). IsUsable kit rule row × (row_key kit rule row ≡ row_key kit rule entry.first))
+        (RowAgrees kit values rule)
         (λ row has. RowAgrees-key row has.0 (has.1 ∙ same))
         (λ row agrees. (agrees.usable, row_key-agreeing row agrees ∙ sym same))
         (from_text kit rule) entry (are.each k d within)
 
     -- where nothing is left, a look finds nothing
-    pub IsMissed-narrowed : (low high : ℕ) → IsNarrowed (row_key kit rule) entries (sought_key kit values rule) low high → high ≤ low → IsMissed kit values rule
-    IsMissed-narrowed low high narrowed ended row agrees = none-narrowed (row_key kit rule) (from_text kit rule) (IsUsable kit rule) (length (master_of kit rule).rows) entries are (sought_key kit values rule) low high narrowed ended row agrees.usable (row_key-agreeing row agrees)
+    pub IsMissed-narrowed : (low high : ℕ) → IsNarrowed (row_key kit rule) entries (sought_key kit values rule) low
+        high → high ≤ low → IsMissed kit values rule
+    IsMissed-narrowed low high narrowed ended row agrees = none-narrowed (row_key kit rule) (from_text kit rule)
+        (IsUsable kit rule) (length (master_of kit rule).rows) entries are (sought_key kit values rule) low high
+        narrowed ended row agrees.usable (row_key-agreeing row agrees)
 
 -- some comparisons more were made, and each halved what is left
 pub record IsHalved (size left : ℕ) (old new : Counts) : Type 0 where
@@ -149,7 +171,8 @@ pub record IsHalved (size left : ℕ) (old new : Counts) : Type 0 where
   pub looks : new.looks ≡ old.looks
 
 -- at the beginning none was made
-pub IsHalved-none : (size left : ℕ) (counts : Counts) → left ≤ size → counts.compares ≤ 2 ^ 64 - 1 → IsHalved size left counts counts
+pub IsHalved-none : (size left : ℕ) (counts : Counts) → left ≤ size → counts.compares ≤ 2 ^ 64 - 1
+    → IsHalved size left counts counts
 IsHalved-none size left counts up_to fits = record {
   more = 0;
   halved = omega arith;
@@ -159,7 +182,9 @@ IsHalved-none size left counts up_to fits = record {
 }
 
 -- one comparison leaves at most half
-pub IsHalved-once : (size left rest : ℕ) (old before new : Counts) → IsHalved size left old before → 0 < left → 2 * rest ≤ left → new ≡ record before { compares = min (before.compares + 1) (2 ^ 64 - 1) } → IsHalved size rest old new
+pub IsHalved-once : (size left rest : ℕ) (old before new : Counts) → IsHalved size left old before → 0 < left
+    → 2 * rest ≤ left → new ≡ record before { compares = min (before.compares + 1) (2 ^ 64 - 1) }
+    → IsHalved size rest old new
 IsHalved-once size left rest old before new halved some half is =
     let power : 2 ^ (halved.more + 1) ≡ 2 ^ halved.more * 2 = rw add-one (pow-suc 2 halved.more) in
     let smaller : 2 ^ halved.more * (2 * rest) ≤ 2 ^ halved.more * left = mul-le-mul_left (2 ^ halved.more) half in
@@ -173,11 +198,13 @@ IsHalved-once size left rest old before new halved some half is =
     }
 
 -- so the comparisons are no more than the number of entries has digits, and of no more rows than that
-pub RisesByDigits-halved : (size rows left : ℕ) (old new : Counts) → IsHalved size left old new → size ≤ rows → RisesByDigits rows old new
+pub RisesByDigits-halved : (size rows left : ℕ) (old new : Counts) → IsHalved size left old new → size ≤ rows
+    → RisesByDigits rows old new
 RisesByDigits-halved size rows left old new halved few = (halved.more, omega (arith, halved.few), halved.compares)
 
 -- and their count does not fall
-pub compares-halved : (size left : ℕ) (old new : Counts) → IsHalved size left old new → old.compares ≤ 2 ^ 64 - 1 → old.compares ≤ new.compares
+pub compares-halved : (size left : ℕ) (old new : Counts) → IsHalved size left old new → old.compares ≤ 2 ^ 64 - 1
+    → old.compares ≤ new.compares
 compares-halved size left old new halved fits = omega (arith, halved.compares)
 
 -- half of a number, twice, is the number or one less

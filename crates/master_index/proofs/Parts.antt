@@ -1,5 +1,6 @@
 -- The entries of each owner, one owner more at a time, and of each rule.
-use Rattle.std.proofs.Common.{◌≡◌, ◌<◌, ◌≤◌, ◌+◌, ◌++◌, ◌∷◌, ℕ, List, [], length, get_or, inl, inr, sym, arith, length-append}
+use Rattle.std.proofs.Common.{◌≡◌, ◌<◌, ◌≤◌, ◌+◌, ◌++◌, ◌∷◌, ℕ, List, [], length, get_or, inl, inr, sym, arith}
+use Rattle.std.proofs.Common.{length-append}
 use Rattle.std.specs.Prelude.{All, is_none}
 use Rattle.std.specs.List.{range_with_len}
 use Rattle.std.proofs.lemmas.List.Elements.{All-filter}
@@ -21,19 +22,23 @@ use Rattle.master_index.specs.Triples.{AreTriplesOf, ShareTriple}
 use Rattle.master_index.proofs.Sharing.{from_text-shared, IsUsable-shared, masters, row_key-shared, ShareTriple-sym}
 
 -- one owner more has its entries
-pub AreSortedBefore-next : (kit : Kit) (owners : List ℕ) (count : ℕ) (parts : List (List Hit)) (entries : List Hit) → AreSortedBefore kit owners count parts → AreEntriesOf kit (rule_at kit (get_or owners count 0)) entries → AreSortedBefore kit owners (count + 1) (parts ++ entries ∷ [])
+pub AreSortedBefore-next : (kit : Kit) (owners : List ℕ) (count : ℕ) (parts : List (List Hit)) (entries : List Hit)
+    → AreSortedBefore kit owners count parts → AreEntriesOf kit (rule_at kit (get_or owners count 0)) entries
+    → AreSortedBefore kit owners (count + 1) (parts ++ entries ∷ [])
 AreSortedBefore-next kit owners count parts entries before are = record {
   size = omega (arith, length-append parts (entries ∷ []), before.size);
   each = λ place below.
       let up_to : place ≤ count = omega arith in
       elim (eq-or-lt_of_le up_to) [
         | inl here ↦ rw (here, ← before.size, get_or-append_seam parts entries [] []) (rw before.size are)
-        | inr earlier ↦ rw (get_or_append_left parts (entries ∷ []) [] place (omega (arith, before.size))) (before.each place earlier)
+        | inr earlier ↦ rw (get_or_append_left parts (entries ∷ []) [] place (omega (arith, before.size)))
+            (before.each place earlier)
       ];
 }
 
 -- the entries of a rule are those of each rule that shares its triple
-pub AreEntriesOf-shared : (kit : Kit) (rule other : Rule) (entries : List Hit) → ShareTriple kit rule other → AreEntriesOf kit other entries → AreEntriesOf kit rule entries
+pub AreEntriesOf-shared : (kit : Kit) (rule other : Rule) (entries : List Hit) → ShareTriple kit rule other
+    → AreEntriesOf kit other entries → AreEntriesOf kit rule entries
 AreEntriesOf-shared kit rule other entries shares are =
     let keys = row_key-shared kit rule other shares in
     let texts = from_text-shared kit rule other shares in
@@ -41,12 +46,16 @@ AreEntriesOf-shared kit rule other entries shares are =
     record {
       each = λ k d h.
           let entry = get_or entries k d in
-          IsHitOf-iff (λ (row : ℕ). IsUsable kit other row × (row_key kit other row ≡ row_key kit other entry.first)) (λ (row : ℕ). IsUsable kit rule row × (row_key kit rule row ≡ row_key kit rule entry.first))
+          IsHitOf-iff (λ (row : ℕ). IsUsable kit other row × (row_key kit other row ≡ row_key kit other entry.first))
+          (λ (row : ℕ). IsUsable kit rule row × (row_key kit rule row ≡ row_key kit rule entry.first))
           (λ row has. (IsUsable-shared kit other rule back row has.0, rw (keys row, keys entry.first) has.1))
           (λ row has. (IsUsable-shared kit rule other shares row has.0, rw (keys row, keys entry.first) at has.1))
           (from_text kit rule) entry
-          (IsHitOf-text (from_text kit other) (from_text kit rule) (λ row. IsUsable kit other row × (row_key kit other row ≡ row_key kit other entry.first)) (λ row. sym (texts row)) entry (are.each k d h));
-      ascending = λ i j d below h. rw (keys (get_or entries i d).first, keys (get_or entries j d).first) (are.ascending i j d below h);
+          (IsHitOf-text (from_text kit other) (from_text kit rule)
+          (λ row. IsUsable kit other row × (row_key kit other row ≡ row_key kit other entry.first))
+          (λ row. sym (texts row)) entry (are.each k d h));
+      ascending = λ i j d below h. rw (keys (get_or entries i d).first, keys (get_or entries j d).first)
+          (are.ascending i j d below h);
       whole = λ row usable.
           let found = are.whole row (IsUsable-shared kit rule other shares row usable) in
           (found.0, found.1, found.2, found.3, rw (keys found.1.first, keys row) found.4);
@@ -54,7 +63,9 @@ AreEntriesOf-shared kit rule other entries shares are =
     }
 
 -- owners are rules of the kit
-pub owners-within : (kit : Kit) (triples : Triples) → AreTriplesOf kit triples → All (λ rule. rule < length kit.rules) triples.owners
-owners-within kit triples are = rw are.owners (All-filter (λ place. is_none (earlier_twin kit place)) (λ (rule : ℕ). rule < length kit.rules) (range_with_len 0 (length kit.rules)) (λ k d h.
+pub owners-within : (kit : Kit) (triples : Triples) → AreTriplesOf kit triples
+    → All (λ rule. rule < length kit.rules) triples.owners
+owners-within kit triples are = rw are.owners (All-filter (λ place. is_none (earlier_twin kit place))
+    (λ (rule : ℕ). rule < length kit.rules) (range_with_len 0 (length kit.rules)) (λ k d h.
     let below : k < length kit.rules = omega (arith, length-range_with_len 0 (length kit.rules)) in
     omega (arith, get_or-range_with_len 0 (length kit.rules) k d below)))

@@ -1,5 +1,6 @@
 -- The order of two rows by their keys, and the usable rows one by one.
-use Rattle.std.proofs.Common.{◌≡◌, ◌<◌, ◌≤◌, ◌+◌, ◌++◌, ◌∷◌, ◌∙◌, inl, inr, ℕ, List, [], true, length, refl, subst, arith, length-append}
+use Rattle.std.proofs.Common.{◌≡◌, ◌<◌, ◌≤◌, ◌+◌, ◌++◌, ◌∷◌, ◌∙◌, inl, inr, ℕ, List, [], true, length, refl, subst}
+use Rattle.std.proofs.Common.{arith, length-append}
 use Rattle.std.specs.Prelude.{All}
 use Rattle.std.specs.List.{Contains}
 use Rattle.std.specs.Cmp.Lexicographic.{slice_cmp}
@@ -20,11 +21,16 @@ use Rattle.master_index.specs.Sorted.{AreSortedRows, StandsBefore}
 
 -- the order of one row's cell at one key and another row's cell at another
 abbrev pub at_rows : Kit → Rule → ℕ → ℕ → ℕ × ℕ → ℕ × ℕ → Ordering
-at_rows kit rule row other key next = slice_cmp nat_cmp (compared (is_folded kit key.0) (master_text kit rule row key.1)) (compared (is_folded kit next.0) (master_text kit rule other next.1))
+at_rows kit rule row other key next = slice_cmp nat_cmp (compared (is_folded kit key.0)
+    (master_text kit rule row key.1)) (compared (is_folded kit next.0) (master_text kit rule other next.1))
 
 -- the keys of two rows are ordered key by key
-pub key_order-at_rows : (kit : Kit) (rule : Rule) (row other : ℕ) → key_order (row_key kit rule row) (row_key kit rule other) ≡ slice_cmp (at_rows kit rule row other) rule.keys rule.keys
-key_order-at_rows kit rule row other = slice_cmp-map (slice_cmp nat_cmp) (λ (key : ℕ × ℕ). compared (is_folded kit key.0) (master_text kit rule row key.1)) (λ (key : ℕ × ℕ). compared (is_folded kit key.0) (master_text kit rule other key.1)) rule.keys rule.keys
+pub key_order-at_rows : (kit : Kit) (rule : Rule) (row other : ℕ)
+    → key_order (row_key kit rule row) (row_key kit rule other)
+    ≡ slice_cmp (at_rows kit rule row other) rule.keys rule.keys
+key_order-at_rows kit rule row other = slice_cmp-map (slice_cmp nat_cmp)
+    (λ (key : ℕ × ℕ). compared (is_folded kit key.0) (master_text kit rule row key.1))
+    (λ (key : ℕ × ℕ). compared (is_folded kit key.0) (master_text kit rule other key.1)) rule.keys rule.keys
 
 -- the test for equal tells that an order is
 pub is_eq-true : (order : Ordering) → is_eq order ≡ true → order ≡ Equal

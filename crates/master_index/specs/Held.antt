@@ -6,7 +6,8 @@ use Rattle.master_index.specs.declared.shelf.Shelved.{Shelved}
 
 -- the edition stands first, if it is held; the others keep their order
 abbrev pub brought_first : ℕ → List (ℕ × Shelved) → List (ℕ × Shelved)
-brought_first edition held = option_map_or (λ pair. pair ∷ remove_entry (nat_eq edition) held) (lookup_entry (nat_eq edition) held) held
+brought_first edition held =
+    option_map_or (λ pair. pair ∷ remove_entry (nat_eq edition) held) (lookup_entry (nat_eq edition) held) held
 
 -- the edition stands first with this book; an edition that was not held pushes the last of five out
 abbrev pub put_first : ℕ → Shelved → List (ℕ × Shelved) → List (ℕ × Shelved)

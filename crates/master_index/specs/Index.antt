@@ -22,7 +22,8 @@ IsMapFor kit rule map = IsMapOf (master_of kit rule) (first_key rule).1 (is_fold
 -- the rule at this place has a map, and it is one for the rule
 pub record HasMap (kit : Kit) (index : Index) (place : ℕ) : Type 0 where
   pub within : slice_index index.places place < length index.maps
-  pub map : (d : RowMap) → IsMapFor kit (rule_at kit place) (slice_index_or index.maps (slice_index index.places place) d)
+  pub map : (d : RowMap)
+      → IsMapFor kit (rule_at kit place) (slice_index_or index.maps (slice_index index.places place) d)
 
 -- each of the first rules has its map
 pub record IsIndexBefore (kit : Kit) (count : ℕ) (index : Index) : Type 0 where
@@ -35,7 +36,9 @@ IsIndexOf kit index = IsIndexBefore kit (length kit.rules) index
 
 -- the rows of the rule's master that agree with the values at the first key alone, in ascending order
 abbrev pub rows_alike : Kit → (ℕ → List ℕ) → Rule → List ℕ
-rows_alike kit values rule = let key = first_key rule in rows_with_key (master_of kit rule) key.1 (is_folded kit key.0) (compared (is_folded kit key.0) (values key.0))
+rows_alike kit values rule =
+    let key = first_key rule in
+    rows_with_key (master_of kit rule) key.1 (is_folded kit key.0) (compared (is_folded kit key.0) (values key.0))
 
 -- rows of the master, ascending, among them each one that meets what is sought
 pub record AreCandidates (master : GridRows) (rule : Rule) (aims : List Aim) (rows : List ℕ) : Type 0 where

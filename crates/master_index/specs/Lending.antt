@@ -8,4 +8,5 @@ use Rattle.master_index.specs.contracts.shelf.Shelf.{the_row}
 
 -- the shelf ends with the edition in front, if it is held
 abbrev pub EndsFirst : MutBor (List (ℕ × Shelved)) → ℕ → Fml
-EndsFirst shelf edition = follows_so the_row the_row shelf.ghost_name none (λ _ _. ⊤) (λ end. end ≡ brought_first edition shelf.now)
+EndsFirst shelf edition =
+    follows_so the_row the_row shelf.ghost_name none (λ _ _. ⊤) (λ end. end ≡ brought_first edition shelf.now)

@@ -17,7 +17,9 @@ is_blank (byte ∷ rest) = false
 
 -- whether the row's text in this column is compared as this key, and is no blank: no row agrees by a blank
 abbrev pub has_key : GridRows → ℕ → Bool → List ℕ → ℕ → Bool
-has_key table column folded key row = let text = cell_text table row column in not (is_blank text) && bytes_eq key (compared folded text)
+has_key table column folded key row =
+    let text = cell_text table row column in
+    not (is_blank text) && bytes_eq key (compared folded text)
 
 -- all such rows, in ascending order
 abbrev pub rows_with_key : GridRows → ℕ → Bool → List ℕ → List ℕ

@@ -1,5 +1,6 @@
 -- The entries of a triple: what there is to find at each key that its usable rows have, in the order of the keys.
-use Rattle.std.specs.Prelude.{◌≡◌, ◌≢◌, ◌⊎◌, ℕ, ◌≤◌, ◌<◌, ◌-◌, List, [], length, All, AllPairs, Any, Some, None, slice_index, slice_index_or}
+use Rattle.std.specs.Prelude.{◌≡◌, ◌≢◌, ◌⊎◌, ℕ, ◌≤◌, ◌<◌, ◌-◌, List, [], length, All, AllPairs, Any, Some, None}
+use Rattle.std.specs.Prelude.{slice_index, slice_index_or}
 use Rattle.std.specs.List.{Contains}
 use Rattle.std.specs.List.Sorted.{IsSorted}
 use Rattle.std.specs.Ordering.{nat_cmp, ordering_then}
@@ -33,7 +34,8 @@ abbrev pub IsEntryOf : (ℕ → List (List ℕ)) → (ℕ → List ℕ) → (ℕ
 IsEntryOf key text IsListed entry = IsHitOf text (λ row. IsListed row × (key row ≡ key entry.first)) entry
 
 -- each key that a listed row has has one entry, the keys ascend, and there are at most so many entries
-pub record AreEntries (key : ℕ → List (List ℕ)) (text : ℕ → List ℕ) (IsListed : ℕ → Type 0) (count : ℕ) (entries : List Hit) : Type 0 where
+pub record AreEntries (key : ℕ → List (List ℕ)) (text : ℕ → List ℕ) (IsListed : ℕ → Type 0) (count : ℕ)
+    (entries : List Hit) : Type 0 where
   pub each : All (IsEntryOf key text IsListed) entries
   pub ascending : AllPairs (λ one later. key_order (key one.first) (key later.first) ≡ Less) entries
   pub whole : (row : ℕ) → IsListed row → Any (λ entry. key entry.first ≡ key row) entries
@@ -42,19 +44,23 @@ pub record AreEntries (key : ℕ → List (List ℕ)) (text : ℕ → List ℕ) 
 -- there are entries, and the last of them has the key of this row
 abbrev pub EndsWithKey : (ℕ → List (List ℕ)) → List Hit → ℕ → Type 0
 EndsWithKey key entries row =
-    (0 < length entries) × (key (slice_index_or entries (length entries - 1) (record { first = 0; other = None })).first ≡ key row)
+    (0 < length entries)
+    × (key (slice_index_or entries (length entries - 1) (record { first = 0; other = None })).first ≡ key row)
 
 -- the entry with a later row of its key: that row is the other one, if there was none and it gives another text
 abbrev pub IsGrown : (ℕ → List ℕ) → Hit → ℕ → Hit → Type 0
 IsGrown text entry row grown =
     ((grown ≡ entry) × (entry.other ≡ None → text row ≡ text entry.first))
-    ⊎ ((grown ≡ record { first = entry.first; other = Some row }) × (entry.other ≡ None) × (text row ≢ text entry.first))
+    ⊎ ((grown ≡ record { first = entry.first; other = Some row }) × (entry.other ≡ None)
+    × (text row ≢ text entry.first))
 
 -- the entries of the usable rows of the rule's master
 abbrev pub AreEntriesOf : Kit → Rule → List Hit → Type 0
-AreEntriesOf kit rule = AreEntries (row_key kit rule) (from_text kit rule) (IsUsable kit rule) (length (master_of kit rule).rows)
+AreEntriesOf kit rule =
+    AreEntries (row_key kit rule) (from_text kit rule) (IsUsable kit rule) (length (master_of kit rule).rows)
 
 -- each of the first owners has its entries
 pub record AreSortedBefore (kit : Kit) (owners : List ℕ) (count : ℕ) (parts : List (List Hit)) : Type 0 where
   pub size : length parts ≡ count
-  pub each : (place : ℕ) → place < count → AreEntriesOf kit (rule_at kit (slice_index owners place)) (slice_index_or parts place [])
+  pub each : (place : ℕ) → place < count
+      → AreEntriesOf kit (rule_at kit (slice_index owners place)) (slice_index_or parts place [])

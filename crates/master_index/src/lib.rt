@@ -14,8 +14,6 @@ mod search;
 mod shelf;
 mod sorted_book;
 mod sorting;
-#[cfg(test)]
-mod tests;
 mod triples;
 
 pub use error::BuildFault;

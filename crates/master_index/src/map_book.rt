@@ -38,7 +38,7 @@ impl MapBook {
         requires { IsValid kit }
         ensures book { IfOk result (λ book. book ≡ kit) }
         ensures too_wide { (count : ℕ) → IsErrOf result (BuildFault.TooWide count)
-            ↔ ((count ≡ entries kit) × (2000000 < count)) }
+            ↔ ((count ≡ entries kit) × (MAX_ENTRIES < count)) }
     {
         let entries = kit.entries();
         if entries > MAX_ENTRIES {

@@ -1,7 +1,7 @@
 //! The books of the editions that were used last.
 ghost use Rattle.std.specs.Prelude.{◌≡◌, nat_eq, option_copied, IfOk, OnOk, OnErr, IsOk, IsSome, []};
 ghost use Rattle.std.specs.Map.{lookup};
-ghost use Rattle.master_index.specs.Held.{put_first};
+ghost use Rattle.master_index.specs.Held.{brought_first, put_first};
 
 use crate::sorted_book::SortedBook;
 use desk_base::NoMemory;
@@ -61,6 +61,20 @@ impl Shelf {
         ensures held { option_copied result ≡ lookup (nat_eq edition) self.old }
     {
         self.books.get(&edition)
+    }
+
+    /// What is shelved of an edition, or nothing where it is not held. The order stays.
+    pub fn peek(&self, edition: u32) -> Option<&Shelved>
+        ensures { option_copied result ≡ lookup (nat_eq edition) self.now }
+    {
+        self.books.peek(&edition)
+    }
+
+    /// Brings an edition to the front, if it is held. It succeeds whatever memory there is.
+    pub fn bring(&mut self, edition: u32)
+        ensures { self.new ≡ brought_first edition self.old }
+    {
+        self.books.promote(&edition);
     }
 
     /// Puts an edition in front, over what is shelved of it. Where four others are held, the one that was

@@ -4,4 +4,5 @@ pub mod Faults
 pub mod Memory
 pub mod Sheets
 pub mod Masters
+pub mod Outlines
 pub mod Written

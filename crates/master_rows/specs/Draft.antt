@@ -19,3 +19,15 @@ pub record IsFaultless (columns : List (List ℕ)) (grid : GridRows) : Type 0 wh
 abbrev pub HasNoFault : Option (List (List ℕ)) → GridRows → Type 0
 HasNoFault None grid = ⊤
 HasNoFault (Some columns) grid = IsFaultless columns grid
+
+-- a header and so many rows without a fault, as wide as the header
+pub record IsOutlined (columns : List (List ℕ)) (count : ℕ) (taken : List (List (List ℕ))) : Type 0 where
+  pub rows : List (List (List ℕ))
+  pub records : taken ≡ columns ∷ rows
+  pub counted : length rows ≡ count
+  pub faultless : IsFaultless columns (record { columns = length columns; rows = rows })
+
+-- none, or a header and so many rows without a fault
+abbrev pub AreOutlined : Option (List (List ℕ)) → ℕ → List (List (List ℕ)) → Type 0
+AreOutlined None count taken = (taken ≡ []) × (count ≡ 0)
+AreOutlined (Some columns) count taken = IsOutlined columns count taken

@@ -3,5 +3,6 @@ pub mod Fields
 pub mod Header
 pub mod Row
 pub mod Sheet
+pub mod Outline
 pub mod Master
 pub mod Draft

@@ -1,7 +1,8 @@
 //! Masters, read from CSV sheets and printed as such.
 //!
-//! A clause sees a `Master` as its columns and the table of its cells. `specs/Sheet.antt` says what a
-//! sheet reads as, on the records that `csv` states, and `specs/Master.antt` which masters there are.
+//! A clause sees a `Master` as its columns and the table of its cells, and an `Outline` as the columns and the number
+//! of rows. `specs/Sheet.antt` says what a sheet reads as, on the records that `csv` states, and `specs/Master.antt`
+//! which masters there are.
 #![tactic(auto)]
 
 mod draft;
@@ -10,10 +11,10 @@ mod fields;
 mod header;
 pub mod laws;
 mod master;
+mod outline;
 mod print;
 mod row;
-#[cfg(test)]
-mod tests;
 
 pub use error::SheetFault;
 pub use master::Master;
+pub use outline::Outline;

@@ -2,10 +2,12 @@
 ghost use Rattle.std.specs.Prelude.{◌≡◌, ◌≢◌, IfOk, IfErr, Ok, Err};
 ghost use Rattle.master_rows.specs.Mark.{begins_with_two_marks};
 ghost use Rattle.master_rows.specs.Master.{IsMaster};
+ghost use Rattle.master_rows.specs.Outline.{read_outline};
 ghost use Rattle.master_rows.specs.Sheet.{read_sheet, sheet_of};
 
 use crate::draft::Draft;
 use crate::error::SheetFault;
+use crate::outline::{Outline, OutlineDraft};
 use crate::print::sheet_bytes;
 use desk_base::{Duplicate, Grid, List, NoMemory, Text};
 use std::alloc::Global;
@@ -41,6 +43,18 @@ impl Master {
             return Err(SheetFault::BadColumn(1));
         }
         Draft::of_sheet(alloc, sheet)?.finish()
+    }
+
+    /// The outline of the master that a sheet reads as, with the faults of `read`. No cell is kept.
+    pub fn outline(alloc: Global, sheet: &[u8]) -> Result<Outline, SheetFault>
+        ensures outline { IfOk result (λ outline. read_outline sheet.now ≡ Ok outline) }
+        ensures fault { IfErr result (λ fault. fault ≢ SheetFault.NoMemory
+            → read_outline sheet.now ≡ Err fault) }
+    {
+        if begins_with_two_marks(sheet) {
+            return Err(SheetFault::BadColumn(1));
+        }
+        OutlineDraft::of_sheet(alloc, sheet)?.finish()
     }
 
     /// The sheet of this master, with LF at the end of each line. It reads back to an equal master.

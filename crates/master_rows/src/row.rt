@@ -1,12 +1,64 @@
 //! The data rows of a sheet: their tests, and the texts of their cells.
-ghost use Rattle.std.specs.Prelude.{◌≡◌, ◌≢◌, ◌+◌, length, IfOk, IfErr, Some, None};
+ghost use Rattle.std.specs.Prelude.{◌≡◌, ◌≢◌, ◌+◌, ◌<◌, length, IfOk, IfErr, Some, None};
+ghost use Rattle.std.specs.List.{list_all};
+ghost use Rattle.std.specs.Str.{is_utf8};
+ghost use Rattle.csv.specs.Records.{fields_of};
 ghost use Rattle.master_rows.specs.Row.{cells_fault, row_fault};
 ghost use Rattle.master_rows.specs.Fields.{bytes_of};
 
 use crate::error::SheetFault;
 use crate::fields::strings_of;
-use desk_base::{Grid, List, MAX_ROWS, MAX_TEXT, Text};
+use csv::ByteRecord;
+use desk_base::{Grid, List, MAX_ROWS, MAX_TEXT, Text, is_utf8};
 use std::alloc::Global;
+
+/// The first fault of a record that is to stand behind so many rows, under so many columns.
+pub(crate) fn row_fault(columns: usize, rows: u32, source: &ByteRecord) -> Option<SheetFault>
+    ensures fault { result ≡ row_fault columns (rows + 1) (fields_of source.now) }
+    ensures few { result ≡ None → rows < MAX_ROWS }
+{
+    let row = u64::from(rows) + 1;
+    if rows >= MAX_ROWS {
+        return Some(SheetFault::TooManyRows);
+    }
+    if source.len() != columns {
+        return Some(SheetFault::Ragged(row));
+    }
+    if !are_texts(source) {
+        return Some(SheetFault::NotUtf8(row));
+    }
+    cells_fault(row, source)
+}
+
+/// Whether each field is UTF-8.
+fn are_texts(source: &ByteRecord) -> bool
+    ensures { result ≡ list_all is_utf8 (fields_of source.now) }
+{
+    'places: for place in 0..source.len() {
+        let Some(field) = source.get(place) else {
+            unreachable!()
+        };
+        if !is_utf8(field) {
+            return false;
+        }
+    }
+    true
+}
+
+/// The first fault of the cells of a row.
+fn cells_fault(row: u64, source: &ByteRecord) -> Option<SheetFault>
+    ensures { result ≡ cells_fault row 1 (fields_of source.now) }
+{
+    'places: for place in 0..source.len() {
+        let Some(field) = source.get(place) else {
+            unreachable!()
+        };
+        if field.len() > MAX_TEXT {
+            return Some(SheetFault::CellLong(row, place as u64 + 1));
+        }
+    }
+    None
+}
 
 /// The texts of a row's cells, tested one by one.
 fn tested_cells(alloc: Global, row: u64, texts: &[&str]) -> Result<List<Text>, SheetFault>

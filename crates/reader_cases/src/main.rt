@@ -1,10 +1,12 @@
-//! Tries the cases in `data/`: texts and streams of the base, schemas and sheets.
+//! Tries the cases in `data/`: texts, lists and streams of the base, files of cases, schemas and sheets.
 //!
 //! The words are the files of cases; a file's name up to its first `-` says what is tried. `docs/cases.md` says
 //! how a case is written.
 #![tactic(auto)]
 
 mod base;
+mod files;
+mod lists;
 mod schemas;
 mod sheets;
 
@@ -19,6 +21,11 @@ struct Readers;
 impl Subject for Readers {
     fn answer(&mut self, alloc: Global, kind: &str, case: &Case) -> Result<Vec<Part>, Fail> {
         match kind {
+            "adapter" => lists::adapter(alloc, case),
+            "file" => files::file(alloc, case),
+            "grid" => lists::grid(alloc, case),
+            "list" => lists::list(alloc, case),
+            "places" => lists::places(alloc, case),
             "text" => base::text(alloc, case),
             "word" => base::word(alloc, case),
             "source" => base::source(alloc, case),

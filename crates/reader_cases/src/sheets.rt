@@ -6,7 +6,7 @@ use master_rows::{Master, SheetFault};
 use std::alloc::Global;
 use std::test::Fail;
 
-/// The sheet that a copy of the master is printed as; or the fault.
+/// The sheet that a copy of the master is printed as; or the fault, which its outline has to have too.
 pub fn sheet(alloc: Global, case: &Case) -> Result<Vec<Part>, Fail> {
     let mut answer = Vec::new(alloc);
     match Master::read(alloc, case.bytes("sheet")?) {
@@ -14,18 +14,23 @@ pub fn sheet(alloc: Global, case: &Case) -> Result<Vec<Part>, Fail> {
             let printed = master.copy()?.print()?;
             answer.push(Part::new(alloc, "wanted", printed.as_slice())?)?;
         }
-        Err(fault) => answer.push(told(alloc, fault)?)?,
+        Err(fault) => {
+            if Master::outline(alloc, case.bytes("sheet")?).err() != Some(fault) {
+                return Err(Fail::new("the outline of a sheet has another fault"));
+            }
+            answer.push(told(alloc, fault)?)?;
+        }
     }
     Ok(answer)
 }
 
-/// How many columns and rows the master has; or the fault.
+/// How many columns and rows the outline of the master has; or the fault.
 pub fn sheet_size(alloc: Global, case: &Case) -> Result<Vec<Part>, Fail> {
     let mut answer = Vec::new(alloc);
-    match Master::read(alloc, case.bytes("sheet")?) {
-        Ok(master) => {
-            let columns = master.columns.len();
-            let size = format!(in alloc; "{columns} columns, {} rows", master.grid.rows())?;
+    match Master::outline(alloc, case.bytes("sheet")?) {
+        Ok(outline) => {
+            let columns = outline.columns.len();
+            let size = format!(in alloc; "{columns} columns, {} rows", outline.rows)?;
             answer.push(Part::new(alloc, "wanted", size.as_str().as_bytes())?)?;
         }
         Err(fault) => answer.push(told(alloc, fault)?)?,

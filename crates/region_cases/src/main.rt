@@ -1,22 +1,30 @@
-//! Tries the cases in `data/`: regions that are checked, and what is suggested for a record.
+//! Tries the cases in `data/`: steps, first runs, regions that are checked, and what is suggested for a record.
 //!
-//! The words are the files of cases. `docs/cases.md` says how a case is written, and the README which parts these have.
+//! The words are the files of cases; a file's name up to its first `-` says what is tried. `docs/cases.md` says how a
+//! case is written, and the README which parts these have.
 #![tactic(auto)]
 
 mod regions;
+mod runs;
+mod steps;
 mod telling;
 
 use desk_cases::{Case, Part, Subject, try_files};
 use std::alloc::Global;
 use std::test::Fail;
 
-/// What checks regions and suggests.
+/// What makes steps and runs, checks regions and suggests.
 #[derive(Drop)]
 struct Suggester;
 
 impl Subject for Suggester {
-    fn answer(&mut self, alloc: Global, _kind: &str, case: &Case) -> Result<Vec<Part>, Fail> {
-        telling::told(alloc, case)
+    fn answer(&mut self, alloc: Global, kind: &str, case: &Case) -> Result<Vec<Part>, Fail> {
+        match kind {
+            "region" => telling::told(alloc, case),
+            "run" => runs::told(alloc, case),
+            "step" => steps::told(alloc, case),
+            _ => Err(Fail::new("a file of cases has an unknown kind")),
+        }
     }
 }
 

@@ -7,9 +7,9 @@ ghost use Rattle.fix_engine.specs.WorkSeen.{IsRoomFor};
 use crate::regions::{are_regions_of, regions_of};
 use desk_base::{List, Steps, Text};
 use desk_cases::{Case, Part};
+use desk_json::case_of;
 use fix_engine::Work;
 use fix_model::{Book, ListBook, Region, RowVerdict, State};
-use fixdesk_run::case_of;
 use region_suggest::{Suggestion, check, suggest};
 use std::alloc::Global;
 use std::test::Fail;
@@ -79,7 +79,7 @@ fn suggestion(
 }
 
 /// Room for work over the book.
-fn work_for(alloc: Global, book: &ListBook) -> Result<Work, Fail>
+pub fn work_for(alloc: Global, book: &ListBook) -> Result<Work, Fail>
     ensures { IfOk result (λ work. IsRoomFor work book.now) }
 {
     let width = <ListBook as Book<()>>::width(book);
@@ -88,7 +88,7 @@ fn work_for(alloc: Global, book: &ListBook) -> Result<Work, Fail>
 }
 
 /// Words behind spaces without the first space, or `none` where there are none.
-fn or_none(words: &str) -> &str {
+pub fn or_none(words: &str) -> &str {
     match words.trim_start() {
         "" => "none",
         words => words,
@@ -96,7 +96,7 @@ fn or_none(words: &str) -> &str {
 }
 
 /// The word of an attribute.
-fn word(attributes: &[Text], attribute: u16) -> &str {
+pub fn word(attributes: &[Text], attribute: u16) -> &str {
     match attributes.get(usize::from(attribute)) {
         Some(word) => word.as_str(),
         None => "?",

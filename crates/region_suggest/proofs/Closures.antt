@@ -1,17 +1,23 @@
 -- The closure of a set of attributes, attribute by attribute.
-use Rattle.std.proofs.Common.{◌≡◌, ◌≢◌, ◌⊎◌, ◌<◌, ◌+◌, ◌-◌, ◌∙◌, ℕ, zero, suc, Bool, true, false, List, [], ◌∷◌, ◌++◌, length, get_or, set, take, replicate, eqb, eqb-true, length-set, length-append, inl, inr, sym, ap, refl, append-nil, add-one, arith}
+use Rattle.std.proofs.Common.{◌≡◌, ◌≢◌, ◌⊎◌, ◌<◌, ◌+◌, ◌-◌, ◌∙◌, ℕ, zero, suc, Bool, true, false, List, [], ◌∷◌, ◌++◌}
+use Rattle.std.proofs.Common.{length, get_or, set, take, replicate, eqb, eqb-true, length-set, length-append, inl}
+use Rattle.std.proofs.Common.{inr, sym, ap, refl, append-nil, add-one, arith}
 use Rattle.std.specs.Prelude.{◌↔◌, All, Contains, vec_items}
 use Rattle.std.proofs.lemmas.Bool.{cases_Bool, eqb-false}
 use Rattle.std.proofs.lemmas.List.{append_assoc, get_or-set_same, get_or-set_other, length-map, length-replicate}
-use Rattle.std.proofs.lemmas.List.Elements.{All-append, Contains-append_left, Contains-append_right, Contains-append_cases}
+use Rattle.std.proofs.lemmas.List.Elements.{All-append, Contains-append_left, Contains-append_right}
+use Rattle.std.proofs.lemmas.List.Elements.{Contains-append_cases}
 use Rattle.std.proofs.lemmas.List.Sums.{sum_by-set}
 use Rattle.std.proofs.Math.Seq.{take-suc}
 use Rattle.fix_engine.specs.Flags.{IsFlagged}
 use Rattle.region_suggest.specs.declared.dependencies.Dependencies.{Dependencies}
 use Rattle.region_suggest.specs.Closing.{IsEnough, IsMet, TakesOff}
 use Rattle.region_suggest.specs.Dependencies.{Follows, IsClosure, IsSound, left_count, occurrences, users, uses_of}
-use Rattle.region_suggest.proofs.Lists.{All-Contains, Contains-at, Contains-cases, Contains-first, IsFlagged-cases, IsFlagged-here, IsFlagged-set, IsFlagged-within}
-use Rattle.region_suggest.proofs.LeftSides.{All-users, Contains-or-none, left_count-flagged, left_count-set, left_count-zero, occurrences-append, occurrences-other, occurrences-self, occurrences-take}
+use Rattle.region_suggest.proofs.Lists.{All-Contains, Contains-at, Contains-cases, Contains-first, IsFlagged-cases}
+use Rattle.region_suggest.proofs.Lists.{IsFlagged-here, IsFlagged-set, IsFlagged-within}
+use Rattle.region_suggest.proofs.LeftSides.{All-users, Contains-or-none, left_count-flagged, left_count-set}
+use Rattle.region_suggest.proofs.LeftSides.{left_count-zero, occurrences-append, occurrences-other, occurrences-self}
+use Rattle.region_suggest.proofs.LeftSides.{occurrences-take}
 
 -- ---- an attribute is taken off
 
@@ -206,7 +212,8 @@ length-uses_of made = length-map made.uses.items vec_items
 module _ (made : Dependencies) (sound : IsSound made) (given : List Bool) (even : length given ≡ length made.uses.items)
   where
     -- nothing is flagged, and what is given is found
-    pub IsClosing-start : (flags : List Bool) (missing found : List ℕ) → flags ≡ replicate (length made.uses.items) false
+    pub IsClosing-start : (flags : List Bool) (missing found : List ℕ) → flags
+        ≡ replicate (length made.uses.items) false
         → missing ≡ made.sizes.items → ((attribute : ℕ) → Contains found attribute ↔ IsFlagged given attribute)
         → IsClosing made given flags missing found
     IsClosing-start flags missing found clear all gives =
@@ -272,7 +279,8 @@ module _ (made : Dependencies) (sound : IsSound made) (given : List Bool) (even 
         missing_left = closing.missing_left;
         found_within = rest_within;
         given_ones = λ other h. stays other (closing.given_ones other h);
-        met = λ dependency within none. stays (get_or made.heads.items dependency 0) (closing.met dependency within none);
+        met = λ dependency within none. stays (get_or made.heads.items dependency 0)
+            (closing.met dependency within none);
         least = λ other follows one h. elim h [
           | inl flagged ↦ closing.least other follows one (inl flagged)
           | inr left ↦ closing.least other follows one (inr (found-left one left))
@@ -295,7 +303,8 @@ module _ (made : Dependencies) (sound : IsSound made) (given : List Bool) (even 
             omega (
               arith,
               closing.missing_left dependency known,
-              left_count-set dependency flags (uses_of made) attribute within (closing.whole ∙ sym (length-uses_of made))
+              left_count-set dependency flags (uses_of made) attribute within
+                  (closing.whole ∙ sym (length-uses_of made))
                   clear,
             )
       ]
@@ -328,7 +337,8 @@ module _ (made : Dependencies) (sound : IsSound made) (given : List Bool) (even 
             whole = length-set flags attribute true ∙ closing.whole;
             missing_whole = taken.whole ∙ closing.missing_whole;
             missing_left = left;
-            found_within = rw taken.appended (All-append (λ one. one < length made.uses.items) rest taken.new rest_within
+            found_within = rw taken.appended (All-append (λ one. one < length made.uses.items) rest taken.new
+                rest_within
                 (λ k d h.
                 let met = taken.met (get_or taken.new k d) (Contains-at taken.new k d h) in
                 let known = All-Contains (λ one. one < length made.heads.items) ones met.dependency known_users met.used

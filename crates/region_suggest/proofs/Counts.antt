@@ -1,9 +1,12 @@
 -- Flags that are counted, and what a closure has beside what was covered.
-use Rattle.std.proofs.Common.{◌≡◌, ◌⊎◌, ◌<◌, ◌≤◌, ◌+◌, ◌∙◌, ℕ, zero, suc, Bool, true, false, cond, List, [], ◌∷◌, get_or, set, length, length-set, map, refl, sym, ap, inl, inr, arith}
-use Rattle.std.specs.Prelude.{◌↔◌, count_by}
+use Rattle.std.proofs.Common.{◌≡◌, ◌⊎◌, ◌<◌, ◌≤◌, ◌+◌, ◌∙◌, ℕ, zero, suc, Bool, true, false, cond, List, [], ◌∷◌}
+use Rattle.std.proofs.Common.{get_or, set, drop, take, length}
+use Rattle.std.proofs.Common.{length-drop, length-set, map, refl, sym, ap, inl, inr, arith}
+use Rattle.std.specs.Prelude.{◌↔◌, count_by, if◌then◌else◌}
 use Rattle.std.proofs.lemmas.Bool.{cases_Bool}
 use Rattle.std.proofs.lemmas.List.{length-map}
 use Rattle.std.proofs.lemmas.List.Recursion.{is_count_by}
+use Rattle.std.proofs.lemmas.List.Sums.{count_by-le-length, count_by_more_no, count_by_more_yes, sum_by-take-drop}
 use Rattle.fix_model.specs.declared.kit.Kit.{Kit}
 use Rattle.fix_model.specs.declared.state.Cell.{Cell}
 use Rattle.fix_model.specs.declared.state.Cell.TheVariants.{Uncovered}
@@ -117,3 +120,29 @@ module _ (kit : Kit) (state : State) (made : Dependencies) (flags closure : List
     counted = counted ∙ ap (λ n. n + 1 + gain)
         (ap (λ some. count_by (λ flag. flag) some) covered ∙ count-covering state.cells);
   }
+
+-- one item more is counted where it passes
+pub count_by-next : {A : Type 0} (test : A → Bool) (items : List A) (place : ℕ) (d : A) → place < length items
+    → count_by test (take (place + 1) items)
+    ≡ count_by test (take place items) + (if test (get_or items place d) then 1 else 0)
+count_by-next test items place d within = elim (cases_Bool (test (get_or items place d))) [
+  | inl passes ↦ rw passes (count_by_more_yes test items place d within passes)
+  | inr fails ↦ let same = count_by_more_no test items place d within fails in rw fails (omega (arith, same))
+]
+
+-- a look at most for each item that fails, and none for one that passes
+pub looks-next : (passes : Bool) (first old new counted place after : ℕ) → old + counted ≤ first + place
+    → new ≤ old + (if passes then 0 else 1) → after ≡ counted + (if passes then 1 else 0)
+    → new + after ≤ first + (place + 1)
+looks-next true first old new counted place after before look more = omega arith
+looks-next false first old new counted place after before look more = omega arith
+
+-- at most the items behind a place are counted besides those before it
+pub count_by-rest : {A : Type 0} (test : A → Bool) (items : List A) (place : ℕ) → place ≤ length items
+    → count_by test items + place ≤ count_by test (take place items) + length items
+count_by-rest test items place within = omega (
+  arith,
+  sum_by-take-drop (λ item. cond (test item) 1 0) items place,
+  count_by-le-length test (drop place items),
+  length-drop place items,
+)

@@ -1,9 +1,13 @@
 -- Dependencies, and how often attributes stand on their left sides.
-use Rattle.std.proofs.Common.{◌≡◌, ◌≢◌, ◌⊎◌, ◌<◌, ◌≤◌, ◌+◌, ◌∙◌, ◌==◌, ℕ, zero, suc, Bool, true, false, List, [], ◌∷◌, ◌++◌, length, get_or, map, set, take, replicate, eqb, eqb-true, eq-eqb, length-set, inl, inr, sym, ap, refl, zero-add, add-one, arith, Vec, Global}
+use Rattle.std.proofs.Common.{◌≡◌, ◌≢◌, ◌⊎◌, ◌<◌, ◌≤◌, ◌+◌, ◌∙◌, ◌==◌, ℕ, zero, suc, Bool, true, false, List, [], ◌∷◌}
+use Rattle.std.proofs.Common.{◌++◌, length, get_or, map, set, take, replicate, eqb, eqb-true, eq-eqb, length-set, inl}
+use Rattle.std.proofs.Common.{inr, sym, ap, refl, zero-add, add-one, arith, Vec, Global}
 use Rattle.std.specs.Prelude.{◌↔◌, All, Contains, vec_items}
 use Rattle.std.proofs.lemmas.Bool.{cases_Bool, eqb-false}
-use Rattle.std.proofs.lemmas.List.{get_or-map, get_or-set_same, get_or-set_other, get_or-replicate, length-replicate, map-append}
-use Rattle.std.proofs.lemmas.List.Elements.{All-append, All-set, Contains-append_left, Contains-append_right, Contains-append_cases}
+use Rattle.std.proofs.lemmas.List.{get_or-map, get_or-set_same, get_or-set_other, get_or-replicate, length-replicate}
+use Rattle.std.proofs.lemmas.List.{map-append}
+use Rattle.std.proofs.lemmas.List.Elements.{All-append, All-set, Contains-append_left, Contains-append_right}
+use Rattle.std.proofs.lemmas.List.Elements.{Contains-append_cases}
 use Rattle.std.proofs.Math.Seq.{take-suc}
 use Rattle.region_suggest.specs.declared.dependencies.Dependencies.{Dependencies}
 use Rattle.region_suggest.specs.Dependencies.{left_count, occurrences, users, uses_of, with_uses}

@@ -1,5 +1,6 @@
 -- The dependencies of open rules.
-use Rattle.std.proofs.Common.{◌≡◌, ◌≢◌, ◌<◌, ◌+◌, ◌∙◌, ℕ, false, List, [], ◌∷◌, length, get_or, map, replicate, eqb, eqb-true, length-append, inl, inr, sym, ap, refl, arith}
+use Rattle.std.proofs.Common.{◌≡◌, ◌≢◌, ◌<◌, ◌+◌, ◌∙◌, ℕ, true, false, List, [], ◌∷◌, length, get_or, map, replicate}
+use Rattle.std.proofs.Common.{eqb, eqb-true, length-append, inl, inr, sym, ap, refl, arith}
 use Rattle.std.specs.Prelude.{All}
 use Rattle.std.proofs.lemmas.Bool.{cases_Bool, eqb-false}
 use Rattle.std.proofs.lemmas.List.{get_or_append_left, length-map, length-replicate, get_or-replicate}
@@ -9,14 +10,19 @@ use Rattle.fix_model.specs.declared.kit.Kit.{Kit}
 use Rattle.fix_model.specs.declared.pattern.Pat.{Pat}
 use Rattle.fix_model.specs.declared.rule.Rule.{Rule}
 use Rattle.fix_model.specs.declared.state.State.{State}
+use Rattle.fix_model.specs.Application.{covers_left_side}
 use Rattle.fix_model.specs.Rules.{rule_at}
+use Rattle.fix_model.specs.Run.{IsFinal}
 use Rattle.fix_model.specs.Valid.{IsValidRule}
+use Rattle.fix_model.proofs.Hits.{covered_keys-all}
+use Rattle.fix_model.proofs.LeftSides.{all-covers_left_side}
 use Rattle.region_suggest.specs.declared.dependencies.Dependencies.{Dependencies}
 use Rattle.region_suggest.specs.Dependencies.{AddsRule, IsSound, left_count, left_side, uses_of}
 use Rattle.region_suggest.specs.Hope.{IsOpen}
 use Rattle.region_suggest.specs.Openings.{AreOpenings, IsOpening}
 use Rattle.region_suggest.proofs.Closures.{length-uses_of}
-use Rattle.region_suggest.proofs.LeftSides.{All-Contains-users, All-with_uses, Contains-with_uses, left_count-flagged, left_count-with_uses_other, left_count-with_uses_self, length-with_uses}
+use Rattle.region_suggest.proofs.LeftSides.{All-Contains-users, All-with_uses, Contains-with_uses, left_count-flagged}
+use Rattle.region_suggest.proofs.LeftSides.{left_count-with_uses_other, left_count-with_uses_self, length-with_uses}
 
 -- no dependency is sound
 pub IsSound-none : (made : Dependencies) (width : ℕ) → uses_of made ≡ replicate width [] → made.sizes.items ≡ []
@@ -43,6 +49,19 @@ AreOpenings-none kit state made none no_size no_head = record {
   each = λ dependency known. absurd (let h = rw no_head at known in omega (arith, h));
   all = λ place below opened. absurd (omega (arith, below));
 }
+
+-- where nothing fires, a rule whose keys and conditions are covered is not open
+pub IsOpen-covered : (kit : Kit) (state : State) (place : ℕ) → place < length kit.rules → IsFinal kit state
+    → covers_left_side state (rule_at kit place) ≡ true → ¬ IsOpen kit state (rule_at kit place)
+IsOpen-covered kit state place within final covers opened =
+    let rule = rule_at kit place in
+    let both = all-covers_left_side state rule covers in
+    final (record { rule = place; row = opened.agrees.0 }) (record {
+      rule_within = within;
+      enabled = record { keys = both.0; conds = both.1; matched = λ k d h. opened.matched k d h (both.1 k d h) };
+      uncovered = opened.uncovered;
+      agrees = rw (covered_keys-all state rule both.0) at opened.agrees.1;
+    })
 
 -- a rule that is not open is passed over
 pub AreOpenings-closed : (kit : Kit) (state : State) (made : Dependencies) (place : ℕ)

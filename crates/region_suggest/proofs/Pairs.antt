@@ -1,5 +1,6 @@
 -- Lists of exactly the pairs of which something holds, by region and then by row.
-use Rattle.std.proofs.Common.{◌≡◌, ◌⊎◌, ◌<◌, ◌≤◌, ◌+◌, ◌-◌, ◌∙◌, ℕ, zero, suc, List, [], ◌∷◌, ◌++◌, eqb, eq-eqb, true, get_or, length, length-append, map, refl, subst, sym, ap, inl, inr, arith}
+use Rattle.std.proofs.Common.{◌≡◌, ◌⊎◌, ◌<◌, ◌≤◌, ◌+◌, ◌-◌, ◌∙◌, ℕ, zero, suc, List, [], ◌∷◌, ◌++◌, eqb, eq-eqb, true}
+use Rattle.std.proofs.Common.{get_or, length, length-append, map, refl, subst, sym, ap, inl, inr, arith}
 use Rattle.std.specs.Prelude.{◌↔◌, All, AllPairs}
 use Rattle.std.specs.Cmp.Lexicographic.{pointwise}
 use Rattle.std.proofs.lemmas.List.{get_or_append_left, get_or_default, get_or-map, get_or_read}
@@ -16,7 +17,7 @@ use Rattle.fix_model.specs.declared.region.RowVerdict.TheVariants.{Certain, Part
 use Rattle.fix_model.specs.Fix.{HasFix}
 use Rattle.fix_model.specs.Regions.{IsRegionOf, IsVerdict}
 use Rattle.fix_model.specs.States.{Fits, value_at}
-use Rattle.fix_engine.proofs.Once.{IsFirstRun-unique, IsFix-no_conflict}
+use Rattle.fix_engine.proofs.Once.{IsFirstRun-unique}
 use Rattle.fix_model.proofs.States.{Fits-after}
 use Rattle.fix_model.proofs.Deciding.{decide_less}
 use Rattle.fix_model.proofs.Twins.{pointwise-all}
@@ -313,4 +314,6 @@ certain-only kit state Partial is fix = absurd (
     let all = fix.2.is_certain.0 refl in
     let none = is.2.is_certain.1 (rw same at all) in
     cc)
-certain-only kit state Conflict is fix = absurd (IsFix-no_conflict kit state fix.0 fix.1 fix.2 is.0 is.1 is.2)
+certain-only kit state Conflict is fix = absurd (
+    let same : fix.0 ≡ is.0 = IsFirstRun-unique kit state fix.0 is.0 fix.2.is_first is.1 in
+    is.2.differs (rw same at (fix.2.unique is.2.other is.2.maximal)))

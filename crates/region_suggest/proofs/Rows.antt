@@ -1,5 +1,6 @@
 -- The state of a region row, and the states that confirm the row.
-use Rattle.std.proofs.Common.{◌≡◌, ◌<◌, ◌≤◌, ◌+◌, ◌∙◌, ◌==◌, ℕ, suc, true, false, List, [], ◌∷◌, get_or, length, map, refl, sym, ap, eq-eqb, eqb-true, inl, inr, arith}
+use Rattle.std.proofs.Common.{◌≡◌, ◌<◌, ◌≤◌, ◌+◌, ◌∙◌, ◌==◌, ℕ, suc, true, false, List, [], ◌∷◌, get_or, length, map}
+use Rattle.std.proofs.Common.{refl, sym, ap, eq-eqb, eqb-true, inl, inr, arith}
 use Rattle.std.specs.Prelude.{Contains, Some, position, unwrap_or}
 use Rattle.std.specs.List.{position_from}
 use Rattle.std.proofs.lemmas.Bool.{cases_Bool}

@@ -14,7 +14,8 @@ use Rattle.fix_model.proofs.Covered.{IsCovered-after, value_at-after}
 use Rattle.fix_model.proofs.Runs.{typed-end_of}
 use Rattle.fix_model.proofs.States.{Fits-after}
 use Rattle.fix_engine.specs.Departures.{IsInside}
-use Rattle.fix_engine.proofs.Ends.{IsEnabled-inside, IsInside-after, IsInside-alike, RowAgrees-inside, cell_at-head, value_at-head}
+use Rattle.fix_engine.proofs.Ends.{IsEnabled-inside, IsInside-after, IsInside-alike, RowAgrees-inside, cell_at-head}
+use Rattle.fix_engine.proofs.Ends.{value_at-head}
 use Rattle.fix_engine.proofs.Truth.{same_record}
 
 -- the states cover the same attributes, with the same values

@@ -1,5 +1,6 @@
 -- Confirming more than a state: its run is a run still, and what it leads to beyond was hoped for.
-use Rattle.std.proofs.Common.{◌⊎◌, ◌<◌, ◌≤◌, ◌∙◌, ℕ, Bool, List, [], ◌∷◌, ◌++◌, eqb, eqb-true, get_or, length, refl, sym, ap, inl, inr, arith}
+use Rattle.std.proofs.Common.{◌⊎◌, ◌<◌, ◌≤◌, ◌∙◌, ℕ, Bool, List, [], ◌∷◌, ◌++◌, eqb, eqb-true, get_or, length, refl}
+use Rattle.std.proofs.Common.{sym, ap, inl, inr, arith}
 use Rattle.std.specs.Prelude.{Contains}
 use Rattle.std.proofs.lemmas.Bool.{cases_Bool, eqb-false}
 use Rattle.fix_model.specs.declared.kit.Kit.{Kit}
@@ -22,7 +23,8 @@ use Rattle.fix_model.proofs.Lengths.{IsCovered-end_of}
 use Rattle.fix_model.proofs.States.{Fits-after}
 use Rattle.fix_engine.specs.Departures.{IsInside}
 use Rattle.fix_engine.specs.Flags.{IsFlagged}
-use Rattle.fix_engine.proofs.Ends.{IsEnabled-inside, IsInside-after, RowAgrees-inside, cell_at-head, cell_at-other, value_at-head}
+use Rattle.fix_engine.proofs.Ends.{IsEnabled-inside, IsInside-after, RowAgrees-inside, cell_at-head, cell_at-other}
+use Rattle.fix_engine.proofs.Ends.{value_at-head}
 use Rattle.region_suggest.specs.Hope.{ConfirmsMore, IsHopeClosed, IsOpen}
 use Rattle.region_suggest.proofs.Rows.{Contains-is_listed, is_listed-Contains}
 use Rattle.region_suggest.proofs.Twins.{IsInside-step, IsInside-then}

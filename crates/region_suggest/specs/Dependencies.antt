@@ -1,5 +1,6 @@
 -- Dependencies between attributes: where all attributes on its left side are in a set, its head is too.
-use Rattle.std.specs.Prelude.{◌≡◌, ℕ, ◌+◌, ◌<◌, ◌==◌, Bool, true, false, List, [], ◌∷◌, ◌++◌, length, map, if◌then◌else◌, replicate, All, Contains, slice_index_or, slice_set, vec_items}
+use Rattle.std.specs.Prelude.{◌≡◌, ℕ, ◌+◌, ◌<◌, ◌==◌, Bool, true, false, List, [], ◌∷◌, ◌++◌, length, map}
+use Rattle.std.specs.Prelude.{if◌then◌else◌, replicate, All, Contains, slice_index_or, slice_set, vec_items}
 use Rattle.fix_model.specs.declared.rule.Rule.{Rule}
 use Rattle.fix_engine.specs.Flags.{IsFlagged}
 use Rattle.region_suggest.specs.declared.dependencies.Dependencies.{Dependencies}

@@ -1,5 +1,6 @@
 -- Which rows of the regions are offered to the clerk.
-use Rattle.std.specs.Prelude.{◌≡◌, ◌⊎◌, ◌↔◌, ℕ, ◌-◌, ◌<◌, ◌≤◌, List, [], length, map, AllPairs, Contains, slice_index_or}
+use Rattle.std.specs.Prelude.{◌≡◌, ◌⊎◌, ◌↔◌, ℕ, ◌-◌, ◌<◌, ◌≤◌, List, [], length, map, AllPairs, Contains}
+use Rattle.std.specs.Prelude.{slice_index_or}
 use Rattle.fix_model.specs.declared.kit.Kit.{Kit}
 use Rattle.fix_model.specs.declared.region.Region.{Region}
 use Rattle.fix_model.specs.declared.region.RowVerdict.TheVariants.{Certain}

@@ -6,12 +6,12 @@ ghost use Rattle.fix_engine.specs.WorkSeen.{IsRoomFor, KeepsSize};
 ghost use Rattle.region_suggest.specs.Verdicts.{AreVerdicts};
 
 use desk_base::{List, NoMemory, Steps};
-use fix_engine::{Verdict, Work, decide};
+use fix_engine::{Verdict, Work, judge};
 use fix_model::{Book, Region, RowVerdict, State, row_state};
 use std::alloc::Global;
 
 /// The verdict of each row of a region, in their order: where it leads to confirm the row's texts on exactly the
-/// region's attributes, with blanks elsewhere. Each rule is looked up at most twice for each row.
+/// region's attributes, with blanks elsewhere. Each rule is looked up at most once for each row.
 pub fn check<L, B: Book<L>>(
     alloc: Global,
     work: &mut Work,
@@ -23,7 +23,7 @@ pub fn check<L, B: Book<L>>(
     requires room { IsRoomFor work.old (B.kit book.now) }
     ensures verdicts { IfOk result (AreVerdicts (B.kit book.now) region.now) }
     ensures looks { counts.new.looks
-        ≤ counts.old.looks + 2 * length (B.kit book.now).rules * length region.now.rows }
+        ≤ counts.old.looks + length (B.kit book.now).rules * length region.now.rows }
     ensures size { KeepsSize work.old work.new }
 {
     let mut verdicts = List::new(alloc);
@@ -46,10 +46,10 @@ pub(crate) fn verdict_of<L, B: Book<L>>(
     requires fits { Fits (B.kit book.now) state }
     requires room { IsRoomFor work.old (B.kit book.now) }
     ensures verdict { IsVerdict (B.kit book.now) state result }
-    ensures looks { counts.new.looks ≤ counts.old.looks + 2 * length (B.kit book.now).rules }
+    ensures looks { counts.new.looks ≤ counts.old.looks + length (B.kit book.now).rules }
     ensures size { KeepsSize work.old work.new }
 {
-    match decide(work, book, &mut state, counts) {
+    match judge(work, book, &mut state, counts) {
         Verdict::Fix { certain: true, .. } => RowVerdict::Certain,
         Verdict::Fix { certain: false, .. } => RowVerdict::Partial,
         Verdict::Conflict => RowVerdict::Conflict,

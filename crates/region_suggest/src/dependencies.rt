@@ -7,7 +7,7 @@ ghost use Rattle.fix_engine.specs.Flags.{IsFlagged};
 ghost use Rattle.region_suggest.specs.Dependencies.{AddsRule, IsClosure, IsSound, uses_of, users, with_uses};
 ghost use Rattle.region_suggest.specs.Closing.{IsEnough, TakesOff};
 
-use desk_base::NoMemory;
+use desk_base::{MAX_ATTRIBUTES, MAX_CONDITIONS, MAX_KEYS, MAX_RULES, NoMemory};
 use fix_model::{Pat, Rule};
 use std::alloc::Global;
 
@@ -43,9 +43,9 @@ impl Dependencies {
     pub(crate) fn add(&mut self, rule: &Rule) -> Result<(), NoMemory>
         requires keys_within { All (λ key. key.0 < length self.old.uses.items) rule.now.keys }
         requires conds_within { All (λ cond. cond.0 < length self.old.uses.items) rule.now.conds }
-        requires few_keys { length rule.now.keys ≤ 8 }
-        requires few_conds { length rule.now.conds ≤ 8 }
-        requires few { length self.old.heads.items < 200 }
+        requires few_keys { length rule.now.keys ≤ MAX_KEYS }
+        requires few_conds { length rule.now.conds ≤ MAX_CONDITIONS }
+        requires few { length self.old.heads.items < MAX_RULES }
         ensures { OnOk result (AddsRule self.old self.new rule.now) }
     {
         let dependency = self.heads.len() as u16;
@@ -101,7 +101,7 @@ impl Dependencies {
     pub(crate) fn closure(&self, alloc: Global, given: &[bool]) -> Result<Vec<bool>, NoMemory>
         requires sound { IsSound self.now }
         requires whole { length given.now ≡ length self.now.uses.items }
-        requires narrow { length given.now ≤ 48 }
+        requires narrow { length given.now ≤ MAX_ATTRIBUTES }
         ensures { IfOk result (λ flags. IsClosure self.now given.now flags.items) }
     {
         let mut flags = same_flags(alloc, false, given.len())?;
@@ -144,7 +144,7 @@ impl Dependencies {
 
 /// The places of the flags that are set, in their order.
 fn flagged(alloc: Global, flags: &[bool]) -> Result<Vec<u16>, NoMemory>
-    requires { length flags.now ≤ 48 }
+    requires { length flags.now ≤ MAX_ATTRIBUTES }
     ensures { IfOk result (λ found. (attribute : ℕ) → Contains found.items attribute ↔ IsFlagged flags.now attribute) }
 {
     let mut found = Vec::new(alloc);

@@ -5,7 +5,7 @@ ghost use Rattle.region_suggest.specs.Gains.{AreGains, IsGain};
 ghost use Rattle.region_suggest.specs.Openings.{AreOpenings};
 
 use crate::dependencies::Dependencies;
-use desk_base::{List, NoMemory};
+use desk_base::{List, MAX_ATTRIBUTES, NoMemory};
 use fix_model::{Book, State};
 use std::alloc::Global;
 
@@ -40,7 +40,7 @@ fn gain_of<L, B: Book<L>>(
 ) -> Result<u16, NoMemory>
     requires fits { Fits (B.kit book.now) state.now }
     requires openings { AreOpenings (B.kit book.now) state.now (length (B.kit book.now).rules) open_rules.now }
-    requires narrow { (B.kit book.now).width ≤ 48 }
+    requires narrow { (B.kit book.now).width ≤ MAX_ATTRIBUTES }
     requires attribute_within { attribute < (B.kit book.now).width }
     requires uncovered { ¬ IsCovered state.now attribute }
     ensures { IfOk result (IsGain (B.kit book.now) state.now attribute) }
@@ -66,7 +66,7 @@ fn covered<L, B: Book<L>>(alloc: Global, book: &B, state: &State) -> Result<Vec<
 
 /// How many flags are set.
 fn count(flags: &[bool]) -> u16
-    requires { length flags.now ≤ 48 }
+    requires { length flags.now ≤ MAX_ATTRIBUTES }
     ensures { result ≡ count_by (λ flag. flag) flags.now }
 {
     flags.iter().filter(|flag| **flag).count() as u16

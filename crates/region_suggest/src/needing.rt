@@ -8,7 +8,7 @@ ghost use Rattle.region_suggest.specs.Openings.{AreOpenings};
 ghost use Rattle.region_suggest.specs.Trying.{AreTried, IsReachTold, IsTested};
 
 use crate::dependencies::{Dependencies, same_flags};
-use desk_base::{List, NoMemory};
+use desk_base::{List, MAX_ATTRIBUTES, NoMemory};
 use fix_model::{Book, State};
 use std::alloc::Global;
 
@@ -70,7 +70,7 @@ impl Dependencies {
     fn test(&self, alloc: Global, given: &mut [bool], attribute: u16) -> Result<(), NoMemory>
         requires sound { IsSound self.now }
         requires whole { length given.old ≡ length self.now.uses.items }
-        requires narrow { length given.old ≤ 48 }
+        requires narrow { length given.old ≤ MAX_ATTRIBUTES }
         requires within { attribute < length given.old }
         ensures { OnOk result (IsTested self.now given.old given.new attribute) }
     {
@@ -85,7 +85,7 @@ impl Dependencies {
     fn reaches_all(&self, alloc: Global, given: &[bool]) -> Result<bool, NoMemory>
         requires sound { IsSound self.now }
         requires whole { length given.now ≡ length self.now.uses.items }
-        requires narrow { length given.now ≤ 48 }
+        requires narrow { length given.now ≤ MAX_ATTRIBUTES }
         ensures { IfOk result (IsReachTold self.now given.now) }
     {
         let closure = self.closure(alloc, given)?;

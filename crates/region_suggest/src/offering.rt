@@ -102,7 +102,7 @@ fn is_certain(verdict: RowVerdict) -> bool
     matches!(verdict, RowVerdict::Certain)
 }
 
-/// Those of the rows whose verdict is certain. Each rule is looked up at most twice for each row.
+/// Those of the rows whose verdict is certain. Each rule is looked up at most once for each row.
 pub(crate) fn certain_rows<L, B: Book<L>>(
     alloc: Global,
     work: &mut Work,
@@ -118,7 +118,7 @@ pub(crate) fn certain_rows<L, B: Book<L>>(
     ensures certain { IfOk result
         (ListsExactly (λ pair. Contains found.now pair × IsCertain (B.kit book.now) regions.now pair)) }
     ensures looks { counts.new.looks
-        ≤ counts.old.looks + 2 * length (B.kit book.now).rules * length found.now }
+        ≤ counts.old.looks + length (B.kit book.now).rules * length found.now }
     ensures size { KeepsSize work.old work.new }
 {
     let mut offers = List::new(alloc);

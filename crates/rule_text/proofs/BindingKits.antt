@@ -53,14 +53,17 @@ AllPairs-from_AreDistinct : {A : Type 0} (pairs : List (ℕ × A)) → AreDistin
 AllPairs-from_AreDistinct [] distinct = λ i j d before within. absurd (omega arith)
 AllPairs-from_AreDistinct (pair ∷ rest) distinct =
     let apart : All (λ later. pair.0 ≢ later.0) rest =
-    λ i d within same. All-from_recursion (λ later. later.0 ≢ pair.0) rest (All-other rest pair.0 distinct.0) i d within (sym same) in
+    λ i d within same. All-from_recursion (λ later. later.0 ≢ pair.0) rest (All-other rest pair.0 distinct.0) i d
+    within (sym same) in
     AllPairs-cons (λ one later. one.0 ≢ later.0) pair rest apart (AllPairs-from_AreDistinct rest distinct.1)
 
 -- pairs of images
 AllPairs-map : {A B : Type 0} (R : B → B → Type 0) (f : A → B) (xs : List A)
     → AllPairs (λ one other. R (f one) (f other)) xs → AllPairs R (map f xs)
 AllPairs-map R f [] pairs = λ i j d before within. absurd (omega arith)
-AllPairs-map R f (x ∷ xs) pairs = AllPairs-cons R (f x) (map f xs) (All-map (R (f x)) f xs (λ i d within. pairs 0 (suc i) d (omega arith) (omega arith))) (AllPairs-map R f xs (λ i j d before within. pairs (suc i) (suc j) d (omega arith) (omega arith)))
+AllPairs-map R f (x ∷ xs) pairs = AllPairs-cons R (f x) (map f xs)
+    (All-map (R (f x)) f xs (λ i d within. pairs 0 (suc i) d (omega arith) (omega arith)))
+    (AllPairs-map R f xs (λ i j d before within. pairs (suc i) (suc j) d (omega arith) (omega arith)))
 
 -- the columns of keys without a fault stand in the master
 All-keys_fault : (number : ℕ) (master : Master) (place : ℕ) (keys : List (ℕ × List ℕ))
@@ -68,8 +71,12 @@ All-keys_fault : (number : ℕ) (master : Master) (place : ℕ) (keys : List (�
     → AllByRecursion (λ key. (bound_key master key).1 < length master.columns) keys
 All-keys_fault number master place [] none = tt
 All-keys_fault number master place (key ∷ rest) none =
-    let parts = None-from_option_or (column_fault number master place key.1) (keys_fault number master (place + 1) rest) none in
-    (within-found _ master.columns [] (column_of master key.1) (NoColumn number place) refl parts.0, All-keys_fault number master (place + 1) rest parts.1)
+    let parts = None-from_option_or (column_fault number master place key.1)
+    (keys_fault number master (place + 1) rest) none in (
+      within-found _ master.columns [] (column_of master key.1) (NoColumn number place) refl parts.0,
+      All-keys_fault
+          number master (place + 1) rest parts.1,
+    )
 
 -- keys without a fault are valid
 AreValidKeys-map : (schema : Schema) (master : Master) (number head : ℕ) (keys : List (ℕ × List ℕ)) → 1 ≤ length keys
@@ -78,10 +85,14 @@ AreValidKeys-map : (schema : Schema) (master : Master) (number head : ℕ) (keys
 AreValidKeys-map schema master number head keys some pairs no_key none = record {
   some = rw length-map some;
   few = rw length-map pairs.fits;
-  attributes = All-map (λ key. key.0 < length schema.attributes) (bound_key master) keys (λ i d within. (All-from_recursion _ keys pairs.good i d within).0);
-  not_head = All-map (λ key. key.0 ≢ head) (bound_key master) keys (All-from_recursion _ keys (All-other keys head no_key));
-  columns_within = All-map (λ key. key.1 < length master.columns) (bound_key master) keys (All-from_recursion _ keys (All-keys_fault number master 1 keys none));
-  distinct = AllPairs-map (λ key later. key.0 ≢ later.0) (bound_key master) keys (AllPairs-from_AreDistinct keys pairs.distinct);
+  attributes = All-map (λ key. key.0 < length schema.attributes) (bound_key master) keys
+      (λ i d within. (All-from_recursion _ keys pairs.good i d within).0);
+  not_head = All-map (λ key. key.0 ≢ head) (bound_key master) keys
+      (All-from_recursion _ keys (All-other keys head no_key));
+  columns_within = All-map (λ key. key.1 < length master.columns) (bound_key master) keys
+      (All-from_recursion _ keys (All-keys_fault number master 1 keys none));
+  distinct = AllPairs-map (λ key later. key.0 ≢ later.0) (bound_key master) keys
+      (AllPairs-from_AreDistinct keys pairs.distinct);
 }
 
 -- a pattern of a rulebook has a set of 1 to 64 texts, where it has one
@@ -109,28 +120,38 @@ line_fault-parts : (masters : List (List ℕ × Master)) (number : ℕ) (line : 
     → option_map_or (λ place. columns_fault number (master_at masters place) line) found (Some (NoMaster number)) ≡ None
     → (unwrap_or found 0 < length masters) × (columns_fault number (master_at masters (unwrap_or found 0)) line ≡ None)
 line_fault-parts masters number line None is none = absurd (cc)
-line_fault-parts masters number line (Some place) is none = ((position-Some _ masters place ([], record { columns = []; grid = record { columns = 0; rows = [] } }) is).0, none)
+line_fault-parts masters number line (Some place) is
+    none = (
+      (position-Some _ masters place ([], record { columns = []; grid = record { columns = 0; rows = [] } })
+          is).0,
+      none,
+    )
 
 -- a grid of the kit has as many columns as its master
 columns-map : (masters : List (List ℕ × Master)) (place : ℕ) → AreMasters masters → place < length masters
     → (slice_index_or (map (λ master. master.1.grid) masters) place (record { columns = 0; rows = [] })).columns
     ≡ length (master_at masters place).columns
-columns-map masters place are within = rw (get_or-map (λ master. master.1.grid) masters place ([], record { columns = []; grid = record { columns = 0; rows = [] } }) _ within) (are.each place _ within).width
+columns-map masters place are within = rw (get_or-map (λ master. master.1.grid) masters place
+    ([], record { columns = []; grid = record { columns = 0; rows = [] } }) _ within) (are.each place _ within).width
 
-module _ (rulebook : Rulebook) (schema : Schema) (masters : List (List ℕ × Master)) (folded : List ℕ) (are : AreMasters masters) where
+module _ (rulebook : Rulebook) (schema : Schema) (masters : List (List ℕ × Master)) (folded : List ℕ)
+    (are : AreMasters masters) where
   -- the rule of a line without a fault is valid
   IsValidRule-rule_of : (number : ℕ) (line : RuleLine) → IsLine schema line → line_fault masters number line ≡ None
       → IsValidRule (kit_of rulebook schema masters folded) (rule_of masters line)
   IsValidRule-rule_of number line is none =
       let place : ℕ = unwrap_or (master_of masters line.master) 0 in
       let parts = line_fault-parts masters number line (master_of masters line.master) refl none in
-      let faults = None-from_option_or (keys_fault number (master_at masters place) 1 line.keys) (column_fault number (master_at masters place) 0 line.from) parts.1 in
+      let faults = None-from_option_or (keys_fault number (master_at masters place) 1 line.keys)
+      (column_fault number (master_at masters place) 0 line.from) parts.1 in
       let columns = columns-map masters place are parts.0 in
       record {
         head = is.head;
         master = rw length-map parts.0;
-        from = rw columns (within-found _ (master_at masters place).columns [] (column_of (master_at masters place) line.from) (NoColumn number 0) refl faults.1);
-        keys = rw columns (AreValidKeys-map schema (master_at masters place) number line.head line.keys is.some is.keys is.no_key faults.0);
+        from = rw columns (within-found _ (master_at masters place).columns []
+            (column_of (master_at masters place) line.from) (NoColumn number 0) refl faults.1);
+        keys = rw columns (AreValidKeys-map schema (master_at masters place) number line.head line.keys is.some
+            is.keys is.no_key faults.0);
         conds = AreValidConds-from_pairs schema line.head line.conds is.conds is.no_cond;
       }
 
@@ -152,5 +173,6 @@ module _ (rulebook : Rulebook) (schema : Schema) (masters : List (List ℕ × Ma
     few_rules = rw length-map is_rulebook.fits;
     few_masters = rw length-map are.few;
     folded = length-map-range_with_len _ 0 _;
-    rules = All-map (IsValidRule (kit_of rulebook schema masters folded)) (rule_of masters) rulebook.lines (All-from_recursion _ rulebook.lines (All-rule_of 1 rulebook.lines is_rulebook.lines none));
+    rules = All-map (IsValidRule (kit_of rulebook schema masters folded)) (rule_of masters) rulebook.lines
+        (All-from_recursion _ rulebook.lines (All-rule_of 1 rulebook.lines is_rulebook.lines none));
   }

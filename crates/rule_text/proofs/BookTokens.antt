@@ -46,7 +46,9 @@ record IsStep (schema : Schema) (before after : Expected) (draft held : Draft) (
 -- so it does where it is changed so and led so
 step-to : (schema : Schema) (before to after : Expected) (draft changed held : Draft) (token : Token) → to ≡ after
     → changed ≡ held → IsStep schema before to draft changed token → IsStep schema before after draft held token
-step-to schema before to after draft changed held token is same step = subst (λ (s : Expected). IsStep schema before s draft held token) is (subst (λ (d : Draft). IsStep schema before to draft d token) same step)
+step-to schema before to after draft changed held token is same
+    step = subst (λ (s : Expected). IsStep schema before s draft held token) is
+    (subst (λ (d : Draft). IsStep schema before to draft d token) same step)
 
 -- and where the open rule stands for one token more, and no rule is closed
 step-open : (schema : Schema) (before to after : Expected) (draft changed held : Draft) (token : Token) → to ≡ after
@@ -65,7 +67,8 @@ step-open schema before to after draft changed held token is same kept parts tok
 
 -- ---- keys and the head
 
-module _ (schema : Schema) (place : Place) (after : Expected) (draft held : Draft) (token : Token) (at : IsKeyed draft) where
+module _ (schema : Schema) (place : Place) (after : Expected) (draft held : Draft) (token : Token)
+    (at : IsKeyed draft) where
   -- the attribute of a key
   step-key_of : (found : Option ℕ) → is_name token ≡ true → attribute_of schema (content token) ≡ found
       → with_key_of found place draft ≡ Ok held → expected.KeyEquals ≡ after
@@ -73,7 +76,8 @@ module _ (schema : Schema) (place : Place) (after : Expected) (draft held : Draf
   step-key_of None name found read is = absurd cc
   step-key_of (Some attribute) name found read is =
       let (free, same) = unless-Ok _ _ _ _ read in
-      step-open schema expected.Key expected.KeyEquals after draft (record draft { attribute = attribute }) held token is (same-draft _ _ same) refl at (rw (attribute-token schema token attribute name found) refl)
+      step-open schema expected.Key expected.KeyEquals after draft (record draft { attribute = attribute }) held token
+      is (same-draft _ _ same) refl at (rw (attribute-token schema token attribute name found) refl)
 
   -- its column
   step-key_column : is_column token ≡ true → with_key_column (content token) place draft ≡ Ok held
@@ -83,8 +87,11 @@ module _ (schema : Schema) (place : Place) (after : Expected) (draft held : Draf
       let changed = record draft { line = record draft.line { keys = draft.line.keys ++ key ∷ [] } } in
       let some : 1 ≤ length changed.line.keys = rw length-append (omega arith) in
       let (short, same) = unless-Ok _ _ _ _ read in
-      step-open schema expected.KeyColumn expected.AfterKey after draft changed held (as_string token) is (same-draft _ _ same) refl (some, at)
-      (rw (more-item (pair_tokens schema) draft.line.keys key, column-token token column) (one-by-one (key_tokens schema draft.line) (Word (attribute_text schema draft.attribute)) (Sign mark.Equals) (Quoted (content token))))
+      step-open schema expected.KeyColumn expected.AfterKey after draft changed held (as_string token) is
+      (same-draft _ _ same) refl (some, at)
+      (rw (more-item (pair_tokens schema) draft.line.keys key, column-token token column)
+      (one-by-one (key_tokens schema draft.line) (Word (attribute_text schema draft.attribute)) (Sign mark.Equals)
+      (Quoted (content token))))
 
   -- the head
   step-head_of : (found : Option ℕ) → is_name token ≡ true → attribute_of schema (content token) ≡ found
@@ -93,19 +100,24 @@ module _ (schema : Schema) (place : Place) (after : Expected) (draft held : Draf
   step-head_of None name found read is = absurd cc
   step-head_of (Some attribute) name found read is =
       let (free, same) = unless-Ok _ _ _ _ read in
-      step-open schema expected.Head expected.HeadEquals after draft (record draft { line = record draft.line { head = attribute } }) held token is (same-draft _ _ same) refl at (rw (attribute-token schema token attribute name found) refl)
+      step-open schema expected.Head expected.HeadEquals after draft
+      (record draft { line = record draft.line { head = attribute } }) held token is (same-draft _ _ same) refl
+      at (rw (attribute-token schema token attribute name found) refl)
 
   -- its column
   step-head_column : is_column token ≡ true → with_head_column (content token) place draft ≡ Ok held
       → expected.AfterHead ≡ after → IsStep schema expected.HeadColumn after draft held (as_string token)
   step-head_column column read is =
       let (short, same) = unless-Ok _ _ _ _ read in
-      step-open schema expected.HeadColumn expected.AfterHead after draft (record draft { line = record draft.line { from = content token } }) held (as_string token) is (same-draft _ _ same) refl at (rw (column-token token column) refl)
+      step-open schema expected.HeadColumn expected.AfterHead after draft
+      (record draft { line = record draft.line { from = content token } }) held (as_string token) is
+      (same-draft _ _ same) refl at (rw (column-token token column) refl)
 
 -- ---- conditions
 
 -- the attribute of a condition
-step-asked_of : (schema : Schema) (place : Place) (after : Expected) (draft held : Draft) (token : Token) (found : Option ℕ)
+step-asked_of : (schema : Schema) (place : Place) (after : Expected) (draft held : Draft) (token : Token)
+    (found : Option ℕ)
     → is_name token ≡ true → attribute_of schema (content token) ≡ found → with_asked_of found place draft ≡ Ok held
     → draft.texts ≡ [] → expected.Test ≡ after → IsStep schema expected.Cond after draft held token
 step-asked_of schema place after draft held token None name found read no_texts is = absurd cc
@@ -113,7 +125,8 @@ step-asked_of schema place after draft held token (Some attribute) name found re
     let (free, more) =
     unless-Ok (has_attribute draft.line.conds attribute) (AttrTwice place.line place.column) _ _ read in
     let (other, same) = unless-Ok (attribute == draft.line.head) (HeadInWhen place.line place.column) _ _ more in
-    step-open schema expected.Cond expected.Test after draft (record draft { attribute = attribute }) held token is (same-draft _ _ same) refl no_texts (rw (attribute-token schema token attribute name found) refl)
+    step-open schema expected.Cond expected.Test after draft (record draft { attribute = attribute }) held token is
+    (same-draft _ _ same) refl no_texts (rw (attribute-token schema token attribute name found) refl)
 
 -- a text of a set
 step-text : (schema : Schema) (place : Place) (after : Expected) (draft held : Draft) (token : Token)
@@ -125,24 +138,30 @@ step-text schema place after draft held token quoted read is =
     let changed = record draft { texts = draft.texts ++ content token ∷ [] } in
     let some : 1 ≤ length changed.texts = rw length-append (omega arith) in
     step-open schema expected.Item expected.AfterItem after draft changed held token is (same-draft _ _ same) refl some
-    (rw (more-item text_tokens draft.texts (content token), ← quoted-token token quoted) (sym (append_assoc (opened_tokens schema draft) (commas_behind (map text_tokens draft.texts)) (token ∷ []))))
+    (rw (more-item text_tokens draft.texts (content token), ← quoted-token token quoted)
+    (sym (append_assoc (opened_tokens schema draft) (commas_behind (map text_tokens draft.texts)) (token ∷ []))))
 
 -- the last token of a condition
-step-cond : (schema : Schema) (before after : Expected) (pat : Pat) (texts : List (List ℕ)) (draft held : Draft) (token : Token)
+step-cond : (schema : Schema) (before after : Expected) (pat : Pat) (texts : List (List ℕ)) (draft held : Draft)
+    (token : Token)
     → expected.AfterCond ≡ after → record (with_cond pat draft) { texts = texts } ≡ held → texts ≡ []
     → asked_tokens schema draft ++ pattern_tokens pat ≡ open_tokens schema before draft ++ token ∷ []
     → IsStep schema before after draft held token
 step-cond schema before after pat texts draft held token is kept no_texts tokens =
     let changed = record (with_cond pat draft) { texts = texts } in
     let some : 1 ≤ length changed.line.conds = rw length-append (omega arith) in
-    step-open schema before expected.AfterCond after draft changed held token is kept refl (some, no_texts) (more-cond schema pat draft ∙ tokens)
+    step-open schema before expected.AfterCond after draft changed held token is kept refl (some, no_texts)
+    (more-cond schema pat draft ∙ tokens)
 
 -- the one constant of a condition
-step-constant : (schema : Schema) (place : Place) (before after : Expected) (pat : List ℕ → Pat) (draft held : Draft) (token : Token)
+step-constant : (schema : Schema) (place : Place) (before after : Expected) (pat : List ℕ → Pat) (draft held : Draft)
+    (token : Token)
     → with_constant pat (content token) place draft ≡ Ok held → draft.texts ≡ [] → expected.AfterCond ≡ after
     → asked_tokens schema draft ++ pattern_tokens (pat (content token)) ≡ open_tokens schema before draft ++ token ∷ []
     → IsStep schema before after draft held token
-step-constant schema place before after pat draft held token read no_texts is tokens = let (short, same) = unless-Ok _ _ _ _ read in step-cond schema before after (pat (content token)) draft.texts draft held token is (same-draft _ _ same) no_texts tokens
+step-constant schema place before after pat draft held token read no_texts is tokens = let (short, same) = unless-Ok
+    _ _ _ _ read in step-cond schema before after (pat (content token)) draft.texts draft held token is
+    (same-draft _ _ same) no_texts tokens
 
 -- the end of a set
 step-closed : (schema : Schema) (after : Expected) (draft held : Draft) → expected.AfterCond ≡ after
@@ -150,7 +169,8 @@ step-closed : (schema : Schema) (after : Expected) (draft held : Draft) → expe
     → IsStep schema expected.AfterItem after draft held (Sign mark.Closing)
 step-closed schema after draft held is same =
     step-cond schema expected.AfterItem after (set_of draft) [] draft held (Sign mark.Closing) is same refl
-    (rw (set_of-tokens draft) (in-parts (asked_tokens schema draft) (set_words draft.negated) (with_commas (map text_tokens draft.texts)) (Sign mark.Opening) (Sign mark.Closing)))
+    (rw (set_of-tokens draft) (in-parts (asked_tokens schema draft) (set_words draft.negated)
+    (with_commas (map text_tokens draft.texts)) (Sign mark.Opening) (Sign mark.Closing)))
 
 -- ---- where the grammar has a choice
 
@@ -164,7 +184,8 @@ step-line schema before after draft held is same whole =
     let last = Sign mark.Semicolon ∷ [] in
     let closed : line_tokens schema draft.line ≡ open_tokens schema before draft ++ last =
     line_tokens-closed schema draft.line ∙ ap (λ (tokens : List Token). tokens ++ last) (sym whole) in
-    step-to schema before expected.Rule after draft (draft_behind (draft.lines ++ draft.line ∷ [])) held (Sign mark.Semicolon) is same (record {
+    step-to schema before expected.Rule after draft (draft_behind (draft.lines ++ draft.line ∷ [])) held
+    (Sign mark.Semicolon) is same (record {
       tokens =
           append-nil (flat_map (line_tokens schema) (draft.lines ++ draft.line ∷ []))
           ∙ sym (flat_map_more (line_tokens schema) [] draft.lines draft.line)
@@ -185,7 +206,8 @@ step-after_line schema before after token comma draft held more one apart goes r
     elim (led_either more expected.Cond after _ goes) [
       | inl (taken, is) ↦
           let same : draft ≡ with_line token draft = rw (one taken, apart) refl in
-          step-open schema before expected.Cond after draft draft held token is (same ∙ read) refl no_texts (rw (one taken) asking)
+          step-open schema before expected.Cond after draft draft held token is (same ∙ read) refl no_texts
+          (rw (one taken) asking)
       | inr (other, others) ↦
           let (closing, is) = led _ _ _ others in
           let same : draft_behind (draft.lines ++ draft.line ∷ []) ≡ with_line token draft = rw closing refl in
@@ -203,7 +225,9 @@ step-after_text schema after token draft held goes read some =
           let comma = sign-mark mark.Comma token taken in
           let same : draft ≡ with_set token draft = rw comma refl in
           step-open schema expected.AfterItem expected.Item after draft draft held token is (same ∙ read) refl tt
-          (rw (← more-comma text_tokens draft.texts some, comma) (sym (append_assoc (opened_tokens schema draft) (with_commas (map text_tokens draft.texts)) (Sign mark.Comma ∷ []))))
+          (rw (← more-comma text_tokens draft.texts some, comma)
+          (sym (append_assoc (opened_tokens schema draft) (with_commas (map text_tokens draft.texts))
+          (Sign mark.Comma ∷ []))))
       | inr (other, others) ↦
           let (closing, is) = led _ _ _ others in
           let same : record (with_cond (set_of draft) draft) { texts = [] } ≡ with_set token draft = rw closing refl in
@@ -221,30 +245,42 @@ step-after_negated schema after token place draft held goes read no_texts =
       | inl (taken, is) ↦
           let constant : with_negated token place draft ≡ with_constant IsNot (content token) place draft =
           rw taken refl in
-          step-constant schema place expected.Negated after IsNot draft held token (sym constant ∙ read) no_texts is (rw (← quoted-token token taken) (sym (append_assoc (asked_tokens schema draft) (Word (codes "not") ∷ []) (token ∷ []))))
+          step-constant schema place expected.Negated after IsNot draft held token (sym constant ∙ read) no_texts is
+          (rw (← quoted-token token taken)
+          (sym (append_assoc (asked_tokens schema draft) (Word (codes "not") ∷ []) (token ∷ []))))
       | inr (other, others) ↦
           let (in-word, is) = led _ _ _ others in
           let set : with_negated token place draft ≡ Ok (record draft { negated = true }) = rw other refl in
-          step-open schema expected.Negated expected.Open after draft (record draft { negated = true }) held token is (same-draft _ _ (sym set ∙ read)) refl no_texts
-          (rw (keyword-word (codes "in") token in-word) (sym (append_assoc (asked_tokens schema draft) (Word (codes "not") ∷ []) (Word (codes "in") ∷ []))))
+          step-open schema expected.Negated expected.Open after draft (record draft { negated = true }) held token is
+          (same-draft _ _ (sym set ∙ read)) refl no_texts
+          (rw (keyword-word (codes "in") token in-word)
+          (sym (append_assoc (asked_tokens schema draft) (Word (codes "not") ∷ []) (Word (codes "in") ∷ []))))
     ]
 
 -- after the attribute of a condition: what it asks
 step-after_test : (schema : Schema) (after : Expected) (token : Token) (draft held : Draft)
-    → (if is_keyword (codes "is") token then Some expected.Const else if is_keyword (codes "not") token then Some expected.Negated else if is_keyword (codes "in") token then Some expected.Open else leads (is_keyword (codes "any") token) expected.AfterCond) ≡ Some after
+    → (if is_keyword (codes "is") token then Some expected.Const else if is_keyword (codes "not") token then Some
+    expected.Negated else if is_keyword (codes "in") token then Some expected.Open else leads
+    (is_keyword (codes "any") token) expected.AfterCond) ≡ Some after
     → with_test token draft ≡ held → draft.texts ≡ [] → IsStep schema expected.Test after draft held token
 step-after_test schema after token draft held goes read no_texts =
     let changed = record draft { negated = false } in
     elim (led_either (is_keyword (codes "is") token) expected.Const after _ goes) [
-      | inl (taken, is) ↦ let one = keyword-word _ token taken in step-open schema expected.Test expected.Const after draft changed held token is (test-other (codes "is") token draft refl one ∙ read) refl no_texts (rw one refl)
+      | inl (taken, is) ↦ let one = keyword-word _ token taken in step-open schema expected.Test expected.Const after
+          draft changed held token is (test-other (codes "is") token draft refl one ∙ read) refl no_texts (rw one refl)
       | inr (other, others) ↦ elim (led_either (is_keyword (codes "not") token) expected.Negated after _ others) [
-        | inl (taken, is) ↦ let one = keyword-word _ token taken in step-open schema expected.Test expected.Negated after draft changed held token is (test-other (codes "not") token draft refl one ∙ read) refl no_texts (rw one refl)
+        | inl (taken, is) ↦ let one = keyword-word _ token taken in step-open schema expected.Test expected.Negated
+            after draft changed held token is (test-other (codes "not") token draft refl one ∙ read) refl no_texts
+            (rw one refl)
         | inr (other', others') ↦ elim (led_either (is_keyword (codes "in") token) expected.Open after _ others') [
-          | inl (taken, is) ↦ let one = keyword-word _ token taken in step-open schema expected.Test expected.Open after draft changed held token is (test-other (codes "in") token draft refl one ∙ read) refl no_texts (rw one refl)
+          | inl (taken, is) ↦ let one = keyword-word _ token taken in step-open schema expected.Test expected.Open
+              after draft changed held token is (test-other (codes "in") token draft refl one ∙ read) refl no_texts
+              (rw one refl)
           | inr (other'', others'') ↦
               let (any-word, is) = led _ _ _ others'' in
               let same : with_cond Any draft ≡ with_test token draft = rw any-word refl in
-              step-cond schema expected.Test after Any draft.texts draft held token is (same ∙ read) no_texts (rw (keyword-word _ token any-word) refl)
+              step-cond schema expected.Test after Any draft.texts draft held token is (same ∙ read) no_texts
+              (rw (keyword-word _ token any-word) refl)
         ]
       ]
     ]
@@ -254,64 +290,89 @@ step-after_test schema after token draft held goes read no_texts =
 -- behind a token that a expected takes, a draft stands for one token more
 tokens-step : (schema : Schema) (before after : Expected) (token : Token) (place : Place) (draft held : Draft)
     → next before token ≡ Some after → with_token schema before token place draft ≡ Ok held → HasParts before draft
-    → IsStep schema before after draft held (column_as_string (record { expected = before; token = token; place = place }))
+    → IsStep schema before after draft held
+    (column_as_string (record { expected = before; token = token; place = place }))
 unfolding next with_token
 tokens-step schema expected.Rule after token place draft held goes read at =
     let (taken, is) =
-    led _ _ _ goes in step-open schema expected.Rule expected.Name after draft draft held token is (same-draft _ _ read) refl at (rw (keyword-word _ token taken) refl)
+    led _ _ _ goes in step-open schema expected.Rule expected.Name after draft draft held token is
+    (same-draft _ _ read) refl at (rw (keyword-word _ token taken) refl)
 tokens-step schema expected.Name after token place draft held goes read at =
     let (taken, is) = led _ _ _ goes in
     let (free, same) = unless-Ok _ _ _ _ read in
-    step-open schema expected.Name expected.From after draft (record draft { line = record draft.line { name = content token } }) held token is (same-draft _ _ same) refl at (rw (← name-token token taken) refl)
+    step-open schema expected.Name expected.From after draft (record draft
+    { line = record draft.line { name = content token } }) held token is (same-draft _ _ same) refl
+    at (rw (← name-token token taken) refl)
 tokens-step schema expected.From after token place draft held goes read at =
     let (taken, is) =
-    led _ _ _ goes in step-open schema expected.From expected.Master after draft draft held token is (same-draft _ _ read) refl at (rw (keyword-word _ token taken) refl)
+    led _ _ _ goes in step-open schema expected.From expected.Master after draft draft held token is
+    (same-draft _ _ read) refl at (rw (keyword-word _ token taken) refl)
 tokens-step schema expected.Master after token place draft held goes read at =
     let (taken, is) =
-    led _ _ _ goes in step-open schema expected.Master expected.Colon after draft (with_master (content token) draft) held token is (same-draft _ _ read) refl at (rw (← name-token token taken) refl)
+    led _ _ _ goes in step-open schema expected.Master expected.Colon after draft (with_master (content token) draft)
+    held token is (same-draft _ _ read) refl at (rw (← name-token token taken) refl)
 tokens-step schema expected.Colon after token place draft held goes read (no_keys, keyed) =
     let (taken, is) =
-    led _ _ _ goes in step-open schema expected.Colon expected.Key after draft draft held token is (same-draft _ _ read) refl keyed (rw (sign-mark mark.Colon token taken, no_keys) refl)
+    led _ _ _ goes in step-open schema expected.Colon expected.Key after draft draft held token is
+    (same-draft _ _ read) refl keyed (rw (sign-mark mark.Colon token taken, no_keys) refl)
 tokens-step schema expected.Key after token place draft held goes read at =
     let (taken, is) = led _ _ _ goes in
     let (room, found) = unless-Ok _ _ _ _ read in
     step-key_of schema place after draft held token at (attribute_of schema (content token)) taken refl found is
 tokens-step schema expected.KeyEquals after token place draft held goes read at =
     let (taken, is) =
-    led _ _ _ goes in step-open schema expected.KeyEquals expected.KeyColumn after draft draft held token is (same-draft _ _ read) refl at (rw (sign-mark mark.Equals token taken) refl)
-tokens-step schema expected.KeyColumn after token place draft held goes read at = let (taken, is) = led _ _ _ goes in step-key_column schema place after draft held token at taken read is
+    led _ _ _ goes in step-open schema expected.KeyEquals expected.KeyColumn after draft draft held token is
+    (same-draft _ _ read) refl at (rw (sign-mark mark.Equals token taken) refl)
+tokens-step schema expected.KeyColumn after token place draft held goes read at = let (taken, is) = led _ _ _ goes
+    in step-key_column schema place after draft held token at taken read is
 tokens-step schema expected.AfterKey after token place draft held goes read (some, keyed) =
     elim (led_either (is_sign mark.Comma token) expected.Key after _ goes) [
-      | inl (taken, is) ↦ step-open schema expected.AfterKey expected.Key after draft draft held token is (same-draft _ _ read) refl keyed (rw (sign-mark mark.Comma token taken, ← more-comma (pair_tokens schema) draft.line.keys some) refl)
-      | inr (other, others) ↦ let (arrow, is) = led _ _ _ others in step-open schema expected.AfterKey expected.Head after draft draft held token is (same-draft _ _ read) refl keyed (rw (sign-mark mark.Arrow token arrow) refl)
+      | inl (taken, is) ↦ step-open schema expected.AfterKey expected.Key after draft draft held token is
+          (same-draft _ _ read) refl keyed
+          (rw (sign-mark mark.Comma token taken, ← more-comma (pair_tokens schema) draft.line.keys some) refl)
+      | inr (other, others) ↦ let (arrow, is) = led _ _ _ others in step-open schema expected.AfterKey expected.Head
+          after draft draft held token is (same-draft _ _ read) refl keyed (rw (sign-mark mark.Arrow token arrow) refl)
     ]
-tokens-step schema expected.Head after token place draft held goes read at = let (taken, is) = led _ _ _ goes in step-head_of schema place after draft held token at (attribute_of schema (content token)) taken refl read is
+tokens-step schema expected.Head after token place draft held goes read at = let (taken, is) = led _ _ _ goes
+    in step-head_of schema place after draft held token at (attribute_of schema (content token)) taken refl read is
 tokens-step schema expected.HeadEquals after token place draft held goes read at =
     let (taken, is) =
-    led _ _ _ goes in step-open schema expected.HeadEquals expected.HeadColumn after draft draft held token is (same-draft _ _ read) refl at (rw (sign-mark mark.Equals token taken) refl)
-tokens-step schema expected.HeadColumn after token place draft held goes read at = let (taken, is) = led _ _ _ goes in step-head_column schema place after draft held token at taken read is
+    led _ _ _ goes in step-open schema expected.HeadEquals expected.HeadColumn after draft draft held token is
+    (same-draft _ _ read) refl at (rw (sign-mark mark.Equals token taken) refl)
+tokens-step schema expected.HeadColumn after token place draft held goes read at = let (taken, is) = led _ _ _ goes
+    in step-head_column schema place after draft held token at taken read is
 tokens-step schema expected.AfterHead after token place draft held goes read (no_conds, no_texts) =
-    step-after_line schema expected.AfterHead after token (Word (codes "when")) draft held (is_keyword (codes "when") token) (keyword-word _ token) refl goes (same-draft _ _ read) no_texts
+    step-after_line schema expected.AfterHead after token (Word (codes "when")) draft held
+    (is_keyword (codes "when") token) (keyword-word _ token) refl goes (same-draft _ _ read) no_texts
     (rw no_conds (sym (append-nil (headed_tokens schema draft.line)))) (rw no_conds refl)
 tokens-step schema expected.Cond after token place draft held goes read no_texts =
     let (taken, is) = led _ _ _ goes in
     let (room, found) = unless-Ok _ _ _ _ read in
     step-asked_of schema place after draft held token (attribute_of schema (content token)) taken refl found no_texts is
-tokens-step schema expected.Test after token place draft held goes read no_texts = step-after_test schema after token draft held goes (same-draft _ _ read) no_texts
-tokens-step schema expected.Negated after token place draft held goes read no_texts = step-after_negated schema after token place draft held goes read no_texts
+tokens-step schema expected.Test after token place draft held goes read no_texts = step-after_test schema after token
+    draft held goes (same-draft _ _ read) no_texts
+tokens-step schema expected.Negated after token place draft held goes read no_texts = step-after_negated schema after
+    token place draft held goes read no_texts
 tokens-step schema expected.Open after token place draft held goes read no_texts =
     let (taken, is) = led _ _ _ goes in
-    step-open schema expected.Open expected.Item after draft draft held token is (same-draft _ _ read) refl tt (rw (sign-mark mark.Opening token taken, no_texts) (append-nil (opened_tokens schema draft)))
-tokens-step schema expected.Item after token place draft held goes read at = let (taken, is) = led _ _ _ goes in step-text schema place after draft held token taken read is
-tokens-step schema expected.AfterItem after token place draft held goes read some = step-after_text schema after token draft held goes (same-draft _ _ read) some
+    step-open schema expected.Open expected.Item after draft draft held token is (same-draft _ _ read) refl tt
+    (rw (sign-mark mark.Opening token taken, no_texts) (append-nil (opened_tokens schema draft)))
+tokens-step schema expected.Item after token place draft held goes read at = let (taken, is) = led _ _ _ goes
+    in step-text schema place after draft held token taken read is
+tokens-step schema expected.AfterItem after token place draft held goes read some = step-after_text schema after token
+    draft held goes (same-draft _ _ read) some
 tokens-step schema expected.Const after token place draft held goes read no_texts =
     let (taken, is) = led _ _ _ goes in
-    step-constant schema place expected.Const after Is draft held token read no_texts is (rw (← quoted-token token taken) (sym (append_assoc (asked_tokens schema draft) (Word (codes "is") ∷ []) (token ∷ []))))
+    step-constant schema place expected.Const after Is draft held token read no_texts is
+    (rw (← quoted-token token taken)
+    (sym (append_assoc (asked_tokens schema draft) (Word (codes "is") ∷ []) (token ∷ []))))
 tokens-step schema expected.AfterCond after token place draft held goes read (some, no_texts) =
     let headed = headed_tokens schema draft.line in
     let conds = conds_tokens schema draft.line.conds in
-    step-after_line schema expected.AfterCond after token (Sign mark.Comma) draft held (is_sign mark.Comma token) (sign-mark mark.Comma token) refl goes (same-draft _ _ read) no_texts
-    refl (sym (append_assoc headed conds (Sign mark.Comma ∷ []) ∙ ap (λ (tokens : List Token). headed ++ tokens) (conds_tokens-comma schema draft.line.conds some)))
+    step-after_line schema expected.AfterCond after token (Sign mark.Comma) draft held (is_sign mark.Comma token)
+    (sign-mark mark.Comma token) refl goes (same-draft _ _ read) no_texts
+    refl (sym (append_assoc headed conds (Sign mark.Comma ∷ [])
+    ∙ ap (λ (tokens : List Token). headed ++ tokens) (conds_tokens-comma schema draft.line.conds some)))
 
 -- behind all tokens of a text its rulebook has these tokens, columns taken as strings
 pub tokens-all : (schema : Schema) (before : Expected) (tokens : List Taken) (draft held : Draft)
@@ -325,10 +386,13 @@ tokens-all schema before [] draft held rulebook read at =
 tokens-all schema before (first ∷ rest) draft held (is, spelled, (after, goes, behind)) read at =
     let (middle, step, others) =
     and_then-Ok (with_token schema first.expected first.token first.place draft) (with_tokens schema rest) held read in
-    let one = tokens-step schema before after first.token first.place draft middle goes (subst (λ (s : Expected). with_token schema s first.token first.place draft ≡ Ok middle) is step) at in
+    let one = tokens-step schema before after first.token first.place draft middle goes
+    (subst (λ (s : Expected). with_token schema s first.token first.place draft ≡ Ok middle) is step) at in
     let front = draft_tokens schema before draft in
     let more = map column_as_string rest in
-    let string : column_as_string (record { expected = before; token = first.token; place = first.place }) ≡ column_as_string first = ap (λ (s : Expected). column_as_string (record { expected = s; token = first.token; place = first.place })) (sym is) in
+    let string : column_as_string (record { expected = before; token = first.token; place = first.place })
+    ≡ column_as_string first = ap (λ (s : Expected). column_as_string
+    (record { expected = s; token = first.token; place = first.place })) (sym is) in
     sym (append_assoc front (column_as_string first ∷ []) more)
     ∙ ap (λ (tokens : List Token). tokens ++ more) (sym (one.tokens ∙ ap (λ (t : Token). front ++ t ∷ []) string))
     ∙ tokens-all schema after rest middle held behind others one.parts

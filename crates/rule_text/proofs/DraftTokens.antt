@@ -72,7 +72,8 @@ keyed_tokens schema line = start_tokens line ++ with_commas (map (pair_tokens sc
 
 -- up to its head
 abbrev pub head_tokens : Schema → RuleLine → List Token
-head_tokens schema line = (keyed_tokens schema line ++ Sign mark.Arrow ∷ []) ++ Word (attribute_text schema line.head) ∷ []
+head_tokens schema line = (keyed_tokens schema line ++ Sign mark.Arrow ∷ []) ++ Word (attribute_text schema line.head)
+    ∷ []
 
 -- up to the column of its head
 abbrev pub headed_tokens : Schema → RuleLine → List Token
@@ -80,7 +81,8 @@ headed_tokens schema line = (head_tokens schema line ++ Sign mark.Equals ∷ [])
 
 -- up to the attribute of its next condition
 abbrev pub asking_tokens : Schema → RuleLine → List Token
-asking_tokens schema line = headed_tokens schema line ++ Word (codes "when") ∷ commas_behind (map (cond_tokens schema) line.conds)
+asking_tokens schema line = headed_tokens schema line ++ Word (codes "when") ∷ commas_behind
+    (map (cond_tokens schema) line.conds)
 
 -- with this attribute
 abbrev pub asked_tokens : Schema → Draft → List Token
@@ -100,10 +102,13 @@ open_tokens schema expected.Rule draft = []
 open_tokens schema expected.Name draft = Word (codes "rule") ∷ []
 open_tokens schema expected.From draft = Word (codes "rule") ∷ Word draft.line.name ∷ []
 open_tokens schema expected.Master draft = Word (codes "rule") ∷ Word draft.line.name ∷ Word (codes "from") ∷ []
-open_tokens schema expected.Colon draft = Word (codes "rule") ∷ Word draft.line.name ∷ Word (codes "from") ∷ Word draft.line.master ∷ []
+open_tokens schema expected.Colon draft = Word (codes "rule") ∷ Word draft.line.name ∷ Word (codes "from") ∷ Word
+    draft.line.master ∷ []
 open_tokens schema expected.Key draft = key_tokens schema draft.line
-open_tokens schema expected.KeyEquals draft = key_tokens schema draft.line ++ Word (attribute_text schema draft.attribute) ∷ []
-open_tokens schema expected.KeyColumn draft = (key_tokens schema draft.line ++ Word (attribute_text schema draft.attribute) ∷ []) ++ Sign mark.Equals ∷ []
+open_tokens schema expected.KeyEquals draft = key_tokens schema draft.line ++ Word
+    (attribute_text schema draft.attribute) ∷ []
+open_tokens schema expected.KeyColumn draft = (key_tokens schema draft.line ++ Word
+    (attribute_text schema draft.attribute) ∷ []) ++ Sign mark.Equals ∷ []
 open_tokens schema expected.AfterKey draft = keyed_tokens schema draft.line
 open_tokens schema expected.Head draft = keyed_tokens schema draft.line ++ Sign mark.Arrow ∷ []
 open_tokens schema expected.HeadEquals draft = head_tokens schema draft.line
@@ -173,14 +178,16 @@ conds_tokens-append : (schema : Schema) (conds : List (ℕ × Pat)) (last : ℕ 
     → conds_tokens schema (conds ++ last ∷ [])
     ≡ Word (codes "when") ∷ commas_behind (map (cond_tokens schema) conds) ++ cond_tokens schema last
 conds_tokens-append schema [] last = refl
-conds_tokens-append schema (first ∷ rest) last = ap (λ (tokens : List Token). Word (codes "when") ∷ tokens) (more-item (cond_tokens schema) (first ∷ rest) last)
+conds_tokens-append schema (first ∷ rest) last = ap (λ (tokens : List Token). Word (codes "when") ∷ tokens)
+    (more-item (cond_tokens schema) (first ∷ rest) last)
 
 -- and a comma more
 pub conds_tokens-comma : (schema : Schema) (conds : List (ℕ × Pat)) → 1 ≤ length conds
     → conds_tokens schema conds ++ Sign mark.Comma ∷ []
     ≡ Word (codes "when") ∷ commas_behind (map (cond_tokens schema) conds)
 conds_tokens-comma schema [] some = absurd (omega arith)
-conds_tokens-comma schema (first ∷ rest) some = ap (λ (tokens : List Token). Word (codes "when") ∷ tokens) (more-comma (cond_tokens schema) (first ∷ rest) some)
+conds_tokens-comma schema (first ∷ rest) some = ap (λ (tokens : List Token). Word (codes "when") ∷ tokens)
+    (more-comma (cond_tokens schema) (first ∷ rest) some)
 
 -- with a condition more a rule has the tokens of its attribute and of what is asked of it
 pub more-cond : (schema : Schema) (pat : Pat) (draft : Draft)
@@ -189,7 +196,8 @@ more-cond schema pat draft =
     let when = Word (codes "when") ∷ commas_behind (map (cond_tokens schema) draft.line.conds) in
     let cond = cond_tokens schema (draft.attribute, pat) in
     rw (conds_tokens-append schema draft.line.conds (draft.attribute, pat))
-    (sym (append_assoc (asking_tokens schema draft.line) (Word (attribute_text schema draft.attribute) ∷ []) (pattern_tokens pat) ∙ append_assoc (headed_tokens schema draft.line) when cond))
+    (sym (append_assoc (asking_tokens schema draft.line) (Word (attribute_text schema draft.attribute) ∷ [])
+    (pattern_tokens pat) ∙ append_assoc (headed_tokens schema draft.line) when cond))
 
 -- the tokens of the set of the texts that were read
 pub set_of-tokens : (draft : Draft) → pattern_tokens (set_of draft) ≡ set_words draft.negated ++ set_tokens draft.texts
@@ -201,7 +209,8 @@ pub line_tokens-closed : (schema : Schema) (line : RuleLine)
     ≡ (headed_tokens schema line ++ conds_tokens schema line.conds) ++ Sign mark.Semicolon ∷ []
 line_tokens-closed schema line =
     ap (λ (tokens : List Token). start_tokens line ++ tokens)
-    (to-the-end (with_commas (map (pair_tokens schema) line.keys)) (conds_tokens schema line.conds) (Sign mark.Arrow) (Word (attribute_text schema line.head)) (Sign mark.Equals) (Quoted line.from) (Sign mark.Semicolon))
+    (to-the-end (with_commas (map (pair_tokens schema) line.keys)) (conds_tokens schema line.conds) (Sign mark.Arrow)
+    (Word (attribute_text schema line.head)) (Sign mark.Equals) (Quoted line.from) (Sign mark.Semicolon))
 
 -- ---- tokens that were taken
 

@@ -36,51 +36,62 @@ ok-memory value = λ h. cc
 
 -- nor that of a name
 name-memory : (name : List ℕ) (place : Place) (draft : Draft) → with_name name place draft ≢ Err NoMemory
-name-memory name place draft = unless-memory _ _ _ (λ (h : NameTwice place.line place.column ≡ NoMemory). cc) (ok-memory _)
+name-memory name place draft = unless-memory _ _ _ (λ (h : NameTwice place.line place.column ≡ NoMemory). cc)
+    (ok-memory _)
 
 -- nor that of a key whose attribute is looked up
 key_of-memory : (found : Option ℕ) (place : Place) (draft : Draft) → with_key_of found place draft ≢ Err NoMemory
 key_of-memory None place draft = λ h. cc
-key_of-memory (Some attribute) place draft = unless-memory _ _ _ (λ (h : AttrTwice place.line place.column ≡ NoMemory). cc) (ok-memory _)
+key_of-memory (Some attribute) place draft = unless-memory
+    _ _ _ (λ (h : AttrTwice place.line place.column ≡ NoMemory). cc) (ok-memory _)
 
 -- nor that of a key
 key-memory : (schema : Schema) (word : List ℕ) (place : Place) (draft : Draft)
     → with_key schema word place draft ≢ Err NoMemory
-key-memory schema word place draft = unless-memory _ _ _ (λ (h : TooMany place.line place.column ≡ NoMemory). cc) (key_of-memory (attribute_of schema word) place draft)
+key-memory schema word place draft = unless-memory _ _ _ (λ (h : TooMany place.line place.column ≡ NoMemory). cc)
+    (key_of-memory (attribute_of schema word) place draft)
 
 -- nor that of a key's column
 key_column-memory : (column : List ℕ) (place : Place) (draft : Draft)
     → with_key_column column place draft ≢ Err NoMemory
-key_column-memory column place draft = unless-memory _ _ _ (λ (h : ConstantLong place.line place.column ≡ NoMemory). cc) (ok-memory _)
+key_column-memory column place draft = unless-memory
+    _ _ _ (λ (h : ConstantLong place.line place.column ≡ NoMemory). cc) (ok-memory _)
 
 -- nor that of a head whose attribute is looked up
 head_of-memory : (found : Option ℕ) (place : Place) (draft : Draft) → with_head_of found place draft ≢ Err NoMemory
 head_of-memory None place draft = λ h. cc
-head_of-memory (Some attribute) place draft = unless-memory _ _ _ (λ (h : HeadInKeys place.line place.column ≡ NoMemory). cc) (ok-memory _)
+head_of-memory (Some attribute) place draft = unless-memory
+    _ _ _ (λ (h : HeadInKeys place.line place.column ≡ NoMemory). cc) (ok-memory _)
 
 -- nor that of the head's column
 head_column-memory : (column : List ℕ) (place : Place) (draft : Draft)
     → with_head_column column place draft ≢ Err NoMemory
-head_column-memory column place draft = unless-memory _ _ _ (λ (h : ConstantLong place.line place.column ≡ NoMemory). cc) (ok-memory _)
+head_column-memory column place draft = unless-memory
+    _ _ _ (λ (h : ConstantLong place.line place.column ≡ NoMemory). cc) (ok-memory _)
 
 -- nor that of a condition whose attribute is looked up
 asked_of-memory : (found : Option ℕ) (place : Place) (draft : Draft) → with_asked_of found place draft ≢ Err NoMemory
 asked_of-memory None place draft = λ h. cc
-asked_of-memory (Some attribute) place draft = unless-memory _ _ _ (λ (h : AttrTwice place.line place.column ≡ NoMemory). cc) (unless-memory _ _ _ (λ (h : HeadInWhen place.line place.column ≡ NoMemory). cc) (ok-memory _))
+asked_of-memory (Some attribute) place draft = unless-memory
+    _ _ _ (λ (h : AttrTwice place.line place.column ≡ NoMemory). cc)
+    (unless-memory _ _ _ (λ (h : HeadInWhen place.line place.column ≡ NoMemory). cc) (ok-memory _))
 
 -- nor that of a condition
 asked-memory : (schema : Schema) (word : List ℕ) (place : Place) (draft : Draft)
     → with_asked schema word place draft ≢ Err NoMemory
-asked-memory schema word place draft = unless-memory _ _ _ (λ (h : TooMany place.line place.column ≡ NoMemory). cc) (asked_of-memory (attribute_of schema word) place draft)
+asked-memory schema word place draft = unless-memory _ _ _ (λ (h : TooMany place.line place.column ≡ NoMemory). cc)
+    (asked_of-memory (attribute_of schema word) place draft)
 
 -- nor that of a constant
 constant-memory : (pat : List ℕ → Pat) (constant : List ℕ) (place : Place) (draft : Draft)
     → with_constant pat constant place draft ≢ Err NoMemory
-constant-memory pat constant place draft = unless-memory _ _ _ (λ (h : ConstantLong place.line place.column ≡ NoMemory). cc) (ok-memory _)
+constant-memory pat constant place draft = unless-memory
+    _ _ _ (λ (h : ConstantLong place.line place.column ≡ NoMemory). cc) (ok-memory _)
 
 -- nor that of a text of a set
 text-memory : (text : List ℕ) (place : Place) (draft : Draft) → with_text text place draft ≢ Err NoMemory
-text-memory text place draft = unless-memory _ _ _ (λ (h : TooMany place.line place.column ≡ NoMemory). cc) (unless-memory _ _ _ (λ (h : ConstantLong place.line place.column ≡ NoMemory). cc) (ok-memory _))
+text-memory text place draft = unless-memory _ _ _ (λ (h : TooMany place.line place.column ≡ NoMemory). cc)
+    (unless-memory _ _ _ (λ (h : ConstantLong place.line place.column ≡ NoMemory). cc) (ok-memory _))
 
 -- a choice between two results of which none is it
 choice-memory : {A : Type 0} (test : Bool) (first other : Result A RuleFault) → first ≢ Err NoMemory
@@ -107,7 +118,8 @@ token-memory schema expected.HeadColumn token place draft = head_column-memory _
 token-memory schema expected.AfterHead token place draft = ok-memory _
 token-memory schema expected.Cond token place draft = asked-memory schema _ place draft
 token-memory schema expected.Test token place draft = ok-memory _
-token-memory schema expected.Negated token place draft = choice-memory (is_quoted token) _ _ (constant-memory IsNot (content token) place draft) (ok-memory _)
+token-memory schema expected.Negated token place draft = choice-memory (is_quoted token)
+    _ _ (constant-memory IsNot (content token) place draft) (ok-memory _)
 token-memory schema expected.Open token place draft = ok-memory _
 token-memory schema expected.Item token place draft = text-memory _ place draft
 token-memory schema expected.AfterItem token place draft = ok-memory _
@@ -124,7 +136,8 @@ then-memory (Err fault) others one two = λ (h : Err fault ≡ Err NoMemory). on
 tokens-memory : (schema : Schema) (tokens : List Taken) (draft : Draft) → with_tokens schema tokens draft ≢ Err NoMemory
 tokens-memory schema [] draft = ok-memory _
 tokens-memory schema (first ∷ rest) draft =
-    then-memory (with_token schema first.expected first.token first.place draft) (with_tokens schema rest) (token-memory schema first.expected first.token first.place draft) (tokens-memory schema rest)
+    then-memory (with_token schema first.expected first.token first.place draft) (with_tokens schema rest)
+    (token-memory schema first.expected first.token first.place draft) (tokens-memory schema rest)
 
 -- the tokens behind a piece
 first-memory : (first : Taken) (others : Result (List Taken) RuleFault) → others ≢ Err NoMemory
@@ -133,7 +146,8 @@ first-memory first (Ok rest) later = λ h. cc
 first-memory first (Err fault) later = λ (h : Err fault ≡ Err NoMemory). later cc
 
 -- a token that is not taken is no want of memory
-with-memory : (present : Expected) (place : Place) (token : Token) (after : Option Expected) (others : Expected → Result (List Taken) RuleFault)
+with-memory : (present : Expected) (place : Place) (token : Token) (after : Option Expected)
+    (others : Expected → Result (List Taken) RuleFault)
     → ((expected : Expected) → others expected ≢ Err NoMemory)
     → taken_with present place token after others ≢ Err NoMemory
 with-memory present place token None others later = λ h. cc
@@ -144,24 +158,29 @@ at-memory : (piece : Piece) (present : Expected) (place : Place) (others : Expec
     → ((expected : Expected) (more : ℕ) → others expected more ≢ Err NoMemory)
     → taken_at piece present place others ≢ Err NoMemory
 at-memory (Gap more) present place others later = later present more
-at-memory (Spelled token more) present place others later = with-memory present place token (next present token) (λ after. others after more) (λ after. later after more)
+at-memory (Spelled token more) present place others later = with-memory present place token (next present token)
+    (λ after. others after more) (λ after. later after more)
 at-memory Stray present place others later = λ h. cc
 
 -- nor is anything that a text has from some place on
 from-memory : (present : Expected) (place : Place) (passed : ℕ) (text : List ℕ)
     → taken_from present place passed text ≢ Err NoMemory
-from-memory present place passed [] = choice-memory (is_between_rules present) _ _ (ok-memory _) (λ (h : Err (Syntax place.line place.column) ≡ Err NoMemory). cc)
+from-memory present place passed [] = choice-memory (is_between_rules present) _ _ (ok-memory _)
+    (λ (h : Err (Syntax place.line place.column) ≡ Err NoMemory). cc)
 from-memory present place (suc passed) (byte ∷ rest) = from-memory present (place_after place byte) passed rest
 from-memory present place zero (byte ∷ rest) =
-    at-memory (piece_at (byte ∷ rest)) present place (λ after more. taken_from after (place_after place byte) more rest) (λ after more. from-memory after (place_after place byte) more rest)
+    at-memory (piece_at (byte ∷ rest)) present place (λ after more. taken_from after (place_after place byte) more
+    rest) (λ after more. from-memory after (place_after place byte) more rest)
 
 -- the rulebook of tokens
 rulebook-memory : (extra : Option Taken) (schema : Schema) (tokens : List Taken)
     → book_unless extra schema tokens ≢ Err NoMemory
 rulebook-memory (Some extra) schema tokens = λ h. cc
-rulebook-memory None schema tokens = then-memory (with_tokens schema tokens (draft_behind [])) (λ draft. Ok (book_of draft)) (tokens-memory schema tokens (draft_behind [])) (λ draft. ok-memory _)
+rulebook-memory None schema tokens = then-memory (with_tokens schema tokens (draft_behind []))
+    (λ draft. Ok (book_of draft)) (tokens-memory schema tokens (draft_behind [])) (λ draft. ok-memory _)
 
 -- no text is refused for want of memory
 pub read_rules-memory : (text : List ℕ) (schema : Schema) → read_rules text schema ≢ Err NoMemory
 unfolding read_rules
-read_rules-memory text schema = then-memory (tokens_of text) (λ tokens. book_unless (extra_rule tokens) schema tokens) (from-memory expected.Rule _ 0 text) (λ tokens. rulebook-memory (extra_rule tokens) schema tokens)
+read_rules-memory text schema = then-memory (tokens_of text) (λ tokens. book_unless (extra_rule tokens) schema tokens)
+    (from-memory expected.Rule _ 0 text) (λ tokens. rulebook-memory (extra_rule tokens) schema tokens)

@@ -35,18 +35,27 @@ bytes_eq-other xs ys other =
 pub has_attribute-push : {A : Type 0} (pairs : List (ℕ × A)) (last : ℕ × A) (attribute : ℕ)
     → has_attribute pairs attribute ≡ false → (attribute == last.0) ≡ false
     → has_attribute (pairs ++ last ∷ []) attribute ≡ false
-has_attribute-push pairs last attribute free other = rw (list_any-append (λ pair. attribute == pair.0) pairs (last ∷ []), free, other) refl
+has_attribute-push pairs last attribute free other = rw (
+  list_any-append (λ pair. attribute == pair.0) pairs
+      (last ∷ []),
+  free,
+  other,
+) refl
 
 -- attributes stay distinct, with another one at the end
 pub AreDistinct-push : {A : Type 0} (pairs : List (ℕ × A)) (last : ℕ × A) → AreDistinct pairs
     → has_attribute pairs last.0 ≡ false → AreDistinct (pairs ++ last ∷ [])
 AreDistinct-push [] last distinct free = (refl, tt)
 AreDistinct-push (pair ∷ rest) last distinct free =
-    let (other, behind) = or_parts (last.0 == pair.0) (has_attribute rest last.0) free in
-    (has_attribute-push rest last pair.0 distinct.0 (nat_eq-other last.0 pair.0 other), AreDistinct-push rest last distinct.1 behind)
+    let (other, behind) = or_parts (last.0 == pair.0) (has_attribute rest last.0) free in (
+      has_attribute-push rest last pair.0 distinct.0 (nat_eq-other last.0 pair.0 other),
+      AreDistinct-push rest last
+          distinct.1 behind,
+    )
 
 -- and the pairs stay as they should be
-pub ArePairs-push : {A : Type 0} (IsGood : A → Type 0) (schema : Schema) (pairs : List (ℕ × A)) (attribute : ℕ) (beside : A)
+pub ArePairs-push : {A : Type 0} (IsGood : A → Type 0) (schema : Schema) (pairs : List (ℕ × A)) (attribute : ℕ)
+    (beside : A)
     → ArePairs IsGood schema pairs → length pairs < 8 → attribute < length schema.attributes
     → has_attribute pairs attribute ≡ false → IsGood beside
     → ArePairs IsGood schema (pairs ++ (attribute, beside) ∷ [])
@@ -64,12 +73,19 @@ ArePairs-none IsGood schema pairs none = rw none (record { fits = omega arith; g
 -- a name that no rule has, and one more has not, none of them has
 has_name-push : (lines : List RuleLine) (last : RuleLine) (name : List ℕ) → has_name lines name ≡ false
     → bytes_eq name last.name ≡ false → has_name (lines ++ last ∷ []) name ≡ false
-has_name-push lines last name free other = rw (list_any-append (λ line. bytes_eq name line.name) lines (last ∷ []), free, other) refl
+has_name-push lines last name free other = rw (
+  list_any-append (λ line. bytes_eq name line.name) lines (last ∷ []),
+  free,
+  other,
+) refl
 
 -- rules stay named apart, with one of another name at the end
 pub AreNamedApart-push : (lines : List RuleLine) (last : RuleLine) → AreNamedApart lines
     → has_name lines last.name ≡ false → AreNamedApart (lines ++ last ∷ [])
 AreNamedApart-push [] last apart free = (refl, tt)
 AreNamedApart-push (line ∷ rest) last apart free =
-    let (other, behind) = or_parts (bytes_eq last.name line.name) (has_name rest last.name) free in
-    (has_name-push rest last line.name apart.0 (bytes_eq-other last.name line.name other), AreNamedApart-push rest last apart.1 behind)
+    let (other, behind) = or_parts (bytes_eq last.name line.name) (has_name rest last.name) free in (
+      has_name-push rest last line.name apart.0 (bytes_eq-other last.name line.name other),
+      AreNamedApart-push rest
+          last apart.1 behind,
+    )

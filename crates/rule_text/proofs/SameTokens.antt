@@ -72,13 +72,15 @@ module _ (place elsewhere : Place) (draft held : Draft) where
   moved-key_of : (found : Option ℕ) → with_key_of found place draft ≡ Ok held
       → with_key_of found elsewhere draft ≡ Ok held
   moved-key_of None read = absurd cc
-  moved-key_of (Some attribute) read = let (free, same) = unless-Ok (has_attribute draft.line.keys attribute) (AttrTwice place.line place.column) _ _ read in rw free same
+  moved-key_of (Some attribute) read = let (free, same) = unless-Ok (has_attribute draft.line.keys attribute)
+      (AttrTwice place.line place.column) _ _ read in rw free same
 
   -- the head
   moved-head_of : (found : Option ℕ) → with_head_of found place draft ≡ Ok held
       → with_head_of found elsewhere draft ≡ Ok held
   moved-head_of None read = absurd cc
-  moved-head_of (Some attribute) read = let (free, same) = unless-Ok (has_attribute draft.line.keys attribute) (HeadInKeys place.line place.column) _ _ read in rw free same
+  moved-head_of (Some attribute) read = let (free, same) = unless-Ok (has_attribute draft.line.keys attribute)
+      (HeadInKeys place.line place.column) _ _ read in rw free same
 
   -- the attribute of a condition
   moved-asked_of : (found : Option ℕ) → with_asked_of found place draft ≡ Ok held
@@ -100,7 +102,8 @@ module _ (place elsewhere : Place) (draft held : Draft) where
   -- the one constant of a condition
   moved-constant : (pat : List ℕ → Pat) (constant : List ℕ) → with_constant pat constant place draft ≡ Ok held
       → with_constant pat constant elsewhere draft ≡ Ok held
-  moved-constant pat constant read = let (short, same) = unless-Ok (is_long constant) (ConstantLong place.line place.column) _ _ read in rw short same
+  moved-constant pat constant read = let (short, same) = unless-Ok (is_long constant)
+      (ConstantLong place.line place.column) _ _ read in rw short same
 
   -- what stands behind `not`
   moved-negated : (token : Token) → with_negated token place draft ≡ Ok held
@@ -113,15 +116,26 @@ module _ (place elsewhere : Place) (draft held : Draft) where
 with_token-moved : (schema : Schema) (before : Expected) (token : Token) (place elsewhere : Place) (draft held : Draft)
     → with_token schema before token place draft ≡ Ok held → with_token schema before token elsewhere draft ≡ Ok held
 unfolding with_token
-with_token-moved schema expected.Name token place elsewhere draft held read = let (free, same) = unless-Ok (has_name draft.lines (content token)) (NameTwice place.line place.column) _ _ read in rw free same
-with_token-moved schema expected.Key token place elsewhere draft held read = let (room, found) = unless-Ok (nat_le 8 (length draft.line.keys)) (TooMany place.line place.column) _ _ read in rw room (moved-key_of place elsewhere draft held _ found)
-with_token-moved schema expected.KeyColumn token place elsewhere draft held read = let (short, same) = unless-Ok (is_long (content token)) (ConstantLong place.line place.column) _ _ read in rw short same
-with_token-moved schema expected.Head token place elsewhere draft held read = moved-head_of place elsewhere draft held _ read
-with_token-moved schema expected.HeadColumn token place elsewhere draft held read = let (short, same) = unless-Ok (is_long (content token)) (ConstantLong place.line place.column) _ _ read in rw short same
-with_token-moved schema expected.Cond token place elsewhere draft held read = let (room, found) = unless-Ok (nat_le 8 (length draft.line.conds)) (TooMany place.line place.column) _ _ read in rw room (moved-asked_of place elsewhere draft held _ found)
-with_token-moved schema expected.Negated token place elsewhere draft held read = moved-negated place elsewhere draft held token read
-with_token-moved schema expected.Item token place elsewhere draft held read = moved-text place elsewhere draft held (content token) read
-with_token-moved schema expected.Const token place elsewhere draft held read = moved-constant place elsewhere draft held Is (content token) read
+with_token-moved schema expected.Name token place elsewhere draft held read = let (free, same) = unless-Ok
+    (has_name draft.lines (content token)) (NameTwice place.line place.column) _ _ read in rw free same
+with_token-moved schema expected.Key token place elsewhere draft held read = let (room, found) = unless-Ok
+    (nat_le 8 (length draft.line.keys)) (TooMany place.line place.column) _ _ read in rw room
+    (moved-key_of place elsewhere draft held _ found)
+with_token-moved schema expected.KeyColumn token place elsewhere draft held read = let (short, same) = unless-Ok
+    (is_long (content token)) (ConstantLong place.line place.column) _ _ read in rw short same
+with_token-moved schema expected.Head token place elsewhere draft held read = moved-head_of place elsewhere draft held
+    _ read
+with_token-moved schema expected.HeadColumn token place elsewhere draft held read = let (short, same) = unless-Ok
+    (is_long (content token)) (ConstantLong place.line place.column) _ _ read in rw short same
+with_token-moved schema expected.Cond token place elsewhere draft held read = let (room, found) = unless-Ok
+    (nat_le 8 (length draft.line.conds)) (TooMany place.line place.column) _ _ read in rw room
+    (moved-asked_of place elsewhere draft held _ found)
+with_token-moved schema expected.Negated token place elsewhere draft held read = moved-negated place elsewhere draft
+    held token read
+with_token-moved schema expected.Item token place elsewhere draft held read = moved-text place elsewhere draft held
+    (content token) read
+with_token-moved schema expected.Const token place elsewhere draft held read = moved-constant place elsewhere draft
+    held Is (content token) read
 with_token-moved schema other token place elsewhere draft held read = read
 
 -- ---- tokens that are the same
@@ -136,7 +150,8 @@ stated-same : (before : Expected) (tokens others : List Taken) → IsChain befor
 stated-same before [] [] chain chain' same = refl
 stated-same before [] (second ∷ others) chain chain' same = absurd cc
 stated-same before (first ∷ rest) [] chain chain' same = absurd cc
-stated-same before (first ∷ rest) (second ∷ others) (is, spelled, (after, goes, behind)) (is', spelled', (after', goes', behind')) same =
+stated-same before (first ∷ rest) (second ∷ others) (is, spelled, (after, goes, behind))
+    (is', spelled', (after', goes', behind')) same =
     let one : column_as_string first ≡ column_as_string second = cc in
     let more : map column_as_string rest ≡ map column_as_string others = cc in
     let taken : taken_as before first.token ≡ taken_as before second.token =
@@ -155,7 +170,8 @@ stated-same before (first ∷ rest) (second ∷ others) (is, spelled, (after, go
 begun-stated : (tokens : List Taken)
     → length (filter begins_rule tokens) ≡ length (filter (λ one. is_between_rules one.0) (map stated tokens))
 begun-stated [] = refl
-begun-stated (first ∷ rest) = elim (cases_Bool (is_between_rules first.expected)) [ inl is ↦ rw is (ap suc (begun-stated rest)) | inr other ↦ rw other (begun-stated rest) ]
+begun-stated (first ∷ rest) = elim (cases_Bool (is_between_rules first.expected))
+    [ inl is ↦ rw is (ap suc (begun-stated rest)) | inr other ↦ rw other (begun-stated rest) ]
 
 -- each adds the same
 with_token-same : (schema : Schema) (first second : Taken) (draft held : Draft) → stated first ≡ stated second
@@ -163,7 +179,8 @@ with_token-same : (schema : Schema) (first second : Taken) (draft held : Draft) 
     → with_token schema second.expected second.token second.place draft ≡ Ok held
 with_token-same schema first second draft held same read =
     let one = with_token-as_string schema first.expected first.token first.place draft in
-    let moved = with_token-moved schema first.expected (column_as_string first) first.place second.place draft held (sym one ∙ read) in
+    let moved = with_token-moved schema first.expected (column_as_string first) first.place second.place draft held
+    (sym one ∙ read) in
     with_token-as_string schema second.expected second.token second.place draft
     ∙ ap (λ (s : Expected × Token). with_token schema s.0 s.1 second.place draft) (sym same) ∙ moved
 
@@ -179,18 +196,20 @@ with_tokens-same schema (first ∷ rest) (second ∷ others) draft held same rea
     let more : map stated rest ≡ map stated others = cc in
     let (middle, step, behind) =
     and_then-Ok (with_token schema first.expected first.token first.place draft) (with_tokens schema rest) held read in
-    rw (with_token-same schema first second draft middle one step) (with_tokens-same schema rest others middle held more behind)
+    rw (with_token-same schema first second draft middle one step)
+    (with_tokens-same schema rest others middle held more behind)
 
 -- ---- texts
 
 -- a text reads as the rulebook, by these tokens
-record IsReadBy (text : List ℕ) (schema : Schema) (rulebook : Rulebook) (taken : List Taken) (draft : Draft) : Type 0 where
-  pub spelled : tokens_of text ≡ Ok taken
-  pub chain : IsChain expected.Rule taken
-  pub few : length (filter begins_rule taken) ≤ 200
-  pub made : with_tokens schema taken (draft_behind []) ≡ Ok draft
-  pub is : book_of draft ≡ rulebook
-  pub tokens : map column_as_string taken ≡ book_tokens schema rulebook
+record IsReadBy (text : List ℕ) (schema : Schema) (rulebook : Rulebook) (taken : List Taken) (draft : Draft) : Type 0
+  where
+    pub spelled : tokens_of text ≡ Ok taken
+    pub chain : IsChain expected.Rule taken
+    pub few : length (filter begins_rule taken) ≤ 200
+    pub made : with_tokens schema taken (draft_behind []) ≡ Ok draft
+    pub is : book_of draft ≡ rulebook
+    pub tokens : map column_as_string taken ≡ book_tokens schema rulebook
 
 -- what is read as a rulebook was read by its tokens
 read_by : (text : List ℕ) (schema : Schema) (rulebook : Rulebook) → read_rules text schema ≡ Ok rulebook
@@ -201,8 +220,21 @@ read_by text schema rulebook read =
     and_then-Ok (tokens_of text) (λ tokens. book_unless (extra_rule tokens) schema tokens) rulebook read in
     let chain = IsChain-from_text expected.Rule _ 0 text taken spelled in
     let (few, (draft, made, is)) = extra-none schema taken (extra_rule taken) rulebook refl others in
-    let tokens = tokens-all schema expected.Rule taken (draft_behind []) draft chain made (refl, (refl, refl)) in
-    (taken, (draft, record { spelled = spelled; chain = chain; few = few; made = made; is = is; tokens = tokens ∙ ap (book_tokens schema) is }))
+    let tokens = tokens-all schema expected.Rule taken (draft_behind []) draft chain made (refl, (refl, refl)) in (
+      taken,
+      (
+        draft,
+        record {
+          spelled = spelled;
+          chain = chain;
+          few = few;
+          made = made;
+          is = is;
+          tokens = tokens
+              ∙ ap (book_tokens schema) is;
+        },
+      ),
+    )
 
 -- a text with the tokens of one that reads as a rulebook reads as it
 read_rules-same : (text other : List ℕ) (schema : Schema) (rulebook : Rulebook)
@@ -210,7 +242,8 @@ read_rules-same : (text other : List ℕ) (schema : Schema) (rulebook : Rulebook
 unfolding read_rules
 read_rules-same text other schema rulebook read (tokens, spelled, same) =
     let (taken, (draft, by)) = read_by other schema rulebook read in
-    let alike = stated-same expected.Rule taken tokens by.chain (IsChain-from_text expected.Rule _ 0 text tokens spelled) (by.tokens ∙ sym same) in
+    let alike = stated-same expected.Rule taken tokens by.chain
+    (IsChain-from_text expected.Rule _ 0 text tokens spelled) (by.tokens ∙ sym same) in
     let made = with_tokens-same schema taken tokens (draft_behind []) draft alike by.made in
     let begun : length (filter begins_rule taken) ≡ length (filter begins_rule tokens) =
     begun-stated taken
@@ -224,6 +257,8 @@ read_rules-same text other schema rulebook read (tokens, spelled, same) =
 pub read_rules-tokens : (text : List ℕ) (schema : Schema) (rulebook : Rulebook) → IsSchema schema
     → (read_rules text schema ≡ Ok rulebook) ↔ (IsRulebook schema rulebook × IsTextOf schema rulebook text)
 read_rules-tokens text schema rulebook valid = (
-  λ read. let (taken, (draft, by)) = read_by text schema rulebook read in (IsRulebook-from_text text schema rulebook read, (taken, by.spelled, by.tokens)),
-  λ both. read_rules-same text (printed rulebook schema) schema rulebook (read_rules-printed rulebook schema valid both.0) both.1,
+  λ read. let (taken, (draft, by)) = read_by text schema rulebook read
+      in (IsRulebook-from_text text schema rulebook read, (taken, by.spelled, by.tokens)),
+  λ both. read_rules-same text (printed rulebook schema) schema rulebook
+      (read_rules-printed rulebook schema valid both.0) both.1,
 )

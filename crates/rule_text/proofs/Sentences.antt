@@ -40,26 +40,36 @@ module _ (expected : Expected) (place : Place) (byte : ℕ) (rest : List ℕ) (m
   reading-first token after (Ok behind) taken piece led goes read =
       let is : record { expected = expected; token = token; place = place } ∷ behind ≡ taken = cc in
       let further = goes behind refl in
-      subst (IsReading expected (byte ∷ rest)) is (record { spelled = spelled byte rest more token (tokens_alone behind) piece further.spelled; sentence = (after, led, further.sentence) })
+      subst (IsReading expected (byte ∷ rest)) is
+      (record {
+        spelled = spelled byte rest more token (tokens_alone behind) piece further.spelled;
+        sentence = (after, led, further.sentence);
+      })
   reading-first token after (Err fault) taken piece led goes read = absurd cc
 
   -- the same, where it is still open whether the token is taken
-  reading-with : (token : Token) (found : Option Expected) (others : Expected → Result (List Taken) RuleFault) (taken : List Taken)
+  reading-with : (token : Token) (found : Option Expected) (others : Expected → Result (List Taken) RuleFault)
+      (taken : List Taken)
       → piece_at (byte ∷ rest) ≡ Spelled token more → next expected token ≡ found
       → ((after : Expected) (behind : List Taken) → others after ≡ Ok behind → IsReading after (drop more rest) behind)
       → taken_with expected place token found others ≡ Ok taken → IsReading expected (byte ∷ rest) taken
   reading-with token None others taken piece led goes read = absurd cc
-  reading-with token (Some after) others taken piece led goes read = reading-first token after (others after) taken piece led (goes after) read
+  reading-with token (Some after) others taken piece led goes read = reading-first token after (others after) taken
+      piece led (goes after) read
 
 -- the same for any piece
-reading-at : (expected : Expected) (place : Place) (byte : ℕ) (rest : List ℕ) (piece : Piece) (others : Expected → ℕ → Result (List Taken) RuleFault) (taken : List Taken)
+reading-at : (expected : Expected) (place : Place) (byte : ℕ) (rest : List ℕ) (piece : Piece)
+    (others : Expected → ℕ → Result (List Taken) RuleFault) (taken : List Taken)
     → piece_at (byte ∷ rest) ≡ piece
-    → ((after : Expected) (more : ℕ) (behind : List Taken) → others after more ≡ Ok behind → IsReading after (drop more rest) behind)
+    → ((after : Expected) (more : ℕ) (behind : List Taken) → others after more ≡ Ok behind
+    → IsReading after (drop more rest) behind)
     → taken_at piece expected place others ≡ Ok taken → IsReading expected (byte ∷ rest) taken
 reading-at expected place byte rest (Gap more) others taken is goes read =
     let further = goes expected more taken read in
     record { spelled = gap byte rest more (tokens_alone taken) is further.spelled; sentence = further.sentence }
-reading-at expected place byte rest (Spelled token more) others taken is goes read = reading-with expected place byte rest more token (next expected token) (λ after. others after more) taken is refl (λ after behind. goes after more behind) read
+reading-at expected place byte rest (Spelled token more) others taken is goes read = reading-with expected place byte
+    rest more token (next expected token) (λ after. others after more) taken is refl
+    (λ after behind. goes after more behind) read
 reading-at expected place byte rest Stray others taken is goes read = absurd cc
 
 -- no bytes are a reading where a rule is expected
@@ -74,9 +84,13 @@ reading-end expected place taken false is read = absurd cc
 -- what is read of the bytes behind those that are passed
 reading : (expected : Expected) (place : Place) (passed : ℕ) (bytes : List ℕ) (taken : List Taken)
     → taken_from expected place passed bytes ≡ Ok taken → IsReading expected (drop passed bytes) taken
-reading expected place passed [] taken read = rw (drop-nil passed) (reading-end expected place taken (is_between_rules expected) refl read)
-reading expected place (suc passed) (byte ∷ rest) taken read = reading expected (place_after place byte) passed rest taken read
-reading expected place zero (byte ∷ rest) taken read = reading-at expected place byte rest (piece_at (byte ∷ rest)) (λ after more. taken_from after (place_after place byte) more rest) taken refl (λ after more behind. reading after (place_after place byte) more rest behind) read
+reading expected place passed [] taken read = rw (drop-nil passed)
+    (reading-end expected place taken (is_between_rules expected) refl read)
+reading expected place (suc passed) (byte ∷ rest) taken read = reading expected (place_after place byte) passed rest
+    taken read
+reading expected place zero (byte ∷ rest) taken read = reading-at expected place byte rest (piece_at (byte ∷ rest))
+    (λ after more. taken_from after (place_after place byte) more rest) taken refl
+    (λ after more behind. reading after (place_after place byte) more rest behind) read
 
 -- what is read of a text is a sentence that it spells
 pub IsSentence-tokens_of : (text : List ℕ) (taken : List Taken) → tokens_of text ≡ Ok taken
@@ -109,15 +123,22 @@ module _ (expected : Expected) (place : Place) (byte : ℕ) (rest : List ℕ) (m
       → IsReadAs after (place_behind (place_after place byte) (take more rest)) (drop more rest) others
       → IsReadAs expected place (byte ∷ rest) (first ∷ others)
   read-token first after others piece led (taken, read, same) =
-      let one : Taken = record { expected = expected; token = first; place = place } in
-      (one ∷ taken, taken_from-token expected place byte rest more first after piece led ∙ ap (with_first one) read, ap (λ (tokens : List Token). first ∷ tokens) same)
+      let one : Taken = record { expected = expected; token = first; place = place } in (
+        one ∷ taken,
+        taken_from-token expected place byte rest more first after piece led
+            ∙ ap (with_first one) read,
+        ap (λ (tokens : List Token). first ∷ tokens) same,
+      )
 
 -- what spells a sentence is read as it
 reads : {bytes : List ℕ} {tokens : List Token} → Spells bytes tokens → (expected : Expected) (place : Place)
     → IsSentenceFrom expected tokens → IsReadAs expected place bytes tokens
 reads none expected place is = read-end expected place is
-reads (gap byte rest more tokens piece further) expected place is = read-gap expected place byte rest more tokens piece (reads further expected (place_behind (place_after place byte) (take more rest)) is)
-reads (spelled byte rest more first others piece further) expected place (after, led, goes) = read-token expected place byte rest more first after others piece led (reads further after (place_behind (place_after place byte) (take more rest)) goes)
+reads (gap byte rest more tokens piece further) expected place is = read-gap expected place byte rest more tokens
+    piece (reads further expected (place_behind (place_after place byte) (take more rest)) is)
+reads (spelled byte rest more first others piece further) expected place (after, led, goes) = read-token expected
+    place byte rest more first after others piece led (reads further after
+    (place_behind (place_after place byte) (take more rest)) goes)
 
 -- the tokens of a text that spells a sentence are that sentence
 pub tokens_of-IsSentence : (text : List ℕ) (tokens : List Token) → Spells text tokens → IsSentence tokens
@@ -154,7 +175,11 @@ behind-token byte rest more token others is (spelled byte' rest' most first behi
     let same : Spelled first most ≡ Spelled token more = sym piece ∙ is in
     let alike : most ≡ more = cc in
     let one : first ≡ token = cc in
-    record { behind = behind; is = ap (λ (t : Token). t ∷ behind) one; spelled = subst (λ (n : ℕ). Spells (drop n rest) behind) alike further }
+    record {
+      behind = behind;
+      is = ap (λ (t : Token). t ∷ behind) one;
+      spelled = subst (λ (n : ℕ). Spells (drop n rest) behind) alike further;
+    }
 
 -- no bytes spell no tokens alone
 none-only : (others : List Token) → Spells [] others → [] ≡ others
@@ -165,7 +190,8 @@ none-only (first ∷ others) also = elim also [ ]
 pub Spells-unique : {bytes : List ℕ} {tokens : List Token} → Spells bytes tokens → (others : List Token)
     → Spells bytes others → tokens ≡ others
 Spells-unique none others also = none-only others also
-Spells-unique (gap byte rest more tokens piece further) others also = Spells-unique further others (behind-gap byte rest more others piece also)
+Spells-unique (gap byte rest more tokens piece further) others also = Spells-unique further others
+    (behind-gap byte rest more others piece also)
 Spells-unique (spelled byte rest more first tokens piece further) others also =
     let left = behind-token byte rest more first others piece also in
     ap (λ (l : List Token). first ∷ l) (Spells-unique further left.behind left.spelled) ∙ sym left.is

@@ -188,8 +188,17 @@ word_ascii (byte ∷ rest) word (suc i) =
 -- what is taken as a column is plain, unless it is long
 plain-column : (token : Token) → IsSpelled token → is_column token ≡ true → is_long (content token) ≡ false
     → IsPlain (content token)
-plain-column (Word bytes) spelled column short = record { fits = not_long bytes short; plain = word_plain bytes spelled; utf8 = IsUtf8-from_ascii bytes (word_ascii bytes spelled) }
-plain-column (Quoted bytes) spelled column short = record { fits = not_long bytes short; plain = spelled.0; utf8 = spelled.1 }
+plain-column (Word bytes) spelled column short = record {
+  fits = not_long bytes short;
+  plain = word_plain bytes
+      spelled;
+  utf8 = IsUtf8-from_ascii bytes (word_ascii bytes spelled);
+}
+plain-column (Quoted bytes) spelled column short = record {
+  fits = not_long bytes short;
+  plain = spelled.0;
+  utf8 = spelled.1;
+}
 plain-column (Sign own) spelled column short = absurd cc
 
 -- a string may stand for a column
@@ -213,7 +222,12 @@ module _ (schema : Schema) (place : Place) (draft after : Draft) where
   hold-name name read word at =
       let (free, is) = unless-Ok _ _ _ _ read in
       subst (AtMaster schema) (same-draft _ _ is) (record {
-        start = record { closed = record { lines = at.closed.lines; apart = at.closed.apart }; no_keys = at.no_keys; no_conds = at.no_conds; no_texts = at.no_texts };
+        start = record {
+          closed = record { lines = at.closed.lines; apart = at.closed.apart };
+          no_keys = at.no_keys;
+          no_conds = at.no_conds;
+          no_texts = at.no_texts;
+        };
         named = record { name = word; free = free };
       })
 
@@ -227,7 +241,8 @@ module _ (schema : Schema) (place : Place) (draft after : Draft) where
           closed = record { lines = at.key.closed.lines; apart = at.key.closed.apart };
           named = record { name = at.key.named.name; free = at.key.named.free };
           master = at.key.master;
-          keys = ArePairs-push IsPlain schema draft.line.keys draft.attribute column at.key.keys at.room.room at.room.known at.room.free (plain short);
+          keys = ArePairs-push IsPlain schema draft.line.keys draft.attribute column at.key.keys at.room.room
+              at.room.known at.room.free (plain short);
           no_conds = at.key.no_conds;
           no_texts = at.key.no_texts;
         };
@@ -242,7 +257,14 @@ module _ (schema : Schema) (place : Place) (draft after : Draft) where
   hold-key_of (Some attribute) known read room at =
       let (free, is) = unless-Ok _ _ _ _ read in
       subst (AtColumn schema) (same-draft _ _ is) (record {
-        key = record { closed = record { lines = at.closed.lines; apart = at.closed.apart }; named = record { name = at.named.name; free = at.named.free }; master = at.master; keys = at.keys; no_conds = at.no_conds; no_texts = at.no_texts };
+        key = record {
+          closed = record { lines = at.closed.lines; apart = at.closed.apart };
+          named = record { name = at.named.name; free = at.named.free };
+          master = at.master;
+          keys = at.keys;
+          no_conds = at.no_conds;
+          no_texts = at.no_texts;
+        };
         room = record { room = room; known = known attribute refl; free = free };
       })
 
@@ -255,7 +277,14 @@ module _ (schema : Schema) (place : Place) (draft after : Draft) where
       let (free, is) = unless-Ok _ _ _ _ read in
       subst (AtFrom schema) (same-draft _ _ is) (record {
         keyed = record {
-          key = record { closed = record { lines = at.key.closed.lines; apart = at.key.closed.apart }; named = record { name = at.key.named.name; free = at.key.named.free }; master = at.key.master; keys = at.key.keys; no_conds = at.key.no_conds; no_texts = at.key.no_texts };
+          key = record {
+            closed = record { lines = at.key.closed.lines; apart = at.key.closed.apart };
+            named = record { name = at.key.named.name; free = at.key.named.free };
+            master = at.key.master;
+            keys = at.key.keys;
+            no_conds = at.key.no_conds;
+            no_texts = at.key.no_texts;
+          };
           some = at.some;
         };
         headed = record { head = known attribute refl; no_key = free };
@@ -298,7 +327,11 @@ module _ (schema : Schema) (place : Place) (draft after : Draft) where
       let (other, is) = unless-Ok _ _ _ _ more in
       subst (AtTest schema) (same-draft _ _ is) (record {
         asked = record {
-          whole = record { closed = record { lines = at.whole.closed.lines; apart = at.whole.closed.apart }; named = record { name = at.whole.named.name; free = at.whole.named.free }; line = at.whole.line };
+          whole = record {
+            closed = record { lines = at.whole.closed.lines; apart = at.whole.closed.apart };
+            named = record { name = at.whole.named.name; free = at.whole.named.free };
+            line = at.whole.line;
+          };
           room = record { room = room; known = known attribute refl; free = free };
           other = other;
         };
@@ -314,7 +347,21 @@ module _ (schema : Schema) (place : Place) (draft after : Draft) where
       let below : length draft.texts < 64 = grind (arith, nat_tests) in
       subst (AtClose schema) (same-draft _ _ is) (record {
         item = record {
-          asked = record { whole = record { closed = record { lines = at.asked.whole.closed.lines; apart = at.asked.whole.closed.apart }; named = record { name = at.asked.whole.named.name; free = at.asked.whole.named.free }; line = at.asked.whole.line }; room = at.asked.room; other = at.asked.other };
+          asked = record {
+            whole = record {
+              closed = record {
+                lines = at.asked.whole.closed.lines;
+                apart = at.asked.whole.closed.apart;
+              };
+              named = record {
+                name = at.asked.whole.named.name;
+                free = at.asked.whole.named.free;
+              };
+              line = at.asked.whole.line;
+            };
+            room = at.asked.room;
+            other = at.asked.other;
+          };
           fits = rw length-append (omega arith);
           plain = AllByRecursion-push IsPlain draft.texts text at.plain (plain short);
         };
@@ -337,8 +384,10 @@ hold-cond schema pat draft good at =
         head = line.head;
         no_key = line.no_key;
         from = line.from;
-        conds = ArePairs-push IsPattern schema draft.line.conds draft.attribute pat line.conds at.room.room at.room.known at.room.free good;
-        no_cond = has_attribute-push draft.line.conds (draft.attribute, pat) draft.line.head line.no_cond (nat_eq-other draft.attribute draft.line.head at.other);
+        conds = ArePairs-push IsPattern schema draft.line.conds draft.attribute pat line.conds at.room.room
+            at.room.known at.room.free good;
+        no_cond = has_attribute-push draft.line.conds (draft.attribute, pat) draft.line.head line.no_cond
+            (nat_eq-other draft.attribute draft.line.head at.other);
       };
     }
 
@@ -348,7 +397,8 @@ hold-constant : (schema : Schema) (pat : List ℕ → Pat) (constant : List ℕ)
     → AtTest schema draft → AtEnd schema after
 hold-constant schema pat constant place draft after read good at =
     let (short, is) = unless-Ok _ _ _ _ read in
-    subst (AtEnd schema) (same-draft _ _ is) (record { whole = hold-cond schema (pat constant) draft (good short) at.asked; no_texts = at.no_texts })
+    subst (AtEnd schema) (same-draft _ _ is)
+    (record { whole = hold-cond schema (pat constant) draft (good short) at.asked; no_texts = at.no_texts })
 
 -- the set of the texts that were read
 pattern-set_of : (draft : Draft) → IsSet draft.texts → IsPattern (set_of draft)
@@ -398,7 +448,8 @@ keyword-word word (Sign own) is = absurd cc
 
 -- the mark of a number
 abbrev mark_of : ℕ → Mark
-mark_of n = if n == 0 then mark.Colon else if n == 1 then mark.Comma else if n == 2 then mark.Equals else if n == 3 then mark.Arrow else if n == 4 then mark.Semicolon else if n == 5 then mark.Opening else mark.Closing
+mark_of n = if n == 0 then mark.Colon else if n == 1 then mark.Comma else if n == 2 then mark.Equals else if n == 3
+    then mark.Arrow else if n == 4 then mark.Semicolon else if n == 5 then mark.Opening else mark.Closing
 
 -- a mark is that of its number
 mark_of-number : (own : Mark) → mark_of (mark_number own) ≡ own
@@ -414,7 +465,8 @@ mark_of-number mark.Closing = refl
 pub sign-mark : (wanted : Mark) (token : Token) → is_sign wanted token ≡ true → token ≡ Sign wanted
 sign-mark wanted (Word bytes) is = absurd cc
 sign-mark wanted (Quoted bytes) is = absurd cc
-sign-mark wanted (Sign own) is = ap Sign (sym (mark_of-number own) ∙ ap mark_of (eqb-true _ _ is) ∙ mark_of-number wanted)
+sign-mark wanted (Sign own) is = ap Sign (sym (mark_of-number own) ∙ ap mark_of (eqb-true _ _ is) ∙ mark_of-number
+    wanted)
 
 -- ---- step by step
 
@@ -427,7 +479,21 @@ arrive schema to after held is at = subst (λ (expected : Expected). Holds schem
 hold-negated : (schema : Schema) (negated : Bool) (draft : Draft) → AtTest schema draft
     → AtTest schema (record draft { negated = negated })
 hold-negated schema negated draft at = record {
-  asked = record { whole = record { closed = record { lines = at.asked.whole.closed.lines; apart = at.asked.whole.closed.apart }; named = record { name = at.asked.whole.named.name; free = at.asked.whole.named.free }; line = at.asked.whole.line }; room = at.asked.room; other = at.asked.other };
+  asked = record {
+    whole = record {
+      closed = record {
+        lines = at.asked.whole.closed.lines;
+        apart = at.asked.whole.closed.apart;
+      };
+      named = record {
+        name = at.asked.whole.named.name;
+        free = at.asked.whole.named.free;
+      };
+      line = at.asked.whole.line;
+    };
+    room = at.asked.room;
+    other = at.asked.other;
+  };
   no_texts = at.no_texts;
 }
 
@@ -444,8 +510,16 @@ test-other word token draft other is = rw (is, other) refl
 hold-closed : (schema : Schema) (draft : Draft) → AtClose schema draft
     → AtEnd schema (record (with_cond (set_of draft) draft) { texts = [] })
 hold-closed schema draft at =
-    let whole = hold-cond schema (set_of draft) draft (pattern-set_of draft (record { some = at.some; fits = at.item.fits; plain = at.item.plain })) at.item.asked in
-    record { whole = record { closed = record { lines = whole.closed.lines; apart = whole.closed.apart }; named = record { name = whole.named.name; free = whole.named.free }; line = whole.line }; no_texts = refl }
+    let whole = hold-cond schema (set_of draft) draft (pattern-set_of draft
+    (record { some = at.some; fits = at.item.fits; plain = at.item.plain })) at.item.asked in
+    record {
+      whole = record {
+        closed = record { lines = whole.closed.lines; apart = whole.closed.apart };
+        named = record { name = whole.named.name; free = whole.named.free };
+        line = whole.line;
+      };
+      no_texts = refl;
+    }
 
 -- after the head or a condition: more conditions, or the end of the rule
 hold-after_line : (schema : Schema) (after : Expected) (token : Token) (draft held : Draft) (more : Bool)
@@ -454,8 +528,11 @@ hold-after_line : (schema : Schema) (after : Expected) (token : Token) (draft he
     → with_line token draft ≡ held → AtEnd schema draft → Holds schema after held
 hold-after_line schema after token draft held more apart goes read at =
     elim (led_either more expected.Cond after _ goes) [
-      | inl (taken, is) ↦ arrive schema expected.Cond after held is (subst (AtEnd schema) (let same : draft ≡ with_line token draft = rw (apart taken) refl in same ∙ read) at)
-      | inr (other, others) ↦ let (closing, is) = led _ _ _ others in arrive schema expected.Rule after held is (subst (AtRule schema) (let same : draft_behind (draft.lines ++ draft.line ∷ []) ≡ with_line token draft = rw closing refl in same ∙ read) (hold-line schema draft at.whole))
+      | inl (taken, is) ↦ arrive schema expected.Cond after held is
+          (subst (AtEnd schema) (let same : draft ≡ with_line token draft = rw (apart taken) refl in same ∙ read) at)
+      | inr (other, others) ↦ let (closing, is) = led _ _ _ others in arrive schema expected.Rule after held is
+          (subst (AtRule schema) (let same : draft_behind (draft.lines ++ draft.line ∷ [])
+          ≡ with_line token draft = rw closing refl in same ∙ read) (hold-line schema draft at.whole))
     ]
 
 -- behind a comma another text is expected, and behind a closing parenthesis the end of a rule
@@ -465,8 +542,12 @@ hold-after_text : (schema : Schema) (after : Expected) (token : Token) (draft he
     → with_set token draft ≡ held → AtClose schema draft → Holds schema after held
 hold-after_text schema after token draft held goes read at =
     elim (led_either (is_sign mark.Comma token) expected.Item after _ goes) [
-      | inl (taken, is) ↦ arrive schema expected.Item after held is (subst (AtItem schema) (let same : draft ≡ with_set token draft = rw (sign-mark mark.Comma token taken) refl in same ∙ read) at.item)
-      | inr (other, others) ↦ let (closing, is) = led _ _ _ others in arrive schema expected.AfterCond after held is (subst (AtEnd schema) (let same : record (with_cond (set_of draft) draft) { texts = [] } ≡ with_set token draft = rw closing refl in same ∙ read) (hold-closed schema draft at))
+      | inl (taken, is) ↦ arrive schema expected.Item after held is
+          (subst (AtItem schema) (let same : draft ≡ with_set token draft = rw (sign-mark mark.Comma token taken) refl
+          in same ∙ read) at.item)
+      | inr (other, others) ↦ let (closing, is) = led _ _ _ others in arrive schema expected.AfterCond after held is
+          (subst (AtEnd schema) (let same : record (with_cond (set_of draft) draft) { texts = [] }
+          ≡ with_set token draft = rw closing refl in same ∙ read) (hold-closed schema draft at))
     ]
 
 -- behind `not` a text or a set is expected
@@ -477,22 +558,40 @@ hold-after_negated : (schema : Schema) (after : Expected) (token : Token) (place
     → with_negated token place draft ≡ Ok held → AtTest schema draft → Holds schema after held
 hold-after_negated schema after token place draft held spelled goes read at =
     elim (led_either (is_quoted token) expected.AfterCond after _ goes) [
-      | inl (taken, is) ↦ arrive schema expected.AfterCond after held is (hold-constant schema IsNot (content token) place draft held (let constant : with_negated token place draft ≡ with_constant IsNot (content token) place draft = rw taken refl in sym constant ∙ read) (plain-column token spelled (quoted-column token taken)) at)
-      | inr (other, others) ↦ let (in-word, is) = led _ _ _ others in arrive schema expected.Open after held is (subst (AtItem schema) (same-draft _ _ (let set : with_negated token place draft ≡ Ok (record draft { negated = true }) = rw other refl in sym set ∙ read)) (hold-open schema _ (hold-negated schema true draft at)))
+      | inl (taken, is) ↦ arrive schema expected.AfterCond after held is
+          (hold-constant schema IsNot (content token) place draft held
+          (let constant : with_negated token place draft
+          ≡ with_constant IsNot (content token) place draft = rw taken refl in sym constant ∙ read)
+          (plain-column token spelled (quoted-column token taken)) at)
+      | inr (other, others) ↦ let (in-word, is) = led _ _ _ others in arrive schema expected.Open after held is
+          (subst (AtItem schema) (same-draft _ _ (let set : with_negated token place draft ≡ Ok
+          (record draft { negated = true }) = rw other refl in sym set ∙ read))
+          (hold-open schema _ (hold-negated schema true draft at)))
     ]
 
 -- behind a test what it asks is expected
 hold-after_test : (schema : Schema) (after : Expected) (token : Token) (draft held : Draft)
-    → (if is_keyword (codes "is") token then Some expected.Const else if is_keyword (codes "not") token then Some expected.Negated else if is_keyword (codes "in") token then Some expected.Open else leads (is_keyword (codes "any") token) expected.AfterCond) ≡ Some after
+    → (if is_keyword (codes "is") token then Some expected.Const else if is_keyword (codes "not") token then Some
+    expected.Negated else if is_keyword (codes "in") token then Some expected.Open else leads
+    (is_keyword (codes "any") token) expected.AfterCond) ≡ Some after
     → with_test token draft ≡ held → AtTest schema draft → Holds schema after held
 hold-after_test schema after token draft held goes read at =
     elim (led_either (is_keyword (codes "is") token) expected.Const after _ goes) [
-      | inl (taken, is) ↦ arrive schema expected.Const after held is (subst (AtTest schema) (test-other (codes "is") token draft refl (keyword-word _ token taken) ∙ read) (hold-negated schema false draft at))
+      | inl (taken, is) ↦ arrive schema expected.Const after held is
+          (subst (AtTest schema) (test-other (codes "is") token draft refl (keyword-word _ token taken) ∙ read)
+          (hold-negated schema false draft at))
       | inr (other, others) ↦ elim (led_either (is_keyword (codes "not") token) expected.Negated after _ others) [
-        | inl (taken, is) ↦ arrive schema expected.Negated after held is (subst (AtTest schema) (test-other (codes "not") token draft refl (keyword-word _ token taken) ∙ read) (hold-negated schema false draft at))
+        | inl (taken, is) ↦ arrive schema expected.Negated after held is
+            (subst (AtTest schema) (test-other (codes "not") token draft refl (keyword-word _ token taken) ∙ read)
+            (hold-negated schema false draft at))
         | inr (other', others') ↦ elim (led_either (is_keyword (codes "in") token) expected.Open after _ others') [
-          | inl (taken, is) ↦ arrive schema expected.Open after held is (subst (AtItem schema) (test-other (codes "in") token draft refl (keyword-word _ token taken) ∙ read) (hold-open schema _ (hold-negated schema false draft at)))
-          | inr (other'', others'') ↦ let (any-word, is) = led _ _ _ others'' in arrive schema expected.AfterCond after held is (subst (AtEnd schema) (let same : with_cond Any draft ≡ with_test token draft = rw any-word refl in same ∙ read) (record { whole = hold-cond schema Any draft tt at.asked; no_texts = at.no_texts }))
+          | inl (taken, is) ↦ arrive schema expected.Open after held is
+              (subst (AtItem schema) (test-other (codes "in") token draft refl (keyword-word _ token taken) ∙ read)
+              (hold-open schema _ (hold-negated schema false draft at)))
+          | inr (other'', others'') ↦ let (any-word, is) = led _ _ _ others'' in arrive schema expected.AfterCond
+              after held is (subst (AtEnd schema) (let same : with_cond Any draft ≡ with_test token
+              draft = rw any-word refl in same ∙ read)
+              (record { whole = hold-cond schema Any draft tt at.asked; no_texts = at.no_texts }))
         ]
       ]
     ]
@@ -515,7 +614,8 @@ hold-step schema expected.Rule after token place draft held spelled goes read at
     led _ _ _ goes in arrive schema expected.Name after held is (subst (AtRule schema) (same-draft _ _ read) at)
 hold-step schema expected.Name after token place draft held spelled goes read at =
     let (taken, is) =
-    led _ _ _ goes in arrive schema expected.From after held is (hold-name schema place draft held (content token) read (name-word token taken) at)
+    led _ _ _ goes in arrive schema expected.From after held is
+    (hold-name schema place draft held (content token) read (name-word token taken) at)
 hold-step schema expected.From after token place draft held spelled goes read at =
     let (taken, is) =
     led _ _ _ goes in arrive schema expected.Master after held is (subst (AtMaster schema) (same-draft _ _ read) at)
@@ -535,33 +635,41 @@ hold-step schema expected.Colon after token place draft held spelled goes read a
 hold-step schema expected.Key after token place draft held spelled goes read at =
     let (taken, is) = led _ _ _ goes in
     let (room, found) = unless-Ok _ _ _ _ read in
-    arrive schema expected.KeyEquals after held is (hold-key_of schema place draft held (attribute_of schema (content token)) (known_attribute schema (content token)) found (below_eight _ room) at)
+    arrive schema expected.KeyEquals after held is (hold-key_of schema place draft held
+    (attribute_of schema (content token)) (known_attribute schema (content token)) found (below_eight _ room) at)
 hold-step schema expected.KeyEquals after token place draft held spelled goes read at =
     let (taken, is) =
     led _ _ _ goes in arrive schema expected.KeyColumn after held is (subst (AtColumn schema) (same-draft _ _ read) at)
 hold-step schema expected.KeyColumn after token place draft held spelled goes read at =
     let (taken, is) =
-    led _ _ _ goes in arrive schema expected.AfterKey after held is (hold-key_column schema place draft held (content token) read (plain-column token spelled taken) at)
+    led _ _ _ goes in arrive schema expected.AfterKey after held is
+    (hold-key_column schema place draft held (content token) read (plain-column token spelled taken) at)
 hold-step schema expected.AfterKey after token place draft held spelled goes read at =
     elim (led_either (is_sign mark.Comma token) expected.Key after _ goes) [
       | inl (taken, is) ↦ arrive schema expected.Key after held is (subst (AtKey schema) (same-draft _ _ read) at.key)
-      | inr (other, others) ↦ let (arrow, is) = led _ _ _ others in arrive schema expected.Head after held is (subst (AtHead schema) (same-draft _ _ read) at)
+      | inr (other, others) ↦ let (arrow, is) = led _ _ _ others in arrive schema expected.Head after held is
+          (subst (AtHead schema) (same-draft _ _ read) at)
     ]
 hold-step schema expected.Head after token place draft held spelled goes read at =
     let (taken, is) =
-    led _ _ _ goes in arrive schema expected.HeadEquals after held is (hold-head_of schema place draft held (attribute_of schema (content token)) (known_attribute schema (content token)) read at)
+    led _ _ _ goes in arrive schema expected.HeadEquals after held is
+    (hold-head_of schema place draft held (attribute_of schema (content token))
+    (known_attribute schema (content token)) read at)
 hold-step schema expected.HeadEquals after token place draft held spelled goes read at =
     let (taken, is) =
     led _ _ _ goes in arrive schema expected.HeadColumn after held is (subst (AtFrom schema) (same-draft _ _ read) at)
 hold-step schema expected.HeadColumn after token place draft held spelled goes read at =
     let (taken, is) =
-    led _ _ _ goes in arrive schema expected.AfterHead after held is (hold-head_column schema place draft held (content token) read (plain-column token spelled taken) at)
+    led _ _ _ goes in arrive schema expected.AfterHead after held is
+    (hold-head_column schema place draft held (content token) read (plain-column token spelled taken) at)
 hold-step schema expected.AfterHead after token place draft held spelled goes read at =
-    hold-after_line schema after token draft held (is_keyword (codes "when") token) (when-apart token) goes (same-draft _ _ read) at
+    hold-after_line schema after token draft held (is_keyword (codes "when") token) (when-apart token) goes
+    (same-draft _ _ read) at
 hold-step schema expected.Cond after token place draft held spelled goes read at =
     let (taken, is) = led _ _ _ goes in
     let (room, found) = unless-Ok _ _ _ _ read in
-    arrive schema expected.Test after held is (hold-asked_of schema place draft held (attribute_of schema (content token)) (known_attribute schema (content token)) found (below_eight _ room) at)
+    arrive schema expected.Test after held is (hold-asked_of schema place draft held
+    (attribute_of schema (content token)) (known_attribute schema (content token)) found (below_eight _ room) at)
 hold-step schema expected.Test after token place draft held spelled goes read at =
     hold-after_test schema after token draft held goes (same-draft _ _ read) at
 hold-step schema expected.Negated after token place draft held spelled goes read at =
@@ -571,14 +679,19 @@ hold-step schema expected.Open after token place draft held spelled goes read at
     led _ _ _ goes in arrive schema expected.Item after held is (subst (AtItem schema) (same-draft _ _ read) at)
 hold-step schema expected.Item after token place draft held spelled goes read at =
     let (taken, is) =
-    led _ _ _ goes in arrive schema expected.AfterItem after held is (hold-text schema place draft held (content token) read (plain-column token spelled (quoted-column token taken)) at)
+    led _ _ _ goes in arrive schema expected.AfterItem after held is
+    (hold-text schema place draft held (content token) read
+    (plain-column token spelled (quoted-column token taken)) at)
 hold-step schema expected.AfterItem after token place draft held spelled goes read at =
     hold-after_text schema after token draft held goes (same-draft _ _ read) at
 hold-step schema expected.Const after token place draft held spelled goes read at =
     let (taken, is) =
-    led _ _ _ goes in arrive schema expected.AfterCond after held is (hold-constant schema Is (content token) place draft held read (plain-column token spelled (quoted-column token taken)) at)
+    led _ _ _ goes in arrive schema expected.AfterCond after held is
+    (hold-constant schema Is (content token) place draft held read
+    (plain-column token spelled (quoted-column token taken)) at)
 hold-step schema expected.AfterCond after token place draft held spelled goes read at =
-    hold-after_line schema after token draft held (is_sign mark.Comma token) (comma-apart token) goes (same-draft _ _ read) at
+    hold-after_line schema after token draft held (is_sign mark.Comma token) (comma-apart token) goes
+    (same-draft _ _ read) at
 
 -- ---- the rules of all tokens
 
@@ -617,13 +730,15 @@ at_end schema expected.AfterCond draft rulebook at = absurd cc
 hold-tokens : (schema : Schema) (present : Expected) (tokens : List Taken) (draft held : Draft)
     → IsChain present tokens → with_tokens schema tokens draft ≡ Ok held → Holds schema present draft
     → AtRule schema held
-hold-tokens schema present [] draft held chain read at = subst (AtRule schema) (same-draft _ _ read) (at_end schema present draft chain at)
+hold-tokens schema present [] draft held chain read at = subst (AtRule schema) (same-draft _ _ read)
+    (at_end schema present draft chain at)
 hold-tokens schema present (first ∷ rest) draft held (is, spelled, (after, goes, behind)) read at =
     let (middle, step, others) =
     and_then-Ok (with_token schema first.expected first.token first.place draft) (with_tokens schema rest) held read in
     let step' : with_token schema present first.token first.place draft ≡ Ok middle =
     subst (λ (expected : Expected). with_token schema expected first.token first.place draft ≡ Ok middle) is step in
-    hold-tokens schema after rest middle held behind others (hold-step schema present after first.token first.place draft middle spelled goes step' at)
+    hold-tokens schema after rest middle held behind others (hold-step schema present after first.token first.place
+    draft middle spelled goes step' at)
 
 -- ---- how many rules there are
 
@@ -659,28 +774,35 @@ count-after_line : (after : Expected) (token : Token) (draft held : Draft) (more
     → with_line token draft ≡ held → HasCounted after draft held
 count-after_line after token draft held more apart goes read =
     elim (led_either more expected.Cond after _ goes) [
-      | inl (taken, is) ↦ count-kept expected.Cond after draft draft held is refl (let same : draft ≡ with_line token draft = rw (apart taken) refl in same ∙ read) refl
-      | inr (other, others) ↦ let (closing, is) = led _ _ _ others in count-closed after draft held is (let same : draft_behind (draft.lines ++ draft.line ∷ []) ≡ with_line token draft = rw closing refl in same ∙ read)
+      | inl (taken, is) ↦ count-kept expected.Cond after draft draft held is refl
+          (let same : draft ≡ with_line token draft = rw (apart taken) refl in same ∙ read) refl
+      | inr (other, others) ↦ let (closing, is) = led _ _ _ others in count-closed after draft held is
+          (let same : draft_behind (draft.lines ++ draft.line ∷ []) ≡ with_line token draft = rw closing refl in same
+          ∙ read)
     ]
 
 -- a test adds no rule
 count-test : (token : Token) (draft : Draft) → length (with_test token draft).lines ≡ length draft.lines
-count-test token draft = elim (cases_Bool (is_keyword (codes "any") token)) [ inl any ↦ rw any refl | inr other ↦ rw other refl ]
+count-test token draft = elim (cases_Bool (is_keyword (codes "any") token))
+    [ inl any ↦ rw any refl | inr other ↦ rw other refl ]
 
 -- nor does the end of a set
 count-set : (token : Token) (draft : Draft) → length (with_set token draft).lines ≡ length draft.lines
-count-set token draft = elim (cases_Bool (is_sign mark.Closing token)) [ inl any ↦ rw any refl | inr other ↦ rw other refl ]
+count-set token draft = elim (cases_Bool (is_sign mark.Closing token))
+    [ inl any ↦ rw any refl | inr other ↦ rw other refl ]
 
 module _ (place : Place) (to after : Expected) (draft held : Draft) (is : to ≡ after) (one : open_rules to ≡ 1) where
   -- nor does a key
   count-key_of : (found : Option ℕ) → with_key_of found place draft ≡ Ok held → HasCounted after draft held
   count-key_of None read = absurd cc
-  count-key_of (Some attribute) read = let (free, same) = unless-Ok _ _ _ _ read in count-kept to after draft _ held is one (same-draft _ _ same) refl
+  count-key_of (Some attribute) read = let (free, same) = unless-Ok _ _ _ _ read in count-kept to after draft _ held
+      is one (same-draft _ _ same) refl
 
   -- nor a head
   count-head_of : (found : Option ℕ) → with_head_of found place draft ≡ Ok held → HasCounted after draft held
   count-head_of None read = absurd cc
-  count-head_of (Some attribute) read = let (free, same) = unless-Ok _ _ _ _ read in count-kept to after draft _ held is one (same-draft _ _ same) refl
+  count-head_of (Some attribute) read = let (free, same) = unless-Ok _ _ _ _ read in count-kept to after draft _ held
+      is one (same-draft _ _ same) refl
 
   -- nor a condition
   count-asked_of : (found : Option ℕ) → with_asked_of found place draft ≡ Ok held → HasCounted after draft held
@@ -694,74 +816,110 @@ module _ (place : Place) (to after : Expected) (draft held : Draft) (is : to ≡
   -- nor a constant
   count-constant : (pat : List ℕ → Pat) (constant : List ℕ) → with_constant pat constant place draft ≡ Ok held
       → HasCounted after draft held
-  count-constant pat constant read = let (short, same) = unless-Ok _ _ _ _ read in count-kept to after draft _ held is one (same-draft _ _ same) refl
+  count-constant pat constant read = let (short, same) = unless-Ok _ _ _ _ read in count-kept to after draft _ held is
+      one (same-draft _ _ same) refl
 
   -- nor a text of a set
   count-text : (text : List ℕ) → with_text text place draft ≡ Ok held → HasCounted after draft held
   count-text text read =
       let (room, more) = unless-Ok (nat_le 64 (length draft.texts)) (TooMany place.line place.column) _ _ read in
       let (short, same) = unless-Ok (is_long text) (ConstantLong place.line place.column) _ _ more in
-      count-kept to after draft (record draft { texts = draft.texts ++ text ∷ [] }) held is one (same-draft _ _ same) refl
+      count-kept to after draft (record draft { texts = draft.texts ++ text ∷ [] }) held is one (same-draft _ _ same)
+      refl
 
 -- so it is behind each token
 count-step : (schema : Schema) (present after : Expected) (token : Token) (place : Place) (draft held : Draft)
     → next present token ≡ Some after → with_token schema present token place draft ≡ Ok held
     → HasCounted after draft held
 unfolding next with_token
-count-step schema expected.Rule after token place draft held goes read = let (taken, is) = led _ _ _ goes in count-kept expected.Name after draft _ held is refl (same-draft _ _ read) refl
-count-step schema expected.Name after token place draft held goes read = let (taken, is) = led _ _ _ goes in let (free, same) = unless-Ok _ _ _ _ read in count-kept expected.From after draft _ held is refl (same-draft _ _ same) refl
-count-step schema expected.From after token place draft held goes read = let (taken, is) = led _ _ _ goes in count-kept expected.Master after draft _ held is refl (same-draft _ _ read) refl
-count-step schema expected.Master after token place draft held goes read = let (taken, is) = led _ _ _ goes in count-kept expected.Colon after draft _ held is refl (same-draft _ _ read) refl
-count-step schema expected.Colon after token place draft held goes read = let (taken, is) = led _ _ _ goes in count-kept expected.Key after draft _ held is refl (same-draft _ _ read) refl
-count-step schema expected.Key after token place draft held goes read = let (taken, is) = led _ _ _ goes in let (room, found) = unless-Ok _ _ _ _ read in count-key_of place expected.KeyEquals after draft held is refl _ found
-count-step schema expected.KeyEquals after token place draft held goes read = let (taken, is) = led _ _ _ goes in count-kept expected.KeyColumn after draft _ held is refl (same-draft _ _ read) refl
-count-step schema expected.KeyColumn after token place draft held goes read = let (taken, is) = led _ _ _ goes in let (free, same) = unless-Ok _ _ _ _ read in count-kept expected.AfterKey after draft _ held is refl (same-draft _ _ same) refl
+count-step schema expected.Rule after token place draft held goes read = let (taken, is) = led _ _ _ goes
+    in count-kept expected.Name after draft _ held is refl (same-draft _ _ read) refl
+count-step schema expected.Name after token place draft held goes read = let (taken, is) = led _ _ _ goes
+    in let (free, same) = unless-Ok _ _ _ _ read in count-kept expected.From after draft _ held is refl
+    (same-draft _ _ same) refl
+count-step schema expected.From after token place draft held goes read = let (taken, is) = led _ _ _ goes
+    in count-kept expected.Master after draft _ held is refl (same-draft _ _ read) refl
+count-step schema expected.Master after token place draft held goes read = let (taken, is) = led _ _ _ goes
+    in count-kept expected.Colon after draft _ held is refl (same-draft _ _ read) refl
+count-step schema expected.Colon after token place draft held goes read = let (taken, is) = led _ _ _ goes
+    in count-kept expected.Key after draft _ held is refl (same-draft _ _ read) refl
+count-step schema expected.Key after token place draft held goes read = let (taken, is) = led _ _ _ goes
+    in let (room, found) = unless-Ok _ _ _ _ read in count-key_of place expected.KeyEquals after draft held is refl
+    _ found
+count-step schema expected.KeyEquals after token place draft held goes read = let (taken, is) = led _ _ _ goes
+    in count-kept expected.KeyColumn after draft _ held is refl (same-draft _ _ read) refl
+count-step schema expected.KeyColumn after token place draft held goes read = let (taken, is) = led _ _ _ goes
+    in let (free, same) = unless-Ok _ _ _ _ read in count-kept expected.AfterKey after draft _ held is refl
+    (same-draft _ _ same) refl
 count-step schema expected.AfterKey after token place draft held goes read =
     elim (led_either (is_sign mark.Comma token) expected.Key after _ goes) [
       | inl (taken, is) ↦ count-kept expected.Key after draft _ held is refl (same-draft _ _ read) refl
-      | inr (other, others) ↦ let (arrow, is) = led _ _ _ others in count-kept expected.Head after draft _ held is refl (same-draft _ _ read) refl
+      | inr (other, others) ↦ let (arrow, is) = led _ _ _ others in count-kept expected.Head after draft _ held is
+          refl (same-draft _ _ read) refl
     ]
-count-step schema expected.Head after token place draft held goes read = let (taken, is) = led _ _ _ goes in count-head_of place expected.HeadEquals after draft held is refl _ read
-count-step schema expected.HeadEquals after token place draft held goes read = let (taken, is) = led _ _ _ goes in count-kept expected.HeadColumn after draft _ held is refl (same-draft _ _ read) refl
-count-step schema expected.HeadColumn after token place draft held goes read = let (taken, is) = led _ _ _ goes in let (free, same) = unless-Ok _ _ _ _ read in count-kept expected.AfterHead after draft _ held is refl (same-draft _ _ same) refl
-count-step schema expected.AfterHead after token place draft held goes read = count-after_line after token draft held (is_keyword (codes "when") token) (when-apart token) goes (same-draft _ _ read)
-count-step schema expected.Cond after token place draft held goes read = let (taken, is) = led _ _ _ goes in let (room, found) = unless-Ok _ _ _ _ read in count-asked_of place expected.Test after draft held is refl _ found
+count-step schema expected.Head after token place draft held goes read = let (taken, is) = led _ _ _ goes
+    in count-head_of place expected.HeadEquals after draft held is refl _ read
+count-step schema expected.HeadEquals after token place draft held goes read = let (taken, is) = led _ _ _ goes
+    in count-kept expected.HeadColumn after draft _ held is refl (same-draft _ _ read) refl
+count-step schema expected.HeadColumn after token place draft held goes read = let (taken, is) = led _ _ _ goes
+    in let (free, same) = unless-Ok _ _ _ _ read in count-kept expected.AfterHead after draft _ held is refl
+    (same-draft _ _ same) refl
+count-step schema expected.AfterHead after token place draft held goes read = count-after_line after token draft held
+    (is_keyword (codes "when") token) (when-apart token) goes (same-draft _ _ read)
+count-step schema expected.Cond after token place draft held goes read = let (taken, is) = led _ _ _ goes
+    in let (room, found) = unless-Ok _ _ _ _ read in count-asked_of place expected.Test after draft held is refl _ found
 count-step schema expected.Test after token place draft held goes read =
     elim (led_either (is_keyword (codes "is") token) expected.Const after _ goes) [
-      | inl (taken, is) ↦ count-kept expected.Const after draft _ held is refl (same-draft _ _ read) (count-test token draft)
+      | inl (taken, is) ↦ count-kept expected.Const after draft _ held is refl (same-draft _ _ read)
+          (count-test token draft)
       | inr (other, others) ↦ elim (led_either (is_keyword (codes "not") token) expected.Negated after _ others) [
-        | inl (taken, is) ↦ count-kept expected.Negated after draft _ held is refl (same-draft _ _ read) (count-test token draft)
+        | inl (taken, is) ↦ count-kept expected.Negated after draft _ held is refl (same-draft _ _ read)
+            (count-test token draft)
         | inr (other', others') ↦ elim (led_either (is_keyword (codes "in") token) expected.Open after _ others') [
-          | inl (taken, is) ↦ count-kept expected.Open after draft _ held is refl (same-draft _ _ read) (count-test token draft)
-          | inr (other'', others'') ↦ let (any-word, is) = led _ _ _ others'' in count-kept expected.AfterCond after draft _ held is refl (same-draft _ _ read) (count-test token draft)
+          | inl (taken, is) ↦ count-kept expected.Open after draft _ held is refl (same-draft _ _ read)
+              (count-test token draft)
+          | inr (other'', others'') ↦ let (any-word, is) = led _ _ _ others'' in count-kept expected.AfterCond after
+              draft _ held is refl (same-draft _ _ read) (count-test token draft)
         ]
       ]
     ]
 count-step schema expected.Negated after token place draft held goes read =
     elim (led_either (is_quoted token) expected.AfterCond after _ goes) [
-      | inl (taken, is) ↦ count-constant place expected.AfterCond after draft held is refl IsNot (content token) (let constant : with_negated token place draft ≡ with_constant IsNot (content token) place draft = rw taken refl in sym constant ∙ read)
-      | inr (other, others) ↦ let (in-word, is) = led _ _ _ others in count-kept expected.Open after draft _ held is refl (same-draft _ _ (let set : with_negated token place draft ≡ Ok (record draft { negated = true }) = rw other refl in sym set ∙ read)) refl
+      | inl (taken, is) ↦ count-constant place expected.AfterCond after draft held is refl IsNot (content token)
+          (let constant : with_negated token place draft
+          ≡ with_constant IsNot (content token) place draft = rw taken refl in sym constant ∙ read)
+      | inr (other, others) ↦ let (in-word, is) = led _ _ _ others in count-kept expected.Open after draft _ held is
+          refl (same-draft _ _ (let set : with_negated token place draft
+          ≡ Ok (record draft { negated = true }) = rw other refl in sym set ∙ read)) refl
     ]
-count-step schema expected.Open after token place draft held goes read = let (taken, is) = led _ _ _ goes in count-kept expected.Item after draft _ held is refl (same-draft _ _ read) refl
-count-step schema expected.Item after token place draft held goes read = let (taken, is) = led _ _ _ goes in count-text place expected.AfterItem after draft held is refl (content token) read
+count-step schema expected.Open after token place draft held goes read = let (taken, is) = led _ _ _ goes
+    in count-kept expected.Item after draft _ held is refl (same-draft _ _ read) refl
+count-step schema expected.Item after token place draft held goes read = let (taken, is) = led _ _ _ goes
+    in count-text place expected.AfterItem after draft held is refl (content token) read
 count-step schema expected.AfterItem after token place draft held goes read =
     elim (led_either (is_sign mark.Comma token) expected.Item after _ goes) [
-      | inl (taken, is) ↦ count-kept expected.Item after draft _ held is refl (same-draft _ _ read) (count-set token draft)
-      | inr (other, others) ↦ let (closing, is) = led _ _ _ others in count-kept expected.AfterCond after draft _ held is refl (same-draft _ _ read) (count-set token draft)
+      | inl (taken, is) ↦ count-kept expected.Item after draft _ held is refl (same-draft _ _ read)
+          (count-set token draft)
+      | inr (other, others) ↦ let (closing, is) = led _ _ _ others in count-kept expected.AfterCond after draft _ held
+          is refl (same-draft _ _ read) (count-set token draft)
     ]
-count-step schema expected.Const after token place draft held goes read = let (taken, is) = led _ _ _ goes in count-constant place expected.AfterCond after draft held is refl Is (content token) read
-count-step schema expected.AfterCond after token place draft held goes read = count-after_line after token draft held (is_sign mark.Comma token) (comma-apart token) goes (same-draft _ _ read)
+count-step schema expected.Const after token place draft held goes read = let (taken, is) = led _ _ _ goes
+    in count-constant place expected.AfterCond after draft held is refl Is (content token) read
+count-step schema expected.AfterCond after token place draft held goes read = count-after_line after token draft held
+    (is_sign mark.Comma token) (comma-apart token) goes (same-draft _ _ read)
 
 -- the first token of a chain begins a rule where none has begun
 count-first : (present : Expected) (first : Taken) (rest : List Taken) → first.expected ≡ present
     → length (filter begins_rule (first ∷ rest)) + open_rules present ≡ length (filter begins_rule rest) + 1
-count-first present first rest is = elim (cases_Bool (is_between_rules present)) [ inl rulebook ↦ rw (is, rulebook) (omega arith) | inr begun ↦ rw (is, begun) refl ]
+count-first present first rest is = elim (cases_Bool (is_between_rules present))
+    [ inl rulebook ↦ rw (is, rulebook) (omega arith) | inr begun ↦ rw (is, begun) refl ]
 
 -- each rule that has begun is closed
 count-tokens : (schema : Schema) (present : Expected) (tokens : List Taken) (draft held : Draft)
     → IsChain present tokens → with_tokens schema tokens draft ≡ Ok held
     → length held.lines ≡ length draft.lines + open_rules present + length (filter begins_rule tokens)
-count-tokens schema present [] draft held rulebook read = rw rulebook (ap (λ (d : Draft). length d.lines) (sym (same-draft _ _ read)) ∙ omega arith)
+count-tokens schema present [] draft held rulebook read = rw rulebook
+    (ap (λ (d : Draft). length d.lines) (sym (same-draft _ _ read)) ∙ omega arith)
 count-tokens schema present (first ∷ rest) draft held (is, spelled, (after, goes, behind)) read =
     let (middle, step, others) =
     and_then-Ok (with_token schema first.expected first.token first.place draft) (with_tokens schema rest) held read in
@@ -800,4 +958,8 @@ IsRulebook-from_text text schema rulebook read =
     record { closed = record { lines = tt; apart = tt }; no_keys = refl; no_conds = refl; no_texts = refl } in
     let whole = hold-tokens schema expected.Rule tokens (draft_behind []) draft chain walked nothing in
     let counted = count-tokens schema expected.Rule tokens (draft_behind []) draft chain walked in
-    subst (IsRulebook schema) is (record { fits = omega arith; lines = whole.closed.lines; named_apart = whole.closed.apart })
+    subst (IsRulebook schema) is (record {
+      fits = omega arith;
+      lines = whole.closed.lines;
+      named_apart = whole.closed.apart;
+    })

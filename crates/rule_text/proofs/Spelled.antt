@@ -75,9 +75,12 @@ quoted-doubled (byte ∷ more) rest plain stops =
     elim (cases_Bool (byte == 34)) [
       | inl is ↦
           let same : 34 ≡ byte = sym (eqb-true byte 34 is) in
-          rw (is, again) (with_byte-Some 34 2 more (length (doubled more) + 1) _ (omega arith) ∙ ap (λ (b : ℕ). Some (b ∷ more, suc (suc (length (doubled more))) + 1)) same)
+          rw (is, again) (with_byte-Some 34 2 more (length (doubled more) + 1) _ (omega arith)
+          ∙ ap (λ (b : ℕ). Some (b ∷ more, suc (suc (length (doubled more))) + 1)) same)
       | inr other ↦
-          rw other (quoted-plain byte (doubled more ++ 34 ∷ rest) (rw length-append (omega arith)) other (plain_high byte first) ∙ ap (with_byte byte 1) again ∙ with_byte-Some byte 1 more (length (doubled more) + 1) _ (omega arith))
+          rw other (quoted-plain byte (doubled more ++ 34 ∷ rest) (rw length-append (omega arith)) other
+          (plain_high byte first) ∙ ap (with_byte byte 1) again
+          ∙ with_byte-Some byte 1 more (length (doubled more) + 1) _ (omega arith))
     ]
 
 -- a text between quotes, its own doubled, is a string of this content

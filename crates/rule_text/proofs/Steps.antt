@@ -28,15 +28,18 @@ use Rattle.rule_text.proofs.Spelled.{Stops, piece_at-word, piece_at-string}
 
 -- from some bytes on, wherever they stand, reading goes on to the rest: by tokens that make the one draft
 -- into the other, and of which so many begin a rule
-pub record Reads (schema : Schema) (before : Expected) (draft : Draft) (bytes : List ℕ) (after : Expected) (held : Draft) (rest : List ℕ) (begun : ℕ) : Type 0 where
+pub record Reads (schema : Schema) (before : Expected) (draft : Draft) (bytes : List ℕ) (after : Expected)
+    (held : Draft) (rest : List ℕ) (begun : ℕ) : Type 0 where
   pub walk : (place : Place)
       → (tokens : List Taken)
-      × ((behind : Place) × ((taken_from before place 0 bytes ≡ with_front tokens (taken_from after behind 0 rest)) × ((with_tokens schema tokens draft ≡ Ok held) × (length (filter begins_rule tokens) ≡ begun))))
+      × ((behind : Place) × ((taken_from before place 0 bytes ≡ with_front tokens (taken_from after behind 0 rest))
+      × ((with_tokens schema tokens draft ≡ Ok held) × (length (filter begins_rule tokens) ≡ begun))))
 
 -- tokens in front of tokens in front
 with_front-append : (first second : List Taken) (others : Result (List Taken) RuleFault)
     → with_front first (with_front second others) ≡ with_front (first ++ second) others
-with_front-append first second (Ok rest) = ap (λ (tokens : List Taken). Ok tokens) (sym (append_assoc first second rest))
+with_front-append first second (Ok rest) = ap (λ (tokens : List Taken). Ok tokens)
+    (sym (append_assoc first second rest))
 with_front-append first second (Err fault) = refl
 
 -- one token in front
@@ -61,50 +64,70 @@ with_tokens-then : (schema : Schema) (first second : List Taken) (draft middle h
 with_tokens-then schema [] second draft middle held one two = rw (same_ok draft middle one) two
 with_tokens-then schema (token ∷ first) second draft middle held one two =
     let (further, step, others) =
-    and_then-Ok (with_token schema token.expected token.token token.place draft) (with_tokens schema first) middle one in
+    and_then-Ok (with_token schema token.expected token.token token.place draft) (with_tokens schema first) middle one
+    in
     rw step (with_tokens-then schema first second further middle held others two)
 
 -- one after the other
 infixr 10 ◌▸◌
 -- what is read one after another is read together
-pub ◌▸◌ : {schema : Schema} {before middle after : Expected} {draft between held : Draft} {bytes more rest : List ℕ} {one two : ℕ}
+pub ◌▸◌ : {schema : Schema} {before middle after : Expected} {draft between held : Draft} {bytes more rest : List ℕ}
+    {one two : ℕ}
     → Reads schema before draft bytes middle between more one → Reads schema middle between more after held rest two
     → Reads schema before draft bytes after held rest (one + two)
-◌▸◌ {schema} {before} {middle} {after} {draft} {between} {held} {bytes} {more} {rest} {one} {two} first second = record {
-  walk = λ place.
-      let (tokens, (behind, (to, (made, counted)))) = first.walk place in
-      let (tokens', (behind', (to', (made', counted')))) = second.walk behind in (
-        tokens ++ tokens',
-        (
-          behind',
-          (
-            to ∙ ap (with_front tokens) to' ∙ with_front-append tokens tokens' (taken_from after behind' 0 rest),
-            (with_tokens-then schema tokens tokens' draft between held made made', rw (filter-append begins_rule tokens tokens', length-append, counted, counted') refl),
-          ),
-        ),
-      );
-}
+◌▸◌ {schema} {before} {middle} {after} {draft} {between} {held} {bytes} {more} {rest} {one} {two} first
+    second = record {
+      walk = λ place.
+          let (tokens, (behind, (to, (made, counted)))) = first.walk place in
+          let (tokens', (behind', (to', (made', counted')))) = second.walk behind in (
+            tokens ++ tokens',
+            (
+              behind',
+              (
+                to ∙ ap (with_front tokens) to' ∙ with_front-append tokens tokens' (taken_from after behind' 0 rest),
+                (
+                  with_tokens-then schema tokens tokens' draft between held made made',
+                  rw (filter-append begins_rule tokens tokens', length-append, counted, counted') refl,
+                ),
+              ),
+            ),
+          );
+    }
 
 -- the same, where the bytes are written in another way
-pub reads-of : {schema : Schema} {before after : Expected} {draft held : Draft} {rest : List ℕ} {begun : ℕ} (bytes other : List ℕ)
+pub reads-of : {schema : Schema} {before after : Expected} {draft held : Draft} {rest : List ℕ} {begun : ℕ}
+    (bytes other : List ℕ)
     → bytes ≡ other → Reads schema before draft other after held rest begun
     → Reads schema before draft bytes after held rest begun
-reads-of {schema} {before} {after} {draft} {held} {rest} {begun} bytes other is reads = subst (λ (b : List ℕ). Reads schema before draft b after held rest begun) (sym is) reads
+reads-of {schema} {before} {after} {draft} {held} {rest} {begun} bytes other is
+    reads = subst (λ (b : List ℕ). Reads schema before draft b after held rest begun) (sym is) reads
 
 -- a blank
 pub reads-gap : (schema : Schema) (before : Expected) (draft : Draft) (byte : ℕ) (rest : List ℕ)
     → piece_at (byte ∷ rest) ≡ Gap 0 → Reads schema before draft (byte ∷ rest) before draft rest 0
 reads-gap schema before draft byte rest piece = record {
-  walk = λ place. ([], (place_after place byte, (taken_from-gap before place byte rest 0 piece ∙ with_front-none (taken_from before (place_after place byte) 0 rest), (refl, refl))));
+  walk = λ place. (
+    [],
+    (
+      place_after place byte,
+      (
+        taken_from-gap before place byte rest 0 piece ∙ with_front-none
+            (taken_from before (place_after place byte) 0 rest),
+        (refl, refl),
+      ),
+    ),
+  );
 }
 
 -- a token begins a rule where one is expected
 begun_by : (token : Taken) (begun : ℕ) → (if is_between_rules token.expected then 1 else 0) ≡ begun
     → length (filter begins_rule (token ∷ [])) ≡ begun
-begun_by token begun is = elim (cases_Bool (is_between_rules token.expected)) [ inl rulebook ↦ rw rulebook (rw rulebook at is) | inr open' ↦ rw open' (rw open' at is) ]
+begun_by token begun is = elim (cases_Bool (is_between_rules token.expected))
+    [ inl rulebook ↦ rw rulebook (rw rulebook at is) | inr open' ↦ rw open' (rw open' at is) ]
 
 -- a token
-pub reads-token : (schema : Schema) (before after : Expected) (draft held : Draft) (byte : ℕ) (tail rest : List ℕ) (token : Token) (more begun : ℕ)
+pub reads-token : (schema : Schema) (before after : Expected) (draft held : Draft) (byte : ℕ) (tail rest : List ℕ)
+    (token : Token) (more begun : ℕ)
     → piece_at (byte ∷ tail) ≡ Spelled token more → drop more tail ≡ rest → next before token ≡ Some after
     → ((place : Place) → with_token schema before token place draft ≡ Ok held)
     → (if is_between_rules before then 1 else 0) ≡ begun
@@ -113,7 +136,9 @@ reads-token schema before after draft held byte tail rest token more begun piece
   walk = λ place.
       let taken : Taken = record { expected = before; token = token; place = place } in
       let behind = place_behind (place_after place byte) (take more tail) in
-      let step = taken_from-token before place byte tail more token after piece goes ∙ with_front-one taken (taken_from after behind 0 (drop more tail)) ∙ ap (λ (bytes : List ℕ). with_front (taken ∷ []) (taken_from after behind 0 bytes)) left in
+      let step = taken_from-token before place byte tail more token after piece goes
+      ∙ with_front-one taken (taken_from after behind 0 (drop more tail))
+      ∙ ap (λ (bytes : List ℕ). with_front (taken ∷ []) (taken_from after behind 0 bytes)) left in
       (taken ∷ [], (behind, (step, (rw (made place) refl, begun_by taken begun starts))));
 }
 
@@ -125,7 +150,8 @@ pub reads-word : (schema : Schema) (before after : Expected) (draft held : Draft
     → Reads schema before draft (name ++ rest) after held rest begun
 reads-word schema before after draft held [] rest begun is stops goes made starts = absurd cc
 reads-word schema before after draft held (first ∷ word) rest begun is stops goes made starts =
-    reads-token schema before after draft held first (word ++ rest) rest (Word (first ∷ word)) (length word) begun (piece_at-word first word rest is stops) (drop_at word rest (length word) refl) goes made starts
+    reads-token schema before after draft held first (word ++ rest) rest (Word (first ∷ word)) (length word) begun
+    (piece_at-word first word rest is stops) (drop_at word rest (length word) refl) goes made starts
 
 -- a string
 pub reads-string : (schema : Schema) (before after : Expected) (draft held : Draft) (text rest : List ℕ) (begun : ℕ)
@@ -140,7 +166,9 @@ reads-string schema before after draft held text rest begun plain stops goes mad
     let left : drop (length (doubled text) + 1) (doubled text ++ 34 ∷ rest) ≡ rest =
     rw (← closed) (drop_at (doubled text ++ 34 ∷ []) rest (length (doubled text) + 1) long) in
     reads-of (string_text text ++ rest) (34 ∷ (doubled text ++ 34 ∷ rest)) (ap (λ (bytes : List ℕ). 34 ∷ bytes) closed)
-    (reads-token schema before after draft held 34 (doubled text ++ 34 ∷ rest) rest (Quoted text) (length (doubled text) + 1) begun (piece_at-string text rest plain.plain (is_utf8-from_IsUtf8 text plain.utf8) stops) left goes made starts)
+    (reads-token schema before after draft held 34 (doubled text ++ 34 ∷ rest) rest (Quoted text)
+    (length (doubled text) + 1) begun (piece_at-string text rest plain.plain (is_utf8-from_IsUtf8 text plain.utf8)
+    stops) left goes made starts)
 
 -- a column
 pub reads-column : (schema : Schema) (before after : Expected) (draft held : Draft) (text rest : List ℕ) (begun : ℕ)
@@ -152,5 +180,6 @@ pub reads-column : (schema : Schema) (before after : Expected) (draft held : Dra
 reads-column schema before after draft held text rest begun plain stops goes goes' made made' starts =
     elim (cases_Bool (is_word text)) [
       | inl word ↦ rw word (reads-word schema before after draft held text rest begun word stops goes made starts)
-      | inr other ↦ rw other (reads-string schema before after draft held text rest begun plain stops goes' made' starts)
+      | inr other ↦ rw other (reads-string schema before after draft held text rest begun plain stops goes' made'
+          starts)
     ]

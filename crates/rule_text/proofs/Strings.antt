@@ -46,14 +46,25 @@ within-quoted [] = tt
 within-quoted (byte ∷ []) = elim (cases_Bool (byte == 34)) [ inl is ↦ rw is (omega arith) | inr other ↦ rw other tt ]
 within-quoted (byte ∷ next ∷ rest) =
     elim (cases_Bool (byte == 34)) [
-      | inl is ↦ elim (cases_Bool (next == 34)) [ inl twice ↦ rw (is, twice) (within-with_byte 34 2 (quoted rest) (length rest) _ (omega arith) (within-quoted rest)) | inr once ↦ rw (is, once) (omega arith) ]
-      | inr other ↦ elim (cases_Bool (nat_lt byte 32)) [ inl low ↦ rw (other, low) tt | inr high ↦ rw (other, high) (within-with_byte byte 1 (quoted (next ∷ rest)) (suc (length rest)) _ (omega arith) (within-quoted (next ∷ rest))) ]
+      | inl is ↦ elim (cases_Bool (next == 34)) [
+        | inl twice ↦ rw (is, twice)
+            (within-with_byte 34 2 (quoted rest) (length rest) _ (omega arith) (within-quoted rest))
+        | inr once
+            ↦ rw (is, once) (omega arith)
+      ]
+      | inr other ↦ elim (cases_Bool (nat_lt byte 32)) [
+        | inl low ↦ rw (other, low) tt
+        | inr high ↦ rw (other, high)
+            (within-with_byte byte 1 (quoted (next ∷ rest)) (suc (length rest)) _ (omega arith)
+            (within-quoted (next ∷ rest)))
+      ]
     ]
 
 -- and so does the token that it is
 within-string_of : (string : Option (List ℕ × ℕ)) (most : ℕ) → Within string most → more_of (string_of string) ≤ most
 within-string_of None most within = omega arith
-within-string_of (Some q) most within = elim (cases_Bool (is_utf8 q.0)) [ inl is ↦ rw is within | inr other ↦ rw other (omega arith) ]
+within-string_of (Some q) most within = elim (cases_Bool (is_utf8 q.0))
+    [ inl is ↦ rw is within | inr other ↦ rw other (omega arith) ]
 
 -- so many bytes at most stand behind the first of the piece
 record IsWithin (piece : Piece) (most : ℕ) : Type 0 where
@@ -73,10 +84,17 @@ some-begins_with test (first ∷ rest) begins = omega arith
 -- a mark takes no more than there is
 within-mark_at : (first : ℕ) (rest : List ℕ) → IsWithin (mark_at first rest) (length rest)
 within-mark_at first rest =
-    let alone = λ (mark : Mark) (test : Bool) (is : test ≡ true). let within : IsWithin (Spelled (Sign mark) 0) (length rest) = record { at_most = omega arith } in within in
-    within-either _ _ _ _ (alone mark.Colon _) (within-either _ _ _ _ (alone mark.Comma _) (within-either _ _ _ _ (alone mark.Equals _)
-    (within-either _ _ _ _ (alone mark.Semicolon _) (within-either _ _ _ _ (alone mark.Opening _) (within-either _ _ _ _ (alone mark.Closing _)
-    (within-either _ _ _ _ (λ both. record { at_most = some-begins_with (λ next. next == 62) rest (and_parts (first == 45) (begins_with (λ next. next == 62) rest) both).1 }) (record { at_most = omega arith })))))))
+    let alone = λ (mark : Mark) (test : Bool) (is : test ≡ true). let within : IsWithin (Spelled (Sign mark) 0)
+    (length rest) = record { at_most = omega arith } in within in
+    within-either _ _ _ _ (alone mark.Colon _) (within-either _ _ _ _ (alone mark.Comma _)
+    (within-either _ _ _ _ (alone mark.Equals _)
+    (within-either _ _ _ _ (alone mark.Semicolon _) (within-either _ _ _ _ (alone mark.Opening _)
+    (within-either _ _ _ _ (alone mark.Closing _)
+    (within-either _ _ _ _ (λ both. record {
+      at_most = some-begins_with (λ next. next == 62) rest
+          (and_parts (first == 45) (begins_with (λ next. next == 62) rest) both).1;
+    })
+    (record { at_most = omega arith })))))))
 
 -- what bytes begin with is within them
 within-piece_at : (bytes : List ℕ) → 0 < length bytes → more_of (piece_at bytes) + 1 ≤ length bytes
@@ -87,9 +105,11 @@ within-piece_at (first ∷ rest) some =
     let string : IsWithin (string_of (quoted rest)) (length rest) =
     record { at_most = within-string_of (quoted rest) (length rest) (within-quoted rest) } in
     let token = within-either (first == 34) _ _ _ (λ _. string) (within-mark_at first rest) in
-    let word = within-either (starts_word first) (word_at first rest) _ _ (λ _. record { at_most = prefix_len-le-length is_word_byte rest }) token in
+    let word = within-either (starts_word first) (word_at first rest)
+    _ _ (λ _. record { at_most = prefix_len-le-length is_word_byte rest }) token in
     let comment =
-    within-either (first == 35) (Gap (comment_length rest)) _ _ (λ _. record { at_most = prefix_len-le-length is_in_line rest }) word in
+    within-either (first == 35) (Gap (comment_length rest))
+    _ _ (λ _. record { at_most = prefix_len-le-length is_in_line rest }) word in
     let within : IsWithin (piece_at (first ∷ rest)) (length rest) =
     within-either (is_blank first) _ _ _ (λ _. blank) comment in
     omega (arith, within.at_most)

@@ -29,7 +29,8 @@ pub taken_from-passed : (expected : Expected) (place : Place) (passed : ℕ) (by
 taken_from-passed expected place zero [] = refl
 taken_from-passed expected place zero (byte ∷ rest) = refl
 taken_from-passed expected place (suc passed) [] = refl
-taken_from-passed expected place (suc passed) (byte ∷ rest) = taken_from-passed expected (place_after place byte) passed rest
+taken_from-passed expected place (suc passed) (byte ∷ rest) = taken_from-passed expected (place_after place byte)
+    passed rest
 
 module _ (expected : Expected) (place : Place) (byte : ℕ) (rest : List ℕ) (more : ℕ) where
   -- behind a blank or a comment the text goes on
@@ -42,33 +43,45 @@ module _ (expected : Expected) (place : Place) (byte : ℕ) (rest : List ℕ) (m
   pub taken_from-token : (token : Token) (after : Expected) → piece_at (byte ∷ rest) ≡ Spelled token more
       → next expected token ≡ Some after
       → taken_from expected place 0 (byte ∷ rest)
-      ≡ with_first (record { expected = expected; token = token; place = place }) (taken_from after (place_behind (place_after place byte) (take more rest)) 0 (drop more rest))
-  taken_from-token token after piece led = rw (piece, led) (ap (with_first (record { expected = expected; token = token; place = place })) (taken_from-passed after (place_after place byte) more rest))
+      ≡ with_first (record { expected = expected; token = token; place = place })
+      (taken_from after (place_behind (place_after place byte) (take more rest)) 0 (drop more rest))
+  taken_from-token token after piece led = rw (piece, led)
+      (ap (with_first (record { expected = expected; token = token; place = place }))
+      (taken_from-passed after (place_after place byte) more rest))
 
 -- the loop goes on behind a blank or a comment
-pub goes_on-gap : (front : List Taken) (expected : Expected) (place : Place) (bytes : List ℕ) (more : ℕ) (total : Result (List Taken) RuleFault)
+pub goes_on-gap : (front : List Taken) (expected : Expected) (place : Place) (bytes : List ℕ) (more : ℕ)
+    (total : Result (List Taken) RuleFault)
     → 0 < length bytes → piece_at bytes ≡ Gap more → total ≡ with_front front (taken_from expected place 0 bytes)
-    → total ≡ with_front front (taken_from expected (place_behind place (take (more + 1) bytes)) 0 (drop (more + 1) bytes))
+    → total ≡ with_front front (taken_from expected (place_behind place (take (more + 1) bytes)) 0
+    (drop (more + 1) bytes))
 goes_on-gap front expected place [] more total some piece so_far = absurd (omega arith)
-goes_on-gap front expected place (byte ∷ rest) more total some piece so_far = rw add-one (so_far ∙ ap (with_front front) (taken_from-gap expected place byte rest more piece))
+goes_on-gap front expected place (byte ∷ rest) more total some piece so_far = rw add-one
+    (so_far ∙ ap (with_front front) (taken_from-gap expected place byte rest more piece))
 
 -- and behind a token that is taken
-pub goes_on-token : (front : List Taken) (expected : Expected) (place : Place) (bytes : List ℕ) (more : ℕ) (total : Result (List Taken) RuleFault) (token : Token) (after : Expected)
+pub goes_on-token : (front : List Taken) (expected : Expected) (place : Place) (bytes : List ℕ) (more : ℕ)
+    (total : Result (List Taken) RuleFault) (token : Token) (after : Expected)
     → 0 < length bytes → piece_at bytes ≡ Spelled token more → next expected token ≡ Some after
     → total ≡ with_front front (taken_from expected place 0 bytes)
-    → total ≡ with_front (front ++ record { expected = expected; token = token; place = place } ∷ []) (taken_from after (place_behind place (take (more + 1) bytes)) 0 (drop (more + 1) bytes))
+    → total ≡ with_front (front ++ record { expected = expected; token = token; place = place } ∷ [])
+    (taken_from after (place_behind place (take (more + 1) bytes)) 0 (drop (more + 1) bytes))
 goes_on-token front expected place [] more total token after some piece led so_far = absurd (omega arith)
-goes_on-token front expected place (byte ∷ rest) more total token after some piece led so_far = rw add-one (so_far ∙ ap (with_front front) (taken_from-token expected place byte rest more token after piece led) ∙ with_front-with_first front _ _)
+goes_on-token front expected place (byte ∷ rest) more total token after some piece led so_far = rw add-one
+    (so_far ∙ ap (with_front front) (taken_from-token expected place byte rest more token after piece led)
+    ∙ with_front-with_first front _ _)
 
 -- it stops at a byte that begins no token
-pub stops-stray : (front : List Taken) (expected : Expected) (place : Place) (bytes : List ℕ) (total : Result (List Taken) RuleFault)
+pub stops-stray : (front : List Taken) (expected : Expected) (place : Place) (bytes : List ℕ)
+    (total : Result (List Taken) RuleFault)
     → 0 < length bytes → piece_at bytes ≡ Stray → total ≡ with_front front (taken_from expected place 0 bytes)
     → total ≡ Err (syntax_at place)
 stops-stray front expected place [] total some piece so_far = absurd (omega arith)
 stops-stray front expected place (byte ∷ rest) total some piece so_far = rw piece at so_far
 
 -- and at a token that is not taken
-pub stops-token : (front : List Taken) (expected : Expected) (place : Place) (bytes : List ℕ) (more : ℕ) (total : Result (List Taken) RuleFault) (token : Token)
+pub stops-token : (front : List Taken) (expected : Expected) (place : Place) (bytes : List ℕ) (more : ℕ)
+    (total : Result (List Taken) RuleFault) (token : Token)
     → 0 < length bytes → piece_at bytes ≡ Spelled token more → next expected token ≡ None
     → total ≡ with_front front (taken_from expected place 0 bytes) → total ≡ Err (syntax_at place)
 stops-token front expected place [] more total token some piece led so_far = absurd (omega arith)

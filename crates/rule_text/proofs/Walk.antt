@@ -55,7 +55,10 @@ same-token token other more most is = cc
 
 -- and so is a token that is spelled as it should be
 well-spelled : (token : Token) (more : ℕ) → IsSpelled token → IsWell (Spelled token more)
-well-spelled token more spelled = record { token = λ other most is. subst IsSpelled (same-token token other more most is) spelled }
+well-spelled token more spelled = record {
+  token = λ other most is. subst IsSpelled
+      (same-token token other more most is) spelled;
+}
 
 -- a byte that is not below a space may stand in a string
 high_plain : (byte : ℕ) → nat_lt byte 32 ≡ false → is_plain byte ≡ true
@@ -65,8 +68,10 @@ high_plain byte high = grind (arith, nat_tests)
 well-mark_at : (first : ℕ) (rest : List ℕ) → IsWell (mark_at first rest)
 well-mark_at first rest =
     let alone = λ (mark : Mark) (more : ℕ). λ (test : Bool) (is : test ≡ true). well-spelled (Sign mark) more tt in
-    well-either (first == 58) _ _ (alone mark.Colon 0 _) (well-either (first == 44) _ _ (alone mark.Comma 0 _) (well-either (first == 61) _ _ (alone mark.Equals 0 _)
-    (well-either (first == 59) _ _ (alone mark.Semicolon 0 _) (well-either (first == 40) _ _ (alone mark.Opening 0 _) (well-either (first == 41) _ _ (alone mark.Closing 0 _)
+    well-either (first == 58) _ _ (alone mark.Colon 0 _) (well-either (first == 44) _ _ (alone mark.Comma 0 _)
+    (well-either (first == 61) _ _ (alone mark.Equals 0 _)
+    (well-either (first == 59) _ _ (alone mark.Semicolon 0 _)
+    (well-either (first == 40) _ _ (alone mark.Opening 0 _) (well-either (first == 41) _ _ (alone mark.Closing 0 _)
     (well-either (first == 45 && begins_with (λ next. next == 62) rest) _ _ (alone mark.Arrow 1 _) well-stray))))))
 
 -- one more, from the left
@@ -76,7 +81,11 @@ add-one-left n = omega arith
 -- the bytes at the front that go on a word are word bytes
 list_all-word : (bytes : List ℕ) → list_all is_word_byte (take (prefix_len is_word_byte bytes) bytes) ≡ true
 list_all-word [] = refl
-list_all-word (byte ∷ rest) = elim (cases_Bool (is_word_byte byte)) [ inl is ↦ rw (is, add-one-left (prefix_len is_word_byte rest)) (rw is (list_all-word rest)) | inr other ↦ rw other refl ]
+list_all-word (byte ∷ rest) = elim (cases_Bool (is_word_byte byte)) [
+  | inl is ↦ rw (is, add-one-left (prefix_len is_word_byte rest)) (rw is (list_all-word rest))
+  | inr other
+      ↦ rw other refl
+]
 
 -- of four tests one passes where one of the last three does
 or_more : (a b c d : Bool) → (b || c || d) ≡ true → (a || b || c || d) ≡ true
@@ -85,7 +94,8 @@ or_more false b c d some = some
 
 -- a byte that begins a word is a word byte
 starts_word-byte : (byte : ℕ) → starts_word byte ≡ true → is_word_byte byte ≡ true
-starts_word-byte byte starts = or_more (is_ascii_digit byte) (is_ascii_uppercase byte) (is_ascii_lowercase byte) (byte == 95) starts
+starts_word-byte byte starts = or_more (is_ascii_digit byte) (is_ascii_uppercase byte) (is_ascii_lowercase byte)
+    (byte == 95) starts
 
 -- a word is spelled as it should be
 well-word_at : (first : ℕ) (rest : List ℕ) → starts_word first ≡ true → IsWell (word_at first rest)
@@ -107,21 +117,35 @@ plain-quoted [] = tt
 plain-quoted (byte ∷ []) = elim (cases_Bool (byte == 34)) [ inl is ↦ rw is refl | inr other ↦ rw other tt ]
 plain-quoted (byte ∷ next ∷ rest) =
     elim (cases_Bool (byte == 34)) [
-      | inl is ↦ elim (cases_Bool (next == 34)) [ inl twice ↦ rw (is, twice) (plain-with_byte 34 2 (quoted rest) refl (plain-quoted rest)) | inr once ↦ rw (is, once) refl ]
-      | inr other ↦ elim (cases_Bool (nat_lt byte 32)) [ inl low ↦ rw (other, low) tt | inr high ↦ rw (other, high) (plain-with_byte byte 1 (quoted (next ∷ rest)) (high_plain byte high) (plain-quoted (next ∷ rest))) ]
+      | inl is ↦ elim (cases_Bool (next == 34)) [
+        | inl twice ↦ rw (is, twice)
+            (plain-with_byte 34 2 (quoted rest) refl (plain-quoted rest))
+        | inr once ↦ rw (is, once) refl
+      ]
+      | inr other ↦ elim (cases_Bool (nat_lt byte 32)) [
+        | inl low ↦ rw (other, low) tt
+        | inr high ↦ rw (other, high)
+            (plain-with_byte byte 1 (quoted (next ∷ rest)) (high_plain byte high) (plain-quoted (next ∷ rest)))
+      ]
     ]
 
 -- a string is spelled as it should be
 well-string_of : (string : Option (List ℕ × ℕ)) → IsPlainContent string → IsWell (string_of string)
 well-string_of None plain = well-stray
-well-string_of (Some q) plain = elim (cases_Bool (is_utf8 q.0)) [ inl is ↦ rw is (well-spelled (Quoted q.0) q.1 (plain, IsUtf8-from_is_utf8 q.0 is)) | inr other ↦ rw other well-stray ]
+well-string_of (Some q) plain = elim (cases_Bool (is_utf8 q.0)) [
+  | inl is ↦ rw is (well-spelled (Quoted q.0) q.1 (plain, IsUtf8-from_is_utf8 q.0 is))
+  | inr other ↦ rw other
+      well-stray
+]
 
 -- what bytes begin with is spelled so
 pub well-piece_at : (bytes : List ℕ) → IsWell (piece_at bytes)
 unfolding piece_at
 well-piece_at [] = well-stray
 well-piece_at (first ∷ rest) =
-    well-either (is_blank first) _ _ (λ _. well-gap 0) (well-either (first == 35) _ _ (λ _. well-gap (comment_length rest)) (well-either (starts_word first) _ _ (λ starts. well-word_at first rest starts)
+    well-either (is_blank first) _ _ (λ _. well-gap 0) (well-either (first == 35)
+    _ _ (λ _. well-gap (comment_length rest)) (well-either (starts_word first)
+    _ _ (λ starts. well-word_at first rest starts)
     (well-either (first == 34) _ _ (λ _. well-string_of (quoted rest) (plain-quoted rest)) (well-mark_at first rest))))
 
 -- each token is what is expected behind the one before it, and behind the last a rule is expected
@@ -131,7 +155,8 @@ IsChain expected (first ∷ rest) = (first.expected ≡ expected) × IsSpelled f
     × ((after : Expected) × (next expected first.token ≡ Some after) × IsChain after rest)
 
 -- a token that is what is expected, in front of a chain, makes a longer one
-chain-first : (expected : Expected) (place : Place) (token : Token) (after : Expected) (others : Result (List Taken) RuleFault) (tokens : List Taken)
+chain-first : (expected : Expected) (place : Place) (token : Token) (after : Expected)
+    (others : Result (List Taken) RuleFault) (tokens : List Taken)
     → IsSpelled token → next expected token ≡ Some after
     → ((rest : List Taken) → others ≡ Ok rest → IsChain after rest)
     → with_first (record { expected = expected; token = token; place = place }) others ≡ Ok tokens
@@ -142,20 +167,25 @@ chain-first expected place token after (Ok rest) tokens spelled led behind read 
 chain-first expected place token after (Err fault) tokens spelled led behind read = absurd cc
 
 -- the same, where it is still open whether the token is taken
-chain-with : (expected : Expected) (place : Place) (token : Token) (found : Option Expected) (others : Expected → Result (List Taken) RuleFault) (tokens : List Taken)
+chain-with : (expected : Expected) (place : Place) (token : Token) (found : Option Expected)
+    (others : Expected → Result (List Taken) RuleFault) (tokens : List Taken)
     → IsSpelled token → next expected token ≡ found
     → ((after : Expected) (rest : List Taken) → others after ≡ Ok rest → IsChain after rest)
     → taken_with expected place token found others ≡ Ok tokens → IsChain expected tokens
 chain-with expected place token None others tokens spelled led behind read = absurd cc
-chain-with expected place token (Some after) others tokens spelled led behind read = chain-first expected place token after (others after) tokens spelled led (behind after) read
+chain-with expected place token (Some after) others tokens spelled led behind read = chain-first expected place token
+    after (others after) tokens spelled led (behind after) read
 
 -- the same for any piece
-chain-at : (piece : Piece) (expected : Expected) (place : Place) (others : Expected → ℕ → Result (List Taken) RuleFault) (tokens : List Taken)
+chain-at : (piece : Piece) (expected : Expected) (place : Place)
+    (others : Expected → ℕ → Result (List Taken) RuleFault) (tokens : List Taken)
     → IsWell piece
     → ((after : Expected) (more : ℕ) (rest : List Taken) → others after more ≡ Ok rest → IsChain after rest)
     → taken_at piece expected place others ≡ Ok tokens → IsChain expected tokens
 chain-at (Gap more) expected place others tokens well behind read = behind expected more tokens read
-chain-at (Spelled token more) expected place others tokens well behind read = chain-with expected place token (next expected token) (λ after. others after more) tokens (well.token token more refl) refl (λ after rest. behind after more rest) read
+chain-at (Spelled token more) expected place others tokens well behind read = chain-with expected place token
+    (next expected token) (λ after. others after more) tokens (well.token token more refl) refl
+    (λ after rest. behind after more rest) read
 chain-at Stray expected place others tokens well behind read = absurd cc
 
 -- no bytes are a chain where a rule is expected
@@ -168,6 +198,10 @@ chain-end expected place tokens false is read = absurd cc
 -- so are those of a text
 pub IsChain-from_text : (expected : Expected) (place : Place) (passed : ℕ) (bytes : List ℕ) (tokens : List Taken)
     → taken_from expected place passed bytes ≡ Ok tokens → IsChain expected tokens
-IsChain-from_text expected place passed [] tokens read = chain-end expected place tokens (is_between_rules expected) refl read
-IsChain-from_text expected place (suc passed) (byte ∷ rest) tokens read = IsChain-from_text expected (place_after place byte) passed rest tokens read
-IsChain-from_text expected place zero (byte ∷ rest) tokens read = chain-at (piece_at (byte ∷ rest)) expected place (λ after more. taken_from after (place_after place byte) more rest) tokens (well-piece_at (byte ∷ rest)) (λ after more others. IsChain-from_text after (place_after place byte) more rest others) read
+IsChain-from_text expected place passed [] tokens read = chain-end expected place tokens (is_between_rules expected)
+    refl read
+IsChain-from_text expected place (suc passed) (byte ∷ rest) tokens read = IsChain-from_text expected
+    (place_after place byte) passed rest tokens read
+IsChain-from_text expected place zero (byte ∷ rest) tokens read = chain-at (piece_at (byte ∷ rest)) expected place
+    (λ after more. taken_from after (place_after place byte) more rest) tokens (well-piece_at (byte ∷ rest))
+    (λ after more others. IsChain-from_text after (place_after place byte) more rest others) read

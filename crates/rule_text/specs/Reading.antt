@@ -115,7 +115,8 @@ with_asked schema word place draft =
 
 -- a condition that asks this of its attribute
 abbrev pub with_cond : Pat → Draft → Draft
-with_cond pat draft = record draft { line = record draft.line { conds = draft.line.conds ++ (draft.attribute, pat) ∷ [] } }
+with_cond pat draft =
+    record draft { line = record draft.line { conds = draft.line.conds ++ (draft.attribute, pat) ∷ [] } }
 
 -- what a condition asks: anything will do, or else it is told by what follows
 abbrev pub with_test : Token → Draft → Draft
@@ -146,7 +147,8 @@ set_of draft = if draft.negated then NoneOf draft.texts else OneOf draft.texts
 
 -- where a set is closed, its condition
 abbrev pub with_set : Token → Draft → Draft
-with_set token draft = if is_sign mark.Closing token then record (with_cond (set_of draft) draft) { texts = [] } else draft
+with_set token draft =
+    if is_sign mark.Closing token then record (with_cond (set_of draft) draft) { texts = [] } else draft
 
 -- where a rule is closed, one more rule
 abbrev pub with_line : Token → Draft → Draft
@@ -184,7 +186,8 @@ and_then (Err fault) others = Err fault
 -- what the tokens add, one after the other
 abbrev pub with_tokens : Schema → List Taken → Draft → Result Draft RuleFault
 with_tokens schema [] draft = Ok draft
-with_tokens schema (first ∷ rest) draft = and_then (with_token schema first.expected first.token first.place draft) (with_tokens schema rest)
+with_tokens schema (first ∷ rest) draft =
+    and_then (with_token schema first.expected first.token first.place draft) (with_tokens schema rest)
 
 -- the token begins a rule
 abbrev pub begins_rule : Taken → Bool

@@ -26,13 +26,15 @@ with_first first (Err fault) = Err fault
 abbrev pub taken_with : Expected → Place → Token → Option Expected → (Expected → Result (List Taken) RuleFault)
     → Result (List Taken) RuleFault
 taken_with expected place token None others = Err (syntax_at place)
-taken_with expected place token (Some after) others = with_first (record { expected = expected; token = token; place = place }) (others after)
+taken_with expected place token (Some after) others =
+    with_first (record { expected = expected; token = token; place = place }) (others after)
 
 -- the same for any piece: others gives the tokens from so many bytes behind its first on
 abbrev pub taken_at : Piece → Expected → Place → (Expected → ℕ → Result (List Taken) RuleFault)
     → Result (List Taken) RuleFault
 taken_at (Gap more) expected place others = others expected more
-taken_at (Spelled token more) expected place others = taken_with expected place token (next expected token) (λ after. others after more)
+taken_at (Spelled token more) expected place others =
+    taken_with expected place token (next expected token) (λ after. others after more)
 taken_at Stray expected place others = Err (syntax_at place)
 
 -- no rule has begun
@@ -46,7 +48,9 @@ is_between_rules expected = false
 abbrev pub taken_from : Expected → Place → ℕ → List ℕ → Result (List Taken) RuleFault
 taken_from expected place passed [] = if is_between_rules expected then Ok [] else Err (syntax_at place)
 taken_from expected place (suc passed) (byte ∷ rest) = taken_from expected (place_after place byte) passed rest
-taken_from expected place zero (byte ∷ rest) = taken_at (piece_at (byte ∷ rest)) expected place (λ after more. taken_from after (place_after place byte) more rest)
+taken_from expected place zero (byte ∷ rest) =
+    taken_at (piece_at (byte ∷ rest)) expected place
+    (λ after more. taken_from after (place_after place byte) more rest)
 
 -- the tokens of a text
 abbrev pub tokens_of : List ℕ → Result (List Taken) RuleFault

@@ -14,7 +14,9 @@ use Rattle.rule_text.specs.declared.token.Piece.TheVariants.{Gap, Spelled, Stray
 
 -- the place behind a byte: on a new line behind LF, else one column on
 abbrev pub place_after : Place → ℕ → Place
-place_after place byte = if byte == 10 then record { line = place.line + 1; column = 1 } else record { line = place.line; column = place.column + 1 }
+place_after place byte =
+    if byte == 10 then record { line = place.line + 1; column = 1 }
+    else record { line = place.line; column = place.column + 1 }
 
 -- the place behind all of these bytes
 abbrev pub place_behind : Place → List ℕ → Place

@@ -1,11 +1,12 @@
 //! From bytes to the tokens of the grammar.
-ghost use Rattle.std.specs.Prelude.{◌≡◌, ◌≢◌, Ok, Err, IfOk, IfErr};
-ghost use Rattle.rule_text.specs.Tokenizer.{tokens_of};
+ghost use Rattle.std.specs.Prelude.{◌≡◌, ◌≢◌, ◌++◌, ◌∷◌, [], Ok, Err, Some, None, IfOk, IfErr, OnOk};
+ghost use Rattle.rule_text.specs.Grammar.{next};
+ghost use Rattle.rule_text.specs.Tokenizer.{syntax_at, tokens_of};
 
 use crate::fault::RuleFault;
 use crate::grammar::{Expected, Taken, next};
 use crate::place::Place;
-use crate::token::{Piece, piece_at};
+use crate::token::{Piece, Token, piece_at};
 use std::alloc::Global;
 
 /// The tokens of a text, each with what was expected there and its place.
@@ -22,20 +23,7 @@ pub fn tokens_of(alloc: Global, text: &[u8]) -> Result<Vec<Taken>, RuleFault>
         let more = match piece_at(alloc, rest)? {
             Piece::Gap(more) => more,
             Piece::Spelled(token, more) => {
-                let Some(after) = next(expected, &token) else {
-                    return Err(RuleFault::Syntax(place.line, place.column));
-                };
-                if tokens
-                    .push(Taken {
-                        expected,
-                        token,
-                        place,
-                    })
-                    .is_err()
-                {
-                    return Err(RuleFault::NoMemory);
-                }
-                expected = after;
+                expected = take(&mut tokens, expected, token, place)?;
                 more
             }
             Piece::Stray => return Err(RuleFault::Syntax(place.line, place.column)),
@@ -47,5 +35,32 @@ pub fn tokens_of(alloc: Global, text: &[u8]) -> Result<Vec<Taken>, RuleFault>
     match expected {
         Expected::Rule => Ok(tokens),
         _ => Err(RuleFault::Syntax(place.line, place.column)),
+    }
+}
+
+/// Takes the token that stands at a place, and tells what is expected behind it.
+fn take(
+    tokens: &mut Vec<Taken>,
+    expected: Expected,
+    token: Token,
+    place: Place,
+) -> Result<Expected, RuleFault>
+    ensures leads { IfOk result (λ after. next expected token ≡ Some after) }
+    ensures taken { OnOk result (tokens.new.items ≡ tokens.old.items
+        ++ record { expected = expected; token = token; place = place } ∷ []) }
+    ensures fault { IfErr result (λ fault. fault ≢ RuleFault.NoMemory
+        → (next expected token ≡ None) × (fault ≡ syntax_at place)) }
+{
+    let Some(after) = next(expected, &token) else {
+        return Err(RuleFault::Syntax(place.line, place.column));
+    };
+    let taken = Taken {
+        expected,
+        token,
+        place,
+    };
+    match tokens.push(taken) {
+        Ok(()) => Ok(after),
+        Err(_) => Err(RuleFault::NoMemory),
     }
 }

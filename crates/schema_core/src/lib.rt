@@ -8,8 +8,6 @@ mod fault;
 pub mod laws;
 mod reading;
 mod schema;
-#[cfg(test)]
-mod tests;
 
 pub use fault::SchemaFault;
 pub use schema::Schema;

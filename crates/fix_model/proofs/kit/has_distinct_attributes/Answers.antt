@@ -4,8 +4,11 @@ use Rattle.fix_model.proofs.Pairs.{repeated, differs}
 use Rattle.fix_model.proofs.kit.has_distinct_attributes.Goals as goal
 
 pub returns-then-names : goal.returns-then-names
-returns-then-names g c =
-    (λ never. absurd cc, λ distinct. absurd (repeated c.args.pairs.now c.pairs.place c.index-pairs-place.result c.pairs-test.true c.index-pairs-place.is (c.names.ensures.0 c.if-names.true) distinct))
+returns-then-names g c = (
+  λ never. absurd cc,
+  λ distinct. absurd (repeated c.args.pairs.now c.pairs.place c.index-pairs-place.result
+      c.pairs-test.true c.index-pairs-place.is (c.names.ensures.0 c.if-names.true) distinct),
+)
 
 pub pairs-preserved : goal.pairs-preserved
 pairs-preserved g c i j d below behind inside =
@@ -14,5 +17,6 @@ pairs-preserved g c i j d below behind inside =
       | inr before ↦ c.pairs.invariant i j d before behind inside
       | inl here ↦
           let later : c.pairs.place < j = omega arith in
-          rw here (differs c.args.pairs.now c.pairs.place c.index-pairs-place.result c.pairs-test.true c.index-pairs-place.is (λ found. let told = c.names.ensures.1 found in cc) j d later inside)
+          rw here (differs c.args.pairs.now c.pairs.place c.index-pairs-place.result c.pairs-test.true
+          c.index-pairs-place.is (λ found. let told = c.names.ensures.1 found in cc) j d later inside)
     ]

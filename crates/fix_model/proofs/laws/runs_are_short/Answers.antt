@@ -7,4 +7,9 @@ pub returns : goal.returns
 returns c =
     let kit = c.args.kit.now in
     let state = c.args.state.now in
-    omega (arith, uncovered_count-le kit state c.requires.fits, uncovered_count-end_of kit c.requires.valid state c.args.run.now c.requires.fits c.requires.run)
+    omega (
+      arith,
+      uncovered_count-le kit state c.requires.fits,
+      uncovered_count-end_of kit c.requires.valid state
+          c.args.run.now c.requires.fits c.requires.run,
+    )

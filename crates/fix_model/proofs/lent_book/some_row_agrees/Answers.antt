@@ -6,7 +6,8 @@ use Rattle.fix_model.proofs.Aims.{HasColumns-aims_of, Meets-agreeing, RowAgreesA
 use Rattle.fix_model.proofs.lent_book.some_row_agrees.Goals as goal
 
 pub first_row-requires : goal.first_row-requires
-first_row-requires c = rw (c.master.ensures, c.at-sought.ensures) (HasColumns-aims_of c.args.kit.now c.args.state.now c.args.rule.now c.requires.rule_valid)
+first_row-requires c = rw (c.master.ensures, c.at-sought.ensures)
+    (HasColumns-aims_of c.args.kit.now c.args.state.now c.args.rule.now c.requires.rule_valid)
 
 pub returns : goal.returns
 returns c =

@@ -1,4 +1,4 @@
-use Rattle.std.proofs.Common.{◌∙◌, ◌+◌, ℕ, [], ◌∷◌, ◌++◌, ap, sym, length, length-append, arith}
+use Rattle.std.proofs.Common.{◌∙◌, ◌+◌, ℕ, [], ◌∷◌, ◌++◌, ap, sym, length, length-append}
 use Rattle.std.specs.Prelude.{unwrap_or}
 use Rattle.fix_model.specs.Regions.{row_texts, text_for}
 use Rattle.fix_model.proofs.Ranges.{map-range-suc}

@@ -9,8 +9,10 @@ agrees-requires-clause-row_within c = c.requires.rows.within c.rows.row-index 0 
 pub returns-then-agrees : goal.returns-then-agrees
 returns-then-agrees c = record {
   agrees = c.agrees.ensures.0 c.if-agrees.true;
-  least = least_from_first (Meets c.args.master.now c.args.rule.now c.args.sought.now) c.args.rows.now c.requires.rows.whole c.requires.rows.ascending c.rows.row-index c.rows-test.true c.rows.invariant;
+  least = least_from_first (Meets c.args.master.now c.args.rule.now c.args.sought.now) c.args.rows.now
+      c.requires.rows.whole c.requires.rows.ascending c.rows.row-index c.rows-test.true c.rows.invariant;
 }
 
 pub returns : goal.returns
-returns c = none_from_listed (Meets c.args.master.now c.args.rule.now c.args.sought.now) c.args.rows.now c.requires.rows.whole (λ k within. c.rows.invariant k (omega arith))
+returns c = none_from_listed (Meets c.args.master.now c.args.rule.now c.args.sought.now) c.args.rows.now
+    c.requires.rows.whole (λ k within. c.rows.invariant k (omega arith))

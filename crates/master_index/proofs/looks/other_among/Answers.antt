@@ -11,9 +11,12 @@ pub returns-then-gives_other : goal.returns-then-gives_other
 returns-then-gives_other c =
     let master = c.args.master.now in
     let rule = c.args.rule.now in
-    let gives = λ (row : ℕ). Meets master rule c.args.sought.now row × (cell_text master row rule.from ≢ cell_text master c.args.first rule.from) in
+    let gives = λ (row : ℕ). Meets master rule c.args.sought.now row
+    × (cell_text master row rule.from ≢ cell_text master c.args.first rule.from) in
     let here = rw c.if-gives_other.true at c.gives_other.ensures in
-    let least = least_from_first gives c.args.rows.now (λ row given. c.requires.rows.whole row given.0) c.requires.rows.ascending c.rows.row-index c.rows-test.true (λ k below given. given.1 (c.rows.invariant k below given.0)) in
+    let least = least_from_first gives c.args.rows.now (λ row given. c.requires.rows.whole row given.0)
+    c.requires.rows.ascending c.rows.row-index c.rows-test.true
+    (λ k below given. given.1 (c.rows.invariant k below given.0)) in
     record {
       agrees = here.0;
       differs = here.1;
@@ -25,4 +28,5 @@ returns c =
     let master = c.args.master.now in
     let rule = c.args.rule.now in
     all_from_listed (Meets master rule c.args.sought.now) c.args.rows.now c.requires.rows.whole
-    (λ (row : ℕ). cell_text master row rule.from ≡ cell_text master c.args.first rule.from) (λ k within. c.rows.invariant k (omega arith))
+    (λ (row : ℕ). cell_text master row rule.from ≡ cell_text master c.args.first rule.from)
+    (λ k within. c.rows.invariant k (omega arith))

@@ -5,7 +5,9 @@ use Rattle.fix_model.specs.Application.{IsUsable}
 use Rattle.fix_model.specs.Comparison.{row_key, sought_key}
 use Rattle.fix_model.specs.Rules.{from_text, master_of, rule_at}
 use Rattle.fix_model.specs.States.{value_at}
-use Rattle.master_index.proofs.Halving.{compares-halved, halves, IsHalved-none, IsHalved-once, IsHit-entry, IsMissed-narrowed, IsNarrowed-greater, IsNarrowed-less, IsNarrowed-whole, RisesByDigits-halved}
+use Rattle.master_index.proofs.Halving.{compares-halved, halves, IsHalved-none, IsHalved-once, IsHit-entry}
+use Rattle.master_index.proofs.Halving.{IsMissed-narrowed, IsNarrowed-greater, IsNarrowed-less, IsNarrowed-whole}
+use Rattle.master_index.proofs.Halving.{RisesByDigits-halved}
 use Rattle.master_index.proofs.search.entry_at.Goals as goal
 
 -- what is read past the last entry
@@ -19,7 +21,8 @@ halves-init g c =
     let entries = c.args.entries.now in
     record {
       narrowed = IsNarrowed-whole (row_key kit rule) entries (sought_key kit (value_at kit c.args.state.now) rule);
-      halved = IsHalved-none (length entries) (length entries - 0) c.args.counts.now (omega arith) (omega (arith, c.compares-made.ensures, c.compares-made.type_inv));
+      halved = IsHalved-none (length entries) (length entries - 0) c.args.counts.now (omega arith)
+          (omega (arith, c.compares-made.ensures, c.compares-made.type_inv));
     }
 
 pub halves-preserved-in-Less : goal.halves-preserved-in-Less
@@ -34,8 +37,13 @@ halves-preserved-in-Less g c =
     let from : c.halves.low ≤ middle = omega arith in
     let less = sym c.compare.ensures.order ∙ c.in-Less.is in
     record {
-      narrowed = IsNarrowed-less (row_key kit rule) (from_text kit rule) (IsUsable kit rule) (length (master_of kit rule).rows) entries c.requires.entries (sought_key kit (value_at kit c.args.state.now) rule) c.halves.low c.halves.high middle nothing c.halves.invariant.narrowed from inside less;
-      halved = IsHalved-once (length entries) left (c.halves.high - (middle + 1)) c.args.counts.now c.halves.counts c.compare.new.counts c.halves.invariant.halved (omega arith) (omega (arith, half.0, half.1)) c.compare.ensures.compares;
+      narrowed = IsNarrowed-less (row_key kit rule) (from_text kit rule) (IsUsable kit rule)
+          (length (master_of kit rule).rows) entries c.requires.entries
+          (sought_key kit (value_at kit c.args.state.now) rule) c.halves.low c.halves.high middle nothing
+          c.halves.invariant.narrowed from inside less;
+      halved = IsHalved-once (length entries) left (c.halves.high - (middle + 1)) c.args.counts.now c.halves.counts
+          c.compare.new.counts c.halves.invariant.halved (omega arith) (omega (arith, half.0, half.1))
+          c.compare.ensures.compares;
     }
 
 pub halves-preserved : goal.halves-preserved
@@ -50,8 +58,13 @@ halves-preserved g c =
     let from : c.halves.low ≤ middle = omega arith in
     let greater = sym c.compare.ensures.order ∙ c.in-Greater.is in
     record {
-      narrowed = IsNarrowed-greater (row_key kit rule) (from_text kit rule) (IsUsable kit rule) (length (master_of kit rule).rows) entries c.requires.entries (sought_key kit (value_at kit c.args.state.now) rule) c.halves.low c.halves.high middle nothing c.halves.invariant.narrowed from inside greater;
-      halved = IsHalved-once (length entries) left (middle - c.halves.low) c.args.counts.now c.halves.counts c.compare.new.counts c.halves.invariant.halved (omega arith) (omega (arith, half.0, half.1)) c.compare.ensures.compares;
+      narrowed = IsNarrowed-greater (row_key kit rule) (from_text kit rule) (IsUsable kit rule)
+          (length (master_of kit rule).rows) entries c.requires.entries
+          (sought_key kit (value_at kit c.args.state.now) rule) c.halves.low c.halves.high middle nothing
+          c.halves.invariant.narrowed from inside greater;
+      halved = IsHalved-once (length entries) left (middle - c.halves.low) c.args.counts.now c.halves.counts
+          c.compare.new.counts c.halves.invariant.halved (omega arith) (omega (arith, half.0, half.1))
+          c.compare.ensures.compares;
     }
 
 pub returns-in-Equal : goal.returns-in-Equal
@@ -63,12 +76,17 @@ returns-in-Equal g c =
     let half = halves left in
     let middle = c.halves.low + left / 2 in
     let inside : middle < length entries = omega (arith, half.0, half.1, c.halves.invariant.narrowed.within) in
-    let halved = IsHalved-once (length entries) left (middle - c.halves.low) c.args.counts.now c.halves.counts c.compare.new.counts c.halves.invariant.halved (omega arith) (omega (arith, half.0, half.1)) c.compare.ensures.compares in
+    let halved = IsHalved-once (length entries) left (middle - c.halves.low) c.args.counts.now c.halves.counts
+    c.compare.new.counts c.halves.invariant.halved (omega arith) (omega (arith, half.0, half.1))
+    c.compare.ensures.compares in
     record {
-      found = IsHit-entry kit (value_at kit c.args.state.now) rule entries c.requires.entries middle nothing inside (sym c.compare.ensures.order ∙ c.in-Equal.is);
+      found = IsHit-entry kit (value_at kit c.args.state.now) rule entries c.requires.entries middle nothing inside
+          (sym c.compare.ensures.order ∙ c.in-Equal.is);
       looks = halved.looks;
-      rises = compares-halved (length entries) (middle - c.halves.low) c.args.counts.now c.compare.new.counts halved (omega (arith, c.compares-made.ensures, c.compares-made.type_inv));
-      digits = RisesByDigits-halved (length entries) _ (middle - c.halves.low) c.args.counts.now c.compare.new.counts halved c.requires.entries.few;
+      rises = compares-halved (length entries) (middle - c.halves.low) c.args.counts.now c.compare.new.counts halved
+          (omega (arith, c.compares-made.ensures, c.compares-made.type_inv));
+      digits = RisesByDigits-halved (length entries) _ (middle - c.halves.low) c.args.counts.now c.compare.new.counts
+          halved c.requires.entries.few;
     }
 
 pub returns : goal.returns
@@ -79,8 +97,11 @@ returns g c =
     let left = c.halves.high - c.halves.low in
     let halved = c.halves.invariant.halved in
     record {
-      found = IsMissed-narrowed kit (value_at kit c.args.state.now) rule entries c.requires.entries c.halves.low c.halves.high c.halves.invariant.narrowed c.halves-test.false;
+      found = IsMissed-narrowed kit (value_at kit c.args.state.now) rule entries c.requires.entries c.halves.low
+          c.halves.high c.halves.invariant.narrowed c.halves-test.false;
       looks = halved.looks;
-      rises = compares-halved (length entries) left c.args.counts.now c.halves.counts halved (omega (arith, c.compares-made.ensures, c.compares-made.type_inv));
-      digits = RisesByDigits-halved (length entries) _ left c.args.counts.now c.halves.counts halved c.requires.entries.few;
+      rises = compares-halved (length entries) left c.args.counts.now c.halves.counts halved
+          (omega (arith, c.compares-made.ensures, c.compares-made.type_inv));
+      digits = RisesByDigits-halved (length entries) _ left c.args.counts.now c.halves.counts halved
+          c.requires.entries.few;
     }

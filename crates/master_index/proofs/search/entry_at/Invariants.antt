@@ -9,7 +9,8 @@ abbrev pub invariant-halves : goal.invariant-halves
 invariant-halves g l =
     let rule = rule_at l.kit l.rule in
     record {
-      narrowed : IsNarrowed (row_key l.kit rule) l.entries (sought_key l.kit (value_at l.kit l.state) rule) l.low l.high;
+      narrowed : IsNarrowed (row_key l.kit rule) l.entries (sought_key l.kit (value_at l.kit l.state) rule) l.low
+          l.high;
       halved : IsHalved (length l.entries) (l.high - l.low) l.fn.counts l.counts;
     }
 

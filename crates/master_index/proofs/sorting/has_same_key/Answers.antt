@@ -9,6 +9,8 @@ use Rattle.master_index.proofs.sorting.has_same_key.Goals as goal
 pub returns : goal.returns
 returns c =
     let key = row_key c.args.kit.now c.args.rule.now in (
-      λ told. key_order-exact (key c.args.row) (key c.args.other) (sym c.key_order.ensures ∙ is_eq-true c.key_order.result (sym c.is_eq.ensures ∙ told)),
-      λ same. c.is_eq.ensures ∙ ap is_eq (c.key_order.ensures ∙ ap (λ other. key_order (key c.args.row) other) (sym same) ∙ tied_itself key_order-total (key c.args.row)),
+      λ told. key_order-exact (key c.args.row) (key c.args.other)
+          (sym c.key_order.ensures ∙ is_eq-true c.key_order.result (sym c.is_eq.ensures ∙ told)),
+      λ same. c.is_eq.ensures ∙ ap is_eq (c.key_order.ensures ∙ ap (λ other. key_order (key c.args.row) other)
+          (sym same) ∙ tied_itself key_order-total (key c.args.row)),
     )

@@ -15,6 +15,7 @@ returns c =
     record {
       usable = All-permutation (IsUsable c.args.kit.now c.args.rule.now) _ _ moved c.in_ok-rows.ensures.usable;
       whole = λ row is. Contains-permutation _ _ row moved (c.in_ok-rows.ensures.whole row is);
-      sorted = c.sort_unstable_by.ensures.sorted (λ one other. is_lt (row_order key one other)) (row_order-ranks key) (always_returns_same _ _ _ (λ a r next called. search rules));
+      sorted = c.sort_unstable_by.ensures.sorted (λ one other. is_lt (row_order key one other)) (row_order-ranks key)
+          (always_returns_same _ _ _ (λ a r next called. search rules));
       few = omega (arith, length_permutation _ _ moved, c.in_ok-rows.ensures.few);
     }

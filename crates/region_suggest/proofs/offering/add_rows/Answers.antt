@@ -1,4 +1,5 @@
-use Rattle.std.proofs.Common.{◌≡◌, ◌<◌, ◌+◌, ◌∙◌, ◌++◌, ◌∷◌, [], ℕ, List, get_or, map, length, length-append, ap, sym, subst, arith}
+use Rattle.std.proofs.Common.{◌≡◌, ◌<◌, ◌+◌, ◌∙◌, ◌++◌, ◌∷◌, [], ℕ, List, get_or, map, length, length-append, ap, sym}
+use Rattle.std.proofs.Common.{subst, arith}
 use Rattle.std.specs.Prelude.{All}
 use Rattle.std.proofs.lemmas.List.{get_or_read}
 use Rattle.fix_model.specs.declared.region.Region.{Region}
@@ -6,7 +7,9 @@ use Rattle.fix_model.specs.States.{value_at}
 use Rattle.region_suggest.specs.Finding.{IsMatchWithin}
 use Rattle.region_suggest.specs.Offers.{HoldsConfirmed, ListsExactly, region_at}
 use Rattle.region_suggest.specs.Verdicts.{row_at}
-use Rattle.region_suggest.proofs.Pairs.{region-read, region-valid, IsMatch-here, IsMatch-values, IsMatchWithin-before, IsMatchWithin-lacks, IsMatchWithin-region, IsMatchWithin-row, IsMatchWithin-skip, ListsExactly-push, ListsExactly-same}
+use Rattle.region_suggest.proofs.Pairs.{region-read, region-valid, IsMatch-here, IsMatch-values, IsMatchWithin-before}
+use Rattle.region_suggest.proofs.Pairs.{IsMatchWithin-lacks, IsMatchWithin-region, IsMatchWithin-row}
+use Rattle.region_suggest.proofs.Pairs.{IsMatchWithin-skip, ListsExactly-push, ListsExactly-same}
 use Rattle.region_suggest.proofs.offering.add_rows.Goals as goal
 use Rattle.region_suggest.proofs.offering.add_rows.Goals.{then-has_values+in_ok-push, else-has_values}
 

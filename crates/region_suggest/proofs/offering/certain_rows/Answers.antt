@@ -5,7 +5,8 @@ use Rattle.fix_model.specs.declared.region.Region.{Region}
 use Rattle.fix_model.specs.declared.state.State.{State}
 use Rattle.fix_model.specs.Regions.{IsVerdict, row_state}
 use Rattle.region_suggest.specs.Offers.{IsCertain, IsPlace, ListsExactly, attributes_at, region_at, texts_at}
-use Rattle.region_suggest.proofs.Pairs.{IsSeen, IsSeen-before, IsSeen-grows, ListsExactly-push, ListsExactly-same, certain-only, region-read, region-valid}
+use Rattle.region_suggest.proofs.Pairs.{IsSeen, IsSeen-before, IsSeen-grows, ListsExactly-push, ListsExactly-same}
+use Rattle.region_suggest.proofs.Pairs.{certain-only, region-read, region-valid}
 use Rattle.region_suggest.proofs.offering.certain_rows.Goals as goal
 use Rattle.region_suggest.proofs.offering.certain_rows.Goals.{then-is_certain+in_ok-push, else-is_certain}
 

@@ -1,4 +1,5 @@
-use Rattle.fix_engine.proofs.Reach.{CanDepart-left, IsLeftSomehow-CanDepart, no_departure-covered, tells-none, tells-same}
+use Rattle.fix_engine.proofs.Reach.{CanDepart-left, IsLeftSomehow-CanDepart, no_departure-covered, tells-none}
+use Rattle.fix_engine.proofs.Reach.{tells-same}
 use Rattle.fix_engine.proofs.leads.Leads.can_depart.Goals as goal
 
 -- nothing departs at what is covered

@@ -1,6 +1,7 @@
 use Rattle.std.proofs.Common.{refl}
 use Rattle.fix_engine.specs.declared.leads.Lead.TheVariants.{Nothing, Keeps, Leaves}
-use Rattle.fix_engine.proofs.Turns.{IsPassed-keeping, IsPassed-nothing, IsReady-read, turn-keeps, turn-leaves, turn-other}
+use Rattle.fix_engine.proofs.Turns.{IsPassed-keeping, IsPassed-nothing, IsReady-read, turn-keeps, turn-leaves}
+use Rattle.fix_engine.proofs.Turns.{turn-other}
 use Rattle.fix_engine.proofs.leads.Leads.turn_of.Goals as goal
 
 pub returns-in-Nothing : goal.returns-in-Nothing

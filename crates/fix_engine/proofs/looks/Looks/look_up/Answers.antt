@@ -13,5 +13,9 @@ returns-in-Pending-clause-looks g c =
     c.find-answer.new.counts
     c.from-place.result c.find-answer.result c.index.result.now
     within (search (rules, c.index.ensures, c.in-Pending.is))
-    (rw place_is (record { covered = c.requires.covered; found = c.find-answer.ensures.found }))
+    (rw place_is (record {
+      covered = c.requires.covered;
+      conds = c.requires.conds;
+      found = c.find-answer.ensures.found;
+    }))
     known (search rules) (search rules) (omega (arith, c.find-answer.ensures.looks))

@@ -9,24 +9,38 @@ pub returns-then-not-is_same_key : goal.returns-then-not-is_same_key
 returns-then-not-is_same_key c =
     let keys = c.args.rule.now.keys in
     let others = c.args.other.now.keys in
-    let even : length keys ≡ length others = sym c.len.ensures ∙ c.if-len-others.false ∙ ap length c.as_slice-others.ensures in
+    let even : length keys ≡ length others = sym c.len.ensures ∙ c.if-len-others.false
+    ∙ ap length c.as_slice-others.ensures in
     let inside : c.keys.place < length keys = rw c.as_slice-key-items.ensures at c.keys-test.true in
-    let differs = rw (c.as_slice-key-items.ensures, c.as_slice-others.ensures) at (sym c.is_same_key.ensures ∙ c.if-not-is_same_key.true) in
-    sym (pointwise-fails (is_same_key c.args.self.now) keys others c.keys.place (0, 0) (0, 0) inside (omega arith) differs)
+    let differs = rw (c.as_slice-key-items.ensures, c.as_slice-others.ensures)
+    at (sym c.is_same_key.ensures ∙ c.if-not-is_same_key.true) in
+    sym (pointwise-fails (is_same_key c.args.self.now) keys others c.keys.place (0, 0) (0, 0) inside (omega arith)
+    differs)
 
 pub keys-preserved : goal.keys-preserved
 keys-preserved c k d e below =
     let keys = c.args.rule.now.keys in
     let others = c.args.other.now.keys in
-    let even : length keys ≡ length others = sym c.len.ensures ∙ c.if-len-others.false ∙ ap length c.as_slice-others.ensures in
+    let even : length keys ≡ length others = sym c.len.ensures ∙ c.if-len-others.false
+    ∙ ap length c.as_slice-others.ensures in
     let inside : c.keys.place < length keys = rw c.as_slice-key-items.ensures at c.keys-test.true in
     let there : c.keys.place < length others = omega arith in
-    let same = rw (c.as_slice-key-items.ensures, c.as_slice-others.ensures, get_or_default keys c.keys.place (0, 0) d inside, get_or_default others c.keys.place (0, 0) e there) at (sym c.is_same_key.ensures ∙ c.if-not-is_same_key.false) in
-    below_more (λ n. is_same_key c.args.self.now (get_or keys n d) (get_or others n e) ≡ true) c.keys.place (λ n h. c.keys.invariant n d e h) same k below
+    let same = rw (
+      c.as_slice-key-items.ensures,
+      c.as_slice-others.ensures,
+      get_or_default keys c.keys.place (0, 0) d
+          inside,
+      get_or_default others c.keys.place (0, 0) e there,
+    )
+    at (sym c.is_same_key.ensures ∙ c.if-not-is_same_key.false) in
+    below_more (λ n. is_same_key c.args.self.now (get_or keys n d) (get_or others n e) ≡ true) c.keys.place
+    (λ n h. c.keys.invariant n d e h) same k below
 
 pub returns : goal.returns
 returns c =
     let keys = c.args.rule.now.keys in
     let others = c.args.other.now.keys in
-    let even : length keys ≡ length others = sym c.len.ensures ∙ c.if-len-others.false ∙ ap length c.as_slice-others.ensures in
-    sym (pointwise-all (is_same_key c.args.self.now) keys others even (λ k d e h. c.keys.invariant k d e (omega (arith, ap length c.as_slice-key-items.ensures))))
+    let even : length keys ≡ length others = sym c.len.ensures ∙ c.if-len-others.false
+    ∙ ap length c.as_slice-others.ensures in
+    sym (pointwise-all (is_same_key c.args.self.now) keys others even
+    (λ k d e h. c.keys.invariant k d e (omega (arith, ap length c.as_slice-key-items.ensures))))

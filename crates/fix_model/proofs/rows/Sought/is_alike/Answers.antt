@@ -15,7 +15,8 @@ nothing = record { column = 0; text = record { ref_ptr = (0, 0); now = [] }; fol
 pub cell-requires-clause-column_within : goal.cell-requires-clause-column_within
 cell-requires-clause-column_within c =
     let columns = rw (← c.self.view_is) at c.requires.columns in
-    All-of_map (λ (aim : Aim). aim.column < c.args.master.now.columns) aim_of (take c.self.inside.count c.self.inside.texts) columns c.texts.sought-index _ c.texts-test.true
+    All-of_map (λ (aim : Aim). aim.column < c.args.master.now.columns) aim_of
+    (take c.self.inside.count c.self.inside.texts) columns c.texts.sought-index _ c.texts-test.true
 
 pub returns-then-not-alike : goal.returns-then-not-alike
 returns-then-not-alike c = (
@@ -23,7 +24,8 @@ returns-then-not-alike c = (
   λ all.
       let alike = λ (aim : Aim). AreAlike aim.folded aim.text (cell_text c.args.master.now c.args.row aim.column) in
       let each = rw (← c.self.view_is) at all in
-      let here = All-of_map alike aim_of (take c.self.inside.count c.self.inside.texts) each c.texts.sought-index _ c.texts-test.true in
+      let here = All-of_map alike aim_of (take c.self.inside.count c.self.inside.texts) each c.texts.sought-index
+      _ c.texts-test.true in
       let told = rw (c.as_str-cell.ensures.text, c.cell.ensures) at c.alike.ensures.1 in
       absurd (let e = told here in let f = c.if-not-alike.true in cc),
 )
@@ -32,5 +34,8 @@ pub texts-preserved : goal.texts-preserved
 texts-preserved c k d below =
     let texts = take c.self.inside.count c.self.inside.texts in
     let here = rw (c.as_str-cell.ensures.text, c.cell.ensures) at (c.alike.ensures.0 c.if-not-alike.false) in
-    let item = ap (λ aims. get_or aims c.texts.sought-index d) (sym c.self.view_is) ∙ get_or-map aim_of texts c.texts.sought-index nothing d c.texts-test.true in
-    below_more (λ n. let aim = get_or c.args.self.now n d in AreAlike aim.folded aim.text (cell_text c.args.master.now c.args.row aim.column)) c.texts.sought-index (λ n h. c.texts.invariant n d h) (rw item here) k below
+    let item = ap (λ aims. get_or aims c.texts.sought-index d) (sym c.self.view_is)
+    ∙ get_or-map aim_of texts c.texts.sought-index nothing d c.texts-test.true in
+    below_more (λ n. let aim = get_or c.args.self.now n d in AreAlike aim.folded aim.text
+    (cell_text c.args.master.now c.args.row aim.column)) c.texts.sought-index (λ n h. c.texts.invariant n d h)
+    (rw item here) k below

@@ -5,4 +5,5 @@ use Rattle.fix_model.specs.Sought.{Aim}
 use Rattle.fix_model.proofs.rows.Sought.is_alike.Given as goal
 
 abbrev pub invariant-texts : goal.invariant-texts
-invariant-texts l = (k : ℕ) (d : Aim) → k < l.sought-index → let aim = get_or l.self k d in AreAlike aim.folded aim.text (cell_text l.master l.row aim.column)
+invariant-texts l = (k : ℕ) (d : Aim) → k < l.sought-index
+    → let aim = get_or l.self k d in AreAlike aim.folded aim.text (cell_text l.master l.row aim.column)

@@ -14,10 +14,12 @@ first_among-requires g c =
     let state = c.args.state.now in
     let this = c.rule-this.result.now in
     let valid = c.rule-this.ensures.valid c.self.invariant.0 in
-    let covered : IsCovered state (first_key this).0 = rw c.as_slice.ensures at (c.covers.ensures.0 c.if-not-covers.false) in
+    let covered : IsCovered state (first_key this).0 = rw c.as_slice.ensures
+    at (c.covers.ensures.0 c.if-not-covers.false) in
     record {
       columns = rw (c.master.ensures, c.at-sought.ensures) (HasColumns-aims_of kit state this valid);
-      rows = rw (c.master.ensures, c.at-sought.ensures, c.rows_alike-rows.ensures, ← c.rule-this.ensures.rule) (AreCandidates-rows_alike kit state this valid covered);
+      rows = rw (c.master.ensures, c.at-sought.ensures, c.rows_alike-rows.ensures, ← c.rule-this.ensures.rule)
+          (AreCandidates-rows_alike kit state this valid covered);
     }
 
 pub returns-clause-agrees : goal.returns-clause-agrees
@@ -25,7 +27,8 @@ returns-clause-agrees g c =
     let kit = c.args.self.now in
     let state = c.args.state.now in
     let rule = rule_at kit c.args.rule in
-    let first = rw (c.master.ensures, c.at-sought.ensures, c.rule-this.ensures.rule, c.self.view_is) at c.first_among.ensures in
+    let first = rw (c.master.ensures, c.at-sought.ensures, c.rule-this.ensures.rule, c.self.view_is)
+    at c.first_among.ensures in
     let iff = is_some-first (Meets (master_of kit rule) rule (aims_of kit state rule)) c.first_among.result first in (
       λ told. let some = iff.0 (sym c.is_some.ensures ∙ told) in (some.0, RowAgreesAt-met kit state rule some.0 some.1),
       λ some. c.is_some.ensures ∙ iff.1 (some.0, Meets-agreeing kit state rule some.0 some.1),

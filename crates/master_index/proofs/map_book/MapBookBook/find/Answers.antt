@@ -16,10 +16,12 @@ hit_among-requires g c =
     let covered : IsCovered state (first_key this).0 = keys 0 (0, 0) some in
     record {
       columns = rw (c.master.ensures, c.at-sought.ensures) (HasColumns-aims_of kit state this valid);
-      rows = rw (c.master.ensures, c.at-sought.ensures, c.rows_alike-rows.ensures, ← c.rule-this.ensures.rule) (AreCandidates-rows_alike kit state this valid covered);
+      rows = rw (c.master.ensures, c.at-sought.ensures, c.rows_alike-rows.ensures, ← c.rule-this.ensures.rule)
+          (AreCandidates-rows_alike kit state this valid covered);
     }
 
 pub returns-clause-found : goal.returns-clause-found
 returns-clause-found g c =
-    let met = rw (c.master.ensures, c.at-sought.ensures, c.rule-this.ensures.rule, c.self.view_is) at c.hit_among.ensures in
+    let met = rw (c.master.ensures, c.at-sought.ensures, c.rule-this.ensures.rule, c.self.view_is)
+    at c.hit_among.ensures in
     IsFound-met c.args.self.now c.args.state.now _ c.requires.covered c.hit_among.result met

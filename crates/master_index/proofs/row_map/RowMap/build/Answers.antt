@@ -12,8 +12,10 @@ rows-preserved c key =
     let next = filter-range-next (has_key c.args.grid.now c.args.column c.args.folded key) c.rows.row in
     elim c.if-not-is_blank.branch [
       | then-not-is_blank+in_ok-key_of+in_ok-add w ↦
-          let given : not (is_blank text) ≡ true = not_blank text (λ none. let told = c.is_blank.ensures.1 (c.cell-text.ensures ∙ none) in cc) in
-          let added = rw (w.in_ok-key_of.ensures, c.cell-text.ensures, c.rows.invariant key) at (w.in_ok-add.ensures key) in
+          let given : not (is_blank text) ≡ true = not_blank text
+          (λ none. let told = c.is_blank.ensures.1 (c.cell-text.ensures ∙ none) in cc) in
+          let added = rw (w.in_ok-key_of.ensures, c.cell-text.ensures, c.rows.invariant key)
+          at (w.in_ok-add.ensures key) in
           rw w.map-is (added ∙ sym (rw given at next))
       | else-not-is_blank w ↦
           let none : text ≡ [] = sym c.cell-text.ensures ∙ c.is_blank.ensures.0 (rw w.if-not-is_blank.false refl) in

@@ -25,6 +25,9 @@ returns c =
     let has = c.self.invariant.1.each c.args.rule within in
     let place = get_or triples.places c.args.rule 0 in
     let inside : place < length parts = omega (arith, has.place_within, c.self.invariant.2.size) in
-    let item : c.index-as_slice-place.result ≡ get_or parts place [] = get_or_read parts place c.index-as_slice-place.result inside (rw (c.as_slice.ensures, c.place.ensures) at c.index-as_slice-place.is) [] in
-    let are = AreEntriesOf-shared kit (rule_at kit c.args.rule) (rule_at kit (owner_of triples c.args.rule)) (get_or parts place []) has.shares (c.self.invariant.2.each place has.place_within) in
+    let item : c.index-as_slice-place.result ≡ get_or parts place [] = get_or_read parts place
+    c.index-as_slice-place.result inside (rw (c.as_slice.ensures, c.place.ensures) at c.index-as_slice-place.is)
+    [] in
+    let are = AreEntriesOf-shared kit (rule_at kit c.args.rule) (rule_at kit (owner_of triples c.args.rule))
+    (get_or parts place []) has.shares (c.self.invariant.2.each place has.place_within) in
     rw (c.as_slice-2.ensures, item, ← c.self.view_is) are

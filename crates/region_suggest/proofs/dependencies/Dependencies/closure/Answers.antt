@@ -2,7 +2,8 @@ use Rattle.std.proofs.Common.{◌∙◌, true, false, ap, sym, replicate, arith,
 use Rattle.std.proofs.lemmas.List.{with_items_is}
 use Rattle.region_suggest.specs.Closing.{TakesOff}
 use Rattle.region_suggest.specs.Dependencies.{users, uses_of}
-use Rattle.region_suggest.proofs.Closures.{IsClosing-known, IsClosing-start, IsClosing-taken, IsClosure-done, IsEnough-closing, attribute_within}
+use Rattle.region_suggest.proofs.Closures.{IsClosing-known, IsClosing-start, IsClosing-taken, IsClosure-done}
+use Rattle.region_suggest.proofs.Closures.{IsEnough-closing, attribute_within}
 use Rattle.region_suggest.proofs.Lists.{flag-read}
 use Rattle.region_suggest.proofs.dependencies.Dependencies.closure.Goals as goal
 

@@ -6,7 +6,8 @@ use Rattle.region_suggest.specs.Dependencies.{users, uses_of}
 use Rattle.region_suggest.proofs.Closures.{TakesOff-next, TakesOff-some, TakesOff-start}
 use Rattle.region_suggest.proofs.LeftSides.{users-read}
 use Rattle.region_suggest.proofs.dependencies.Dependencies.take_off.Goals as goal
-use Rattle.region_suggest.proofs.dependencies.Dependencies.take_off.Goals.{then-missing-place-eq0+in_ok-push, else-missing-place-eq0}
+use Rattle.region_suggest.proofs.dependencies.Dependencies.take_off.Goals.{then-missing-place-eq0+in_ok-push}
+use Rattle.region_suggest.proofs.dependencies.Dependencies.take_off.Goals.{else-missing-place-eq0}
 
 pub users-init : goal.users-init
 users-init c = TakesOff-start c.args.self.now c.args.missing.now c.args.found.now.items

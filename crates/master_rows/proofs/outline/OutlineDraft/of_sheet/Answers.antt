@@ -1,0 +1,74 @@
+use Rattle.std.proofs.Common.{◌≡◌, ◌∙◌, ◌++◌, ◌∷◌, [], sym, subst, refl, inr, rules}
+use Rattle.std.specs.Prelude.{Err}
+use Rattle.csv.specs.Reading.{Reached, reader_state, default_config, strip_bom}
+use Rattle.csv.specs.Records.{fields_of}
+use Rattle.csv.proofs.ReadFacts.{rows-end}
+use Rattle.master_rows.specs.Draft.{AreOutlined}
+use Rattle.master_rows.specs.Sheet.{read_records}
+use Rattle.master_rows.proofs.Sheets.{records-however, records-end}
+use Rattle.master_rows.proofs.Stops.{GoesOn-next, left_of, stops_reader-flexible}
+use Rattle.master_rows.proofs.outline.OutlineDraft.of_sheet.Goals as goal
+
+pub records-init : goal.records-init
+unfolding Reached
+records-init c =
+    let reader = c.from_reader-reader.ensures in
+    let flexible = c.flexible.ensures in
+    let plain = c.has_headers.ensures in
+    let start = c.into_iter-next-iterator.ensures.into_iter_gives ∙ refl in
+    let items = c.into_byte_records-next-items.ensures in (
+      [],
+      rw (start, items.rdr) (record {
+        untrimmed = rw (flexible, plain) at reader.trim ∙ c.new.ensures.trim;
+        ready = inr (inr (rw (flexible, plain) at reader.has_headers, reader.headers));
+        flexible = rw flexible at reader.flexible;
+        some = items.left;
+        config = rw (flexible, plain) at reader.config ∙ c.new.ensures.config;
+        rest = strip_bom c.args.sheet.now;
+        source = reader.source;
+        reached = (sym reader.state, refl);
+      }),
+      (refl, refl),
+    )
+
+pub records-preserved : goal.records-preserved
+records-preserved c =
+    let before = c.records.invariant in
+    let steps = rw (c.in-Some.is, c.in-Ok.is) at (c.next.ensures.steps before.1.some before.1.untrimmed) in (
+      before.0 ++ fields_of c.in-Ok.row ∷ [],
+      GoesOn-next _ _ _ _ _ _ _ before.1 (steps.0 before.1.ready) steps.3,
+      c.in_ok-take-in-Ok.ensures.taken before.0 before.2,
+    )
+
+pub stopped-requires : goal.stopped-requires
+stopped-requires c =
+    let before = c.records.invariant in
+    let steps = rw (c.in-Some.is, c.in-Err.is) at (c.next.ensures.steps before.1.some before.1.untrimmed) in
+    stops_reader-flexible left_of c.records.next-iterator.rdr c.next.new.self.rdr c.in-Err.error.kind before.1.flexible
+    (steps.0 before.1.ready)
+
+pub returns-in_err-take-in-Ok-clause-fault : goal.returns-in_err-take-in-Ok-clause-fault
+returns-in_err-take-in-Ok-clause-fault c =
+    let before = c.records.invariant in
+    let steps = rw (c.in-Some.is, c.in-Ok.is) at (c.next.ensures.steps before.1.some before.1.untrimmed) in
+    let after = GoesOn-next c.records.next-iterator.rdr c.next.new.self.rdr c.records.next-iterator.left
+    c.next.new.self.left
+    c.args.sheet.now before.0 c.in-Ok.row before.1 (steps.0 before.1.ready) steps.3 in
+    let fault = c.in_err-take-in-Ok.field-0.0 in
+    let is : c.from_residual.result ≡ Err fault = search rules in
+    rw is (λ apart. records-however read_records (Err fault) (strip_bom c.args.sheet.now) after.rest before.0
+    (fields_of c.in-Ok.row) (reader_state c.next.new.self.rdr) after.reached (λ later.
+    c.in_err-take-in-Ok.ensures.fault apart before.0 later before.2))
+
+pub returns : goal.returns
+returns c =
+    let before = c.records.invariant in
+    let step = rw c.in-None.is at ((c.next.ensures.steps before.1.some before.1.untrimmed).0 before.1.ready) in
+    let end = rows-end left_of c.records.next-iterator.rdr c.next.new.self.rdr [] default_config before.1.rest
+    before.1.config before.1.source step in
+    record {
+      taken = subst (AreOutlined c.records.draft.columns c.records.draft.rows)
+          (records-end (strip_bom c.args.sheet.now) before.1.rest before.0
+          (reader_state c.records.next-iterator.rdr) before.1.reached end) before.2;
+      fault = tt;
+    }

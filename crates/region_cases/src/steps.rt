@@ -1,0 +1,40 @@
+//! Whether a step may be made.
+use desk_base::Steps;
+use desk_cases::{Case, Part};
+use desk_json::case_of;
+use fix_model::{Book, ListBook, Step, fires};
+use std::alloc::Global;
+use std::test::Fail;
+
+/// Whether the step of the case fires, and whether some row agrees with the record at the rule's covered keys.
+pub fn told(alloc: Global, case: &Case) -> Result<Vec<Part>, Fail> {
+    let Ok(record) = case_of(alloc, case.bytes("input")?) else {
+        return Err(Fail::new("the input is no case"));
+    };
+    let step = step(alloc, case)?;
+    if usize::from(step.rule) >= record.kit.rules.len() {
+        return Err(Fail::new("the step is by no rule"));
+    }
+    let is_made = fires(&record.kit, &record.state, step);
+    let book = ListBook::new(record.kit);
+    let agrees = book.agrees(step.rule, &record.state, &mut Steps::new(()));
+    let mut parts = Vec::new(alloc);
+    parts.push(Part::truth(alloc, "fires", is_made)?)?;
+    parts.push(Part::truth(alloc, "agrees", agrees)?)?;
+    Ok(parts)
+}
+
+/// The rule and the row of the part `step`, which counts from 1.
+fn step(alloc: Global, case: &Case) -> Result<Step, Fail> {
+    let numbers = case.numbers(alloc, "step")?;
+    let [rule, row] = numbers.as_slice() else {
+        return Err(Fail::new("a step is a rule and a row"));
+    };
+    match (
+        u16::try_from(rule.saturating_sub(1)),
+        u32::try_from(row.saturating_sub(1)),
+    ) {
+        (Ok(rule), Ok(row)) => Ok(Step { rule, row }),
+        _ => Err(Fail::new("a step has a number that is too great")),
+    }
+}
