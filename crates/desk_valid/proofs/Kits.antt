@@ -1,10 +1,13 @@
 -- In valid tables what an edition names reads, and binds.
-use Rattle.std.proofs.Common.{◌≡◌, ℕ, zero, suc, ◌<◌, true, List, [], ◌∷◌, length, map, Option, Some, None, sym, subst, ap, ◌∙◌, refl, arith}
-use Rattle.std.specs.Prelude.{All, IfSome, IsSome, IsSomeAnd, is_some, option_map, option_and_then, slice_get, Ok, Result}
+use Rattle.std.proofs.Common.{◌≡◌, ℕ, zero, suc, ◌<◌, ◌≤◌, true, List, [], ◌∷◌, length, map, Option, Some, None, sym}
+use Rattle.std.proofs.Common.{subst, ap, ◌∙◌, refl, arith}
+use Rattle.std.specs.Prelude.{All, IfSome, IsSome, IsSomeAnd, is_some, option_map, option_and_then, slice_get, Ok}
+use Rattle.std.specs.Prelude.{Result}
 use Rattle.std.proofs.lemmas.List.{length-map}
 use Rattle.std.proofs.lemmas.List.Elements.{All-head, All-tail}
 use Rattle.std.proofs.lemmas.Option.{same_Some}
 use Rattle.fix_model.specs.declared.kit.Kit.{Kit}
+use Rattle.fix_model.specs.Entries.{entries}
 use Rattle.rule_text.specs.declared.binding.BindFault.{BindFault}
 use Rattle.rule_text.proofs.BindingKits.{IsValid-kit_of}
 use Rattle.master_rows.specs.declared.master.Master.{Master}
@@ -13,8 +16,10 @@ use Rattle.desk_words.specs.Tables.{Rows, published_of}
 use Rattle.desk_valid.specs.declared.bound.Bound.{Bound}
 use Rattle.desk_valid.specs.declared.parts.Parts.{Parts}
 use Rattle.desk_valid.specs.declared.reading.Rules.{Rules}
-use Rattle.desk_valid.specs.Bindings.{AreBindable, IsNamedKit, binding, bound_at, bound_in, bound_of, names_of, parts_of}
-use Rattle.desk_valid.specs.Readings.{all_of, master_at, master_in, read, rules_at, rules_in, rules_over, schema_at, schema_in}
+use Rattle.desk_valid.specs.Bindings.{AreBindable, IsNamedKit, binding, bound_at, bound_in, bound_of, names_of}
+use Rattle.desk_valid.specs.Bindings.{parts_of}
+use Rattle.desk_valid.specs.Readings.{all_of, master_at, master_in, read, rules_at, rules_in, rules_over, schema_at}
+use Rattle.desk_valid.specs.Readings.{schema_in}
 use Rattle.desk_valid.specs.Rows.Edition.{IsBinding, IsEditionRow}
 use Rattle.desk_valid.specs.Rows.Master.{IsMasterRow}
 use Rattle.desk_valid.specs.Rows.Rulebook.{IsRulebookRow}
@@ -36,7 +41,7 @@ value-from (Some value) there = (value, refl)
 
 module _ (rows : Rows) (valid : AreValid rows) where
   -- a rulebook reads
-  rules-read : (place : ℕ) → place < length rows.rulebooks
+  pub rules-read : (place : ℕ) → place < length rows.rulebooks
       → (rules : Rules) × (rules_at (published_of rows) place ≡ Some rules)
   rules-read place within =
       let here = slice_get-there rows.rulebooks place within in
@@ -53,7 +58,7 @@ module _ (rows : Rows) (valid : AreValid rows) where
       )
 
   -- and so do masters
-  masters-read : (places : List ℕ) → All (λ place. place < length rows.masters) places
+  pub masters-read : (places : List ℕ) → All (λ place. place < length rows.masters) places
       → (masters : List (List ℕ × Master)) × (all_of (map (master_at (published_of rows)) places) ≡ Some masters)
   masters-read [] within = ([], refl)
   masters-read (place ∷ rest) within =
@@ -155,3 +160,16 @@ known-parts rows place row parts valid stands reads =
     let made : IsSome (bound_of known.parts row.folded) = ap is_some
     (bound_of-kit known.parts row.folded known.binds.kit known.binds.binds) in
     (subst Bindable same known.bindable, subst Bound-to same made, bound_at-read rows place row parts stands reads)
+
+-- the index over what it binds to is not too wide
+pub bound-narrow : (rows : Rows) (place : ℕ) (row : EditionRow) (parts : Parts) (made : Bound) → AreValid rows
+    → slice_get rows.editions place ≡ Some row → parts_of (published_of rows) row ≡ Some parts
+    → bound_of parts row.folded ≡ Some made → entries made.kit ≤ 2000000
+bound-narrow rows place row parts made valid stands reads is =
+    let known = edition-read rows place row valid stands in
+    let same : known.parts ≡ parts = same_Some known.parts parts (sym known.reads ∙ reads) in
+    let Made : Parts → Type 0 = λ one. bound_of one row.folded ≡ Some made in
+    let bound = bound_of-kit known.parts row.folded known.binds.kit known.binds.binds in
+    let whole : Bound = record { kit = known.binds.kit; names = names_of known.parts } in
+    let one = same_Some whole made (sym bound ∙ subst Made (sym same) is) in
+    subst (λ (bound : Bound). entries bound.kit ≤ 2000000) one known.binds.narrow

@@ -4,5 +4,6 @@ pub mod Seen
 pub mod Readings
 pub mod Unrowed
 pub mod Named
+pub mod Headers
 pub mod Kits
 pub mod Whole

@@ -1,5 +1,6 @@
 -- What an edition names, with its masters whole and without their rows.
-use Rattle.std.proofs.Common.{◌≡◌, ◌≢◌, ℕ, Bool, zero, suc, ◌+◌, ◌<◌, ◌≤◌, List, [], ◌∷◌, ◌++◌, length, get_or, map, take, Option, Some, None, sym, subst, ap, ◌∙◌, refl, arith}
+use Rattle.std.proofs.Common.{◌≡◌, ◌≢◌, ℕ, Bool, zero, suc, ◌+◌, ◌<◌, ◌≤◌, List, [], ◌∷◌, ◌++◌, length, get_or, map}
+use Rattle.std.proofs.Common.{take, Option, Some, None, sym, subst, ap, ◌∙◌, refl, arith}
 use Rattle.std.specs.Prelude.{All, AllPairs, IfSome, IsTrue, ◌↔◌, option_map, option_and_then, slice_get}
 use Rattle.std.proofs.lemmas.List.{length-map, map-append, get_or-map, take_more}
 use Rattle.std.proofs.lemmas.List.Elements.{All-map, All-nil}

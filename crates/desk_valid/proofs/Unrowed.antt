@@ -1,6 +1,7 @@
 -- Rules bind over masters without rows as over the masters themselves, and the entries of an index follow from the
 -- row counts.
-use Rattle.std.proofs.Common.{◌≡◌, ℕ, zero, suc, ◌+◌, ◌≤◌, Bool, List, [], ◌∷◌, length, get_or, map, Option, Some, None, sym, ap, ◌∙◌, refl, arith}
+use Rattle.std.proofs.Common.{◌≡◌, ℕ, zero, suc, ◌+◌, ◌≤◌, Bool, List, [], ◌∷◌, length, get_or, map, Option, Some}
+use Rattle.std.proofs.Common.{None, sym, ap, ◌∙◌, refl, arith}
 use Rattle.std.specs.Prelude.{cond, not, position, slice_index_or, unwrap_or, Result, Ok, Err}
 use Rattle.std.specs.List.{fold, position_or_len}
 use Rattle.std.specs.Option.{option_or, option_map_or}
@@ -16,7 +17,8 @@ use Rattle.rule_text.specs.declared.binding.BindFault.{BindFault}
 use Rattle.rule_text.specs.declared.binding.BindFault.TheVariants.{NoMaster}
 use Rattle.rule_text.specs.declared.rulebook.RuleLine.{RuleLine}
 use Rattle.rule_text.specs.declared.rulebook.Rulebook.{Rulebook}
-use Rattle.rule_text.specs.Binding.{bound, column_fault, columns_fault, first_fault, flags_of, keys_fault, kit_of, line_fault, master_at, master_of, rule_of, rule_over}
+use Rattle.rule_text.specs.Binding.{bound, column_fault, columns_fault, first_fault, flags_of, keys_fault, kit_of}
+use Rattle.rule_text.specs.Binding.{line_fault, master_at, master_of, rule_of, rule_over}
 use Rattle.desk_valid.specs.Bare.{bare_pair, count_of, counted, entries_over}
 use Rattle.desk_valid.specs.ReadTables.{bare_master}
 

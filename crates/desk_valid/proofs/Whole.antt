@@ -1,5 +1,6 @@
 -- The tables in their order, and what is known of each.
-use Rattle.std.proofs.Common.{◌≡◌, ℕ, zero, suc, ◌+◌, ◌<◌, ◌≤◌, List, [], ◌∷◌, length, get_or, Some, sym, subst, ap, ◌∙◌, refl, inl, inr, arith}
+use Rattle.std.proofs.Common.{◌≡◌, ℕ, zero, suc, ◌+◌, ◌<◌, ◌≤◌, List, [], ◌∷◌, length, get_or, Some, sym, subst, ap}
+use Rattle.std.proofs.Common.{◌∙◌, refl, inl, inr, arith}
 use Rattle.std.specs.Prelude.{All}
 use Rattle.std.proofs.lemmas.Bool.{cases_lt}
 use Rattle.std.proofs.lemmas.List.{get_or_past}
@@ -8,8 +9,10 @@ use Rattle.std.proofs.lemmas.List.Elements.{All-weaker}
 use Rattle.std.proofs.lemmas.Option.{slice_get_within}
 use Rattle.desk_words.specs.Tables.{AreListsOf, AreTables, IsShort, Rows, list_at}
 use Rattle.desk_valid.specs.declared.table.Table.{Table as Named}
-use Rattle.desk_valid.specs.declared.table.Table.TheVariants.{Clerks, Schemas, Masters, Rulebooks, Editions, Regions, Sessions, Records, Batches}
-use Rattle.desk_valid.specs.Damage.{FailsOwn, IsDamaged, IsFirstDamage, Table, number_of, clerks, schemas, masters, rulebooks, editions, regions, sessions, records, batches}
+use Rattle.desk_valid.specs.declared.table.Table.TheVariants.{Clerks, Schemas, Masters, Rulebooks, Editions, Regions}
+use Rattle.desk_valid.specs.declared.table.Table.TheVariants.{Sessions, Records, Batches}
+use Rattle.desk_valid.specs.Damage.{FailsOwn, IsDamaged, IsFirstDamage, Table, number_of, clerks, schemas, masters}
+use Rattle.desk_valid.specs.Damage.{rulebooks, editions, regions, sessions, records, batches}
 use Rattle.desk_valid.specs.TableOf.{table_of}
 use Rattle.desk_valid.specs.FirstDamaged.{IsFirstDamaged, IsWhole}
 use Rattle.desk_valid.specs.Valid.{AreValid}

@@ -1,5 +1,7 @@
 -- Masters without their rows, over which an edition binds as over the masters themselves.
-use Rattle.std.specs.Prelude.{◌≡◌, ◌≤◌, ℕ, List, [], ◌∷◌, ◌++◌, length, map, slice_index_or, sum_by, Option, option_map, Ok}
+use Rattle.std.specs.Prelude.{◌≡◌, ◌≤◌, ℕ, List, [], ◌∷◌, ◌++◌, length, map, slice_index_or, sum_by, Option}
+use Rattle.std.specs.Prelude.{option_map, Ok}
+use Rattle.desk_base.specs.declared.limits.TheConstants.{MAX_ENTRIES}
 use Rattle.fix_model.specs.declared.kit.Kit.{Kit}
 use Rattle.fix_model.specs.Entries.{places_of_triples}
 use Rattle.fix_model.specs.Rules.{rule_at}
@@ -47,4 +49,4 @@ with_master bare name header = record {
 pub record BindNarrowly (rules : Rules) (bare : Bare) (folded : List ℕ) : Type 0 where
   pub kit : Kit
   pub binds : bound rules.rulebook rules.schema bare.masters folded ≡ Ok kit
-  pub narrow : entries_over bare.counts kit ≤ 2000000
+  pub narrow : entries_over bare.counts kit ≤ MAX_ENTRIES

@@ -7,7 +7,8 @@ use Rattle.desk_valid.specs.Rows.Master.{IsMasterRow}
 use Rattle.desk_valid.specs.Rows.Region.{IsRegionRow}
 use Rattle.desk_valid.specs.Rows.Rulebook.{IsRulebookRow}
 use Rattle.desk_valid.specs.Rows.Schema.{IsSchemaRow}
-use Rattle.desk_valid.specs.Damage.{FailsAt, FailsOwn, IsDamaged, Table, clerks, schemas, masters, rulebooks, editions, regions, sessions, records, batches}
+use Rattle.desk_valid.specs.Damage.{FailsAt, FailsOwn, IsDamaged, Table, clerks, schemas, masters, rulebooks}
+use Rattle.desk_valid.specs.Damage.{editions, regions, sessions, records, batches}
 use Rattle.desk_valid.specs.Valid.{EachAt, EachOwn, IsOwnBatch, IsOwnRecord, IsOwnSession}
 
 -- each row before a place is good

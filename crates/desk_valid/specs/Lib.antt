@@ -11,3 +11,4 @@ pub mod TableOf
 pub mod FirstDamaged
 pub mod Seen
 pub mod Refusals
+pub mod Tallies

@@ -3,6 +3,7 @@ use Rattle.std.specs.Prelude.{◌≡◌, ℕ, List, [], map, length, Option, opt
 use Rattle.desk_words.specs.declared.rows.master.MasterRow.{MasterRow}
 use Rattle.desk_words.specs.Tables.{Published, Rows, published_of, rows_of}
 use Rattle.master_rows.specs.declared.master.Master.{Master}
+use Rattle.master_rows.specs.declared.outline.Outline.{Outline}
 use Rattle.master_rows.specs.Sheet.{read_sheet}
 use Rattle.desk_valid.specs.Readings.{read, rules_in, schema_in}
 use Rattle.desk_valid.specs.declared.reading.Header.{Header}
@@ -15,6 +16,13 @@ bare_master master = record { columns = master.columns; grid = record { columns 
 -- with their number
 abbrev pub header_of : Master → Header
 header_of master = record { bare = bare_master master; rows = length master.grid.rows }
+
+-- the header that an outline tells
+abbrev pub header_over : Outline → Header
+header_over outline = record {
+  bare = record { columns = outline.columns; grid = record { columns = length outline.columns; rows = [] } };
+  rows = outline.rows;
+}
 
 -- the header of the master of a row
 abbrev pub header_in : MasterRow → Option Header

@@ -1,5 +1,6 @@
 -- What published bodies read as, where they read.
-use Rattle.std.specs.Prelude.{ℕ, List, ◌∷◌, [], length, Option, Some, None, option_map, option_and_then, slice_get, Result, Ok, Err}
+use Rattle.std.specs.Prelude.{ℕ, List, ◌∷◌, [], length, Option, Some, None, option_map, option_and_then, slice_get}
+use Rattle.std.specs.Prelude.{Result, Ok, Err}
 use Rattle.desk_words.specs.declared.rows.master.MasterRow.{MasterRow}
 use Rattle.desk_words.specs.declared.rows.rulebook.RulebookRow.{RulebookRow}
 use Rattle.desk_words.specs.declared.rows.schema.SchemaRow.{SchemaRow}

@@ -1,7 +1,9 @@
 -- The tables as the code names them.
-use Rattle.desk_valid.specs.Damage.{Table, clerks, schemas, masters, rulebooks, editions, regions, sessions, records, batches}
+use Rattle.desk_valid.specs.Damage.{Table, clerks, schemas, masters, rulebooks, editions, regions, sessions, records}
+use Rattle.desk_valid.specs.Damage.{batches}
 use Rattle.desk_valid.specs.declared.table.Table.{Table as Named}
-use Rattle.desk_valid.specs.declared.table.Table.TheVariants.{Clerks, Schemas, Masters, Rulebooks, Editions, Regions, Sessions, Records, Batches}
+use Rattle.desk_valid.specs.declared.table.Table.TheVariants.{Clerks, Schemas, Masters, Rulebooks, Editions, Regions}
+use Rattle.desk_valid.specs.declared.table.Table.TheVariants.{Sessions, Records, Batches}
 
 -- the table that the code names so
 abbrev pub table_of : Named → Table

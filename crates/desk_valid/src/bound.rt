@@ -1,6 +1,8 @@
 //! The kit of an edition.
-ghost use Rattle.std.specs.Prelude.{◌≡◌, ◌<◌, length, map, Some, IfOk, IsSome};
+ghost use Rattle.std.specs.Prelude.{◌≡◌, ◌<◌, ◌≤◌, length, map, Some, IfOk, IsSome};
+ghost use Rattle.desk_base.specs.declared.limits.TheConstants.{MAX_ENTRIES};
 ghost use Rattle.desk_words.specs.Tables.{published_of, rows_of};
+ghost use Rattle.fix_model.specs.Entries.{entries};
 ghost use Rattle.fix_model.specs.Valid.{IsValid};
 ghost use Rattle.desk_valid.specs.Bindings.{AreBindable, bound_at, bound_of, names_of};
 ghost use Rattle.desk_valid.specs.Valid.{AreValid};
@@ -21,12 +23,13 @@ pub struct Bound {
 }
 
 /// The kit of the edition at a place, counted from 0, with its names: its rulebook, bound to its schema, masters
-/// and folded attributes.
+/// and folded attributes. An index over it has at most 2,000,000 entries.
 pub fn kit_of(alloc: Global, tables: &Tables, edition: u32) -> Result<Bound, NoMemory>
     requires valid { AreValid (rows_of tables.now) }
     requires edition { edition < length tables.now.editions.items }
     ensures bound { IfOk result (λ made. bound_at (published_of (rows_of tables.now)) edition ≡ Some made) }
     ensures valid { IfOk result (λ made. IsValid made.kit) }
+    ensures narrow { IfOk result (λ made. entries made.kit ≤ MAX_ENTRIES) }
 {
     let row = &tables.editions.as_slice()[edition as usize];
     let Some(parts) = parts_of(alloc, tables, row)? else {

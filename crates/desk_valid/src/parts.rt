@@ -12,9 +12,9 @@ use std::alloc::Global;
 
 /// The rules of an edition, and its masters under their names.
 #[derive(Drop)]
-pub(crate) struct Parts {
-    pub(crate) rules: Rules,
-    pub(crate) masters: List<(Text, Master)>,
+pub struct Parts {
+    pub rules: Rules,
+    pub masters: List<(Text, Master)>,
 }
 
 /// The parts of an edition, where each reads.
@@ -35,7 +35,11 @@ pub(crate) fn parts_of(
 }
 
 /// The rules at a place.
-fn rules_at(alloc: Global, tables: &Tables, place: u32) -> Result<Option<Rules>, NoMemory>
+pub(crate) fn rules_at(
+    alloc: Global,
+    tables: &Tables,
+    place: u32,
+) -> Result<Option<Rules>, NoMemory>
     ensures { IfOk result (λ found. found ≡ rules_at (published_of (rows_of tables.now)) place) }
 {
     match tables.rulebooks.as_slice().get(place as usize) {
@@ -61,7 +65,7 @@ fn rules_in(alloc: Global, tables: &Tables, row: &RulebookRow) -> Result<Option<
 }
 
 /// The masters at these places, where each reads.
-fn masters_at(
+pub(crate) fn masters_at(
     alloc: Global,
     tables: &Tables,
     places: &[u32],

@@ -1,23 +1,23 @@
 //! What published bodies read as, where they read.
-ghost use Rattle.std.specs.Prelude.{◌≡◌, IfOk};
+ghost use Rattle.std.specs.Prelude.{◌≡◌, ◌≤◌, length, IfOk};
 ghost use Rattle.schema_core.specs.Schemas.{IsSchema};
 ghost use Rattle.master_rows.specs.Sheet.{read_sheet};
 ghost use Rattle.rule_text.specs.Reading.{read_rules};
 ghost use Rattle.desk_valid.specs.Readings.{read, schema_in};
-ghost use Rattle.desk_valid.specs.ReadTables.{header_in};
+ghost use Rattle.desk_valid.specs.ReadTables.{header_in, header_over};
 
-use desk_base::{Grid, NoMemory};
+use desk_base::{Grid, MAX_COLUMNS, NoMemory};
 use desk_words::{MasterRow, RulebookRow, SchemaRow};
-use master_rows::{Master, SheetFault};
+use master_rows::{Master, Outline, SheetFault};
 use rule_text::{RuleFault, Rulebook};
 use schema_core::{Schema, SchemaFault};
 use std::alloc::Global;
 
 /// A schema, and the rules over it.
 #[derive(Drop)]
-pub(crate) struct Rules {
-    pub(crate) schema: Schema,
-    pub(crate) rulebook: Rulebook,
+pub struct Rules {
+    pub schema: Schema,
+    pub rulebook: Rulebook,
 }
 
 /// A master without its rows.
@@ -54,15 +54,26 @@ pub(crate) fn sheet_in(alloc: Global, row: &MasterRow) -> Result<Option<Master>,
 pub(crate) fn header_in(alloc: Global, row: &MasterRow) -> Result<Option<Header>, NoMemory>
     ensures { IfOk result (λ found. found ≡ header_in row.now) }
 {
-    let Some(Master { columns, grid }) = sheet_in(alloc, row)? else {
-        return Ok(None);
-    };
-    let bare = Master {
-        columns,
-        grid: Grid::new(alloc, grid.columns()),
-    };
-    let rows = grid.rows();
-    Ok(Some(Header { bare, rows }))
+    match Master::outline(alloc, row.body.as_slice()) {
+        Ok(outline) => Ok(Some(header_of(alloc, outline))),
+        Err(SheetFault::NoMemory) => Err(NoMemory),
+        Err(_) => Ok(None),
+    }
+}
+
+/// The master without its rows that has this outline, with their number.
+fn header_of(alloc: Global, outline: Outline) -> Header
+    requires { length outline.columns ≤ MAX_COLUMNS }
+    ensures { result ≡ header_over outline }
+{
+    let grid = Grid::new(alloc, outline.columns.len() as u16);
+    Header {
+        bare: Master {
+            columns: outline.columns,
+            grid,
+        },
+        rows: outline.rows,
+    }
 }
 
 /// The rules of a row over a schema.

@@ -7,19 +7,21 @@ use desk_base::{Text, is_name};
 use desk_words::{EditionRow, MasterRow, RulebookRow, SchemaRow};
 
 /// A row that is published as a version of a name.
-pub(crate) trait Published {
+pub trait Versioned {
     ghost name_of: { Self → List ℕ };
 
     ghost version_of: { Self → ℕ };
 
+    /// The name.
     fn name(&self) -> &Text
         ensures { result.now ≡ name_of self.now };
 
+    /// How many versions of the name there are up to this one.
     fn version(&self) -> u32
         ensures { result ≡ version_of self.now };
 }
 
-impl Published for SchemaRow {
+impl Versioned for SchemaRow {
     ghost name_of = { λ row. row.name };
 
     ghost version_of = { λ row. row.version };
@@ -33,7 +35,7 @@ impl Published for SchemaRow {
     }
 }
 
-impl Published for MasterRow {
+impl Versioned for MasterRow {
     ghost name_of = { λ row. row.name };
 
     ghost version_of = { λ row. row.version };
@@ -47,7 +49,7 @@ impl Published for MasterRow {
     }
 }
 
-impl Published for RulebookRow {
+impl Versioned for RulebookRow {
     ghost name_of = { λ row. row.name };
 
     ghost version_of = { λ row. row.version };
@@ -61,7 +63,7 @@ impl Published for RulebookRow {
     }
 }
 
-impl Published for EditionRow {
+impl Versioned for EditionRow {
     ghost name_of = { λ row. row.name };
 
     ghost version_of = { λ row. row.version };
@@ -76,7 +78,7 @@ impl Published for EditionRow {
 }
 
 /// Whether the row at a place is the next version of its name.
-pub(crate) fn is_version<T: Published>(rows: &[T], place: usize, row: &T) -> bool
+pub(crate) fn is_version<T: Versioned>(rows: &[T], place: usize, row: &T) -> bool
     requires { place ≤ length rows.now }
     ensures { IsTrue result ↔ IsVersion T.name_of rows.now place (T.name_of row.now) (T.version_of row.now) }
 {
@@ -86,7 +88,7 @@ pub(crate) fn is_version<T: Published>(rows: &[T], place: usize, row: &T) -> boo
 }
 
 /// How many of these rows have the name.
-fn count_of<T: Published>(rows: &[T], name: &Text) -> usize
+fn count_of<T: Versioned>(rows: &[T], name: &Text) -> usize
     ensures count { result ≡ count_by (λ row. bytes_eq (T.name_of row) name.now) rows.now }
     ensures within { result ≤ length rows.now }
 {

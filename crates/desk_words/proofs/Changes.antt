@@ -5,7 +5,8 @@ use Rattle.std.proofs.lemmas.Bool.Decides.{nat_tests}
 use Rattle.std.proofs.lemmas.List.{length-set, length-append}
 use Rattle.std.proofs.lemmas.List.Elements.{All-push, All-set}
 use Rattle.desk_words.specs.declared.change.Change.{Change}
-use Rattle.desk_words.specs.declared.change.Change.TheVariants.{Clerk, Schema, Master, Rulebook, Edition, Region, Session, Record, Batch}
+use Rattle.desk_words.specs.declared.change.Change.TheVariants.{Clerk, Schema, Master, Rulebook, Edition, Region}
+use Rattle.desk_words.specs.declared.change.Change.TheVariants.{Session, Record, Batch}
 use Rattle.desk_words.specs.declared.rows.clerk.ClerkRow.{ClerkRow}
 use Rattle.desk_words.specs.Changes.{Fits, FitAll, FitsAt, FitsBehind, changed, changed_all, put, with_clerk, with_list}
 use Rattle.desk_words.specs.Tables.{AreListsOf, AreTables, IsShort, Rows, list_at}

@@ -1,7 +1,8 @@
 -- What a change does to the tables, and which changes fit.
 use Rattle.std.specs.Prelude.{ℕ, ◌+◌, ◌<◌, ◌≤◌, ◌^◌, ◌==◌, List, [], ◌∷◌, ◌++◌, length, slice_set, if◌then◌else◌, ⊤}
 use Rattle.desk_words.specs.declared.change.Change.{Change}
-use Rattle.desk_words.specs.declared.change.Change.TheVariants.{Clerk, Schema, Master, Rulebook, Edition, Region, Session, Record, Batch}
+use Rattle.desk_words.specs.declared.change.Change.TheVariants.{Clerk, Schema, Master, Rulebook, Edition, Region}
+use Rattle.desk_words.specs.declared.change.Change.TheVariants.{Session, Record, Batch}
 use Rattle.desk_words.specs.declared.rows.clerk.ClerkRow.{ClerkRow}
 use Rattle.desk_words.specs.Tables.{Rows, list_at}
 
@@ -34,9 +35,12 @@ changed rows (Master row) = record rows { masters = rows.masters ++ row ∷ [] }
 changed rows (Rulebook row) = record rows { rulebooks = rows.rulebooks ++ row ∷ [] }
 changed rows (Edition row) = record rows { editions = rows.editions ++ row ∷ [] }
 changed rows (Region row) = record rows { regions = rows.regions ++ row ∷ [] }
-changed rows (Session clerk place row) = record rows { sessions = with_list rows.sessions clerk (put (list_at rows.sessions clerk) place row) }
-changed rows (Record clerk row) = record rows { records = with_list rows.records clerk (list_at rows.records clerk ++ row ∷ []) }
-changed rows (Batch clerk row) = record rows { batches = with_list rows.batches clerk (list_at rows.batches clerk ++ row ∷ []) }
+changed rows (Session clerk place row) =
+    record rows { sessions = with_list rows.sessions clerk (put (list_at rows.sessions clerk) place row) }
+changed rows (Record clerk row) =
+    record rows { records = with_list rows.records clerk (list_at rows.records clerk ++ row ∷ []) }
+changed rows (Batch clerk row) =
+    record rows { batches = with_list rows.batches clerk (list_at rows.batches clerk ++ row ∷ []) }
 
 -- the tables after all changes, the first one first
 abbrev pub changed_all : Rows → List Change → Rows

@@ -95,7 +95,8 @@ pub record AreListsOf {T : Type 0} (clerks : ℕ) (lists : List (List T)) : Type
   pub each : length lists ≡ clerks
   pub short : All IsShort lists
 
--- what all tables are: there is a row for the steward, a list of sessions, records and batches for each clerk, and no list is too long
+-- what all tables are: there is a row for the steward, a list of sessions, records and batches for each clerk, and no
+-- list is too long
 pub record AreTables (rows : Rows) : Type 0 where
   pub steward : 0 < length rows.clerks
   pub clerks : IsShort rows.clerks

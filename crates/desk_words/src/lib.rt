@@ -40,5 +40,6 @@ pub use rows::region::RegionRow;
 pub use rows::rulebook::RulebookRow;
 pub use rows::schema::SchemaRow;
 pub use rows::session::{SessionRow, Stage};
+pub use steward_work::StewardWork;
 pub use tables::Tables;
 pub use view::{Outcome, Shown, View, ViewCell};

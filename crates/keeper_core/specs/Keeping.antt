@@ -23,7 +23,8 @@ abbrev pub StayTold : Option Rows → Option Rows → Type 0
 StayTold None new = new ≡ None
 StayTold (Some old) new = IfTold new old
 
--- the tables are those after the changes, where they are told before and after; nothing is told that was not told before
+-- the tables are those after the changes, where they are told before and after; nothing is told that was not told
+-- before
 abbrev pub ChangeTold : Option Rows → Option Rows → List Change → Type 0
 ChangeTold None new changes = new ≡ None
 ChangeTold (Some old) new changes = IfTold new (changed_all old changes)

@@ -1,8 +1,11 @@
 -- Room that is made before changes, so that no change wants memory.
-use Rattle.std.specs.Prelude.{◌≡◌, ℕ, ◌+◌, ◌≤◌, List, [], ◌∷◌, All, length}
+use Rattle.std.specs.Prelude.{◌≡◌, ◌==◌, ℕ, ◌+◌, ◌≤◌, Bool, false, List, [], ◌∷◌, All, length, slice_get}
+use Rattle.std.specs.Prelude.{IfSome, IsTrue}
+use Rattle.std.specs.List.{list_any}
 use Rattle.desk_base.specs.Roomy.{Roomy}
 use Rattle.desk_words.specs.declared.change.Change.{Change}
-use Rattle.desk_words.specs.declared.change.Change.TheVariants.{Clerk, Schema, Master, Rulebook, Edition, Region, Session, Record, Batch}
+use Rattle.desk_words.specs.declared.change.Change.TheVariants.{Clerk, Schema, Master, Rulebook, Edition, Region}
+use Rattle.desk_words.specs.declared.change.Change.TheVariants.{Session, Record, Batch}
 use Rattle.desk_words.specs.declared.tables.Tables.{Tables}
 use Rattle.desk_words.specs.Changes.{FitAll}
 use Rattle.desk_words.specs.Tables.{AreTables, rows_of}
@@ -12,22 +15,38 @@ use Rattle.keeper_core.specs.declared.room.Fresh.{Fresh}
 abbrev pub HavePlaces : {T : Type 0} → ℕ → List (Roomy T) → Type 0
 HavePlaces count rooms = All (λ room. count ≤ room.spare) rooms
 
--- a room of the clerks' lists has places for so many clerks, and each list for so many rows
-pub record HasPlaces {T : Type 0} (rooms : Roomy (Roomy T)) (count : ℕ) : Type 0 where
-  pub clerks : count ≤ rooms.spare
-  pub lists : HavePlaces count rooms.items
+-- the change puts a row of this clerk's own
+abbrev pub is_of : ℕ → Change → Bool
+is_of one (Clerk place row) = false
+is_of one (Schema row) = false
+is_of one (Master row) = false
+is_of one (Rulebook row) = false
+is_of one (Edition row) = false
+is_of one (Region row) = false
+is_of one (Session clerk place row) = clerk == one
+is_of one (Record clerk row) = clerk == one
+is_of one (Batch clerk row) = clerk == one
 
--- each table has places for so many rows
-pub record HasRoom (tables : Tables) (count : ℕ) : Type 0 where
+-- one of the changes does
+abbrev pub is_named : List Change → ℕ → Bool
+is_named changes clerk = list_any (is_of clerk) changes
+
+-- a room of the clerks' lists has places for so many clerks, and the list of each clerk who is named for so many rows
+pub record HasPlaces {T : Type 0} (rooms : Roomy (Roomy T)) (named : ℕ → Bool) (count : ℕ) : Type 0 where
+  pub clerks : count ≤ rooms.spare
+  pub lists : (clerk : ℕ) → IsTrue (named clerk) → IfSome (slice_get rooms.items clerk) (λ room. count ≤ room.spare)
+
+-- each table has places for so many rows, of the clerks' own lists those of the clerks who are named
+pub record HasRoom (tables : Tables) (named : ℕ → Bool) (count : ℕ) : Type 0 where
   pub clerks : count ≤ tables.clerks.spare
   pub schemas : count ≤ tables.schemas.spare
   pub masters : count ≤ tables.masters.spare
   pub rulebooks : count ≤ tables.rulebooks.spare
   pub editions : count ≤ tables.editions.spare
   pub regions : count ≤ tables.regions.spare
-  pub sessions : HasPlaces tables.sessions count
-  pub records : HasPlaces tables.records count
-  pub batches : HasPlaces tables.batches count
+  pub sessions : HasPlaces tables.sessions named count
+  pub records : HasPlaces tables.records named count
+  pub batches : HasPlaces tables.batches named count
 
 -- a change may append a clerk, who wants an empty list of each kind
 abbrev pub lists_wanted : Change → ℕ
@@ -62,5 +81,5 @@ pub record AreFresh (fresh : Fresh) (clerks count : ℕ) : Type 0 where
 pub record IsReady (tables : Tables) (fresh : Fresh) (changes : List Change) : Type 0 where
   pub fit : FitAll (rows_of tables) changes
   pub whole : AreTables (rows_of tables)
-  pub room : HasRoom tables (length changes)
+  pub room : HasRoom tables (is_named changes) (length changes)
   pub spare : AreFresh fresh (clerk_count changes) (length changes)

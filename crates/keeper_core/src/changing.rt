@@ -1,5 +1,5 @@
 //! Changes of tables that stand in memory. They take no memory, since room was made for them.
-ghost use Rattle.std.specs.Prelude.{◌≡◌, ◌+◌, ◌-◌, [], ◌∷◌, ℕ};
+ghost use Rattle.std.specs.Prelude.{◌≡◌, ◌+◌, ◌-◌, [], ◌∷◌, ℕ, Bool};
 ghost use Rattle.desk_words.specs.Changes.{changed, changed_all, with_caller};
 ghost use Rattle.desk_words.specs.Tables.{AreTables, rows_of};
 ghost use Rattle.keeper_core.specs.Making.{AreFresh, HasRoom, IsReady, clerk_count};
@@ -22,12 +22,12 @@ pub fn change_all(tables: &mut Tables, mut fresh: Fresh, changes: List<Change>)
     }
 }
 
-/// Makes a change that all is ready for.
-fn change(tables: &mut Tables, fresh: &mut Fresh, change: Change)
+/// Makes a change that all is ready for. What was ready for the changes behind it is ready for them still.
+pub fn change(tables: &mut Tables, fresh: &mut Fresh, change: Change)
     requires { IsReady tables.old fresh.old (change ∷ []) }
     ensures rows { rows_of tables.new ≡ changed (rows_of tables.old) change }
-    ensures room { (clerks count : ℕ) → HasRoom tables.old count → AreFresh fresh.old clerks count
-        → HasRoom tables.new (count - 1) }
+    ensures room { (named : ℕ → Bool) (clerks count : ℕ) → HasRoom tables.old named count
+        → AreFresh fresh.old clerks count → HasRoom tables.new named (count - 1) }
     ensures fresh { (clerks count : ℕ) → AreFresh fresh.old (clerk_count (change ∷ []) + clerks) count
         → AreFresh fresh.new clerks count }
 {
@@ -50,8 +50,8 @@ fn change(tables: &mut Tables, fresh: &mut Fresh, change: Change)
 fn put_caller(tables: &mut Tables, fresh: &mut Fresh, place: usize, row: ClerkRow)
     requires { IsReady tables.old fresh.old (Change.Clerk place row ∷ []) }
     ensures rows { rows_of tables.new ≡ with_caller (rows_of tables.old) place row }
-    ensures room { (clerks count : ℕ) → HasRoom tables.old count → AreFresh fresh.old clerks count
-        → HasRoom tables.new (count - 1) }
+    ensures room { (named : ℕ → Bool) (clerks count : ℕ) → HasRoom tables.old named count
+        → AreFresh fresh.old clerks count → HasRoom tables.new named (count - 1) }
     ensures fresh { (clerks count : ℕ) → AreFresh fresh.old (clerks + 1) count → AreFresh fresh.new clerks count }
 {
     let clerks = tables.clerks.len();

@@ -12,7 +12,7 @@ mod lists;
 mod memory;
 mod room;
 
-pub use changing::change_all;
+pub use changing::{change, change_all};
 pub use keeper::{KeepFail, Keeper};
 pub use memory::MemKeeper;
 pub use room::{Fresh, make_room};

@@ -1,11 +1,12 @@
 //! The clerks' lists of one kind: a room for each clerk, with the rows that are that clerk's own.
-ghost use Rattle.std.specs.Prelude.{◌≡◌, ◌+◌, ◌-◌, ◌<◌, ◌≤◌, [], ◌∷◌, ◌++◌, ℕ, length, IfOk, OnOk, OnErr};
-ghost use Rattle.std.specs.List.{AllWithin};
+ghost use Rattle.std.specs.Prelude.{◌≡◌, ◌==◌, ◌+◌, ◌-◌, ◌<◌, ◌≤◌, ◌||◌, [], ◌∷◌, ◌++◌, ℕ, Bool, false, length};
+ghost use Rattle.std.specs.Prelude.{slice_get, IfOk, IfSome, MatchOption, OnOk, OnErr};
 ghost use Rattle.desk_words.specs.Changes.{put, with_clerk, with_list};
 ghost use Rattle.desk_words.specs.Tables.{list_at, lists_of};
-ghost use Rattle.keeper_core.specs.Making.{AreEmptyLists, HasPlaces, HavePlaces};
+ghost use Rattle.keeper_core.specs.Making.{AreEmptyLists, HasPlaces, HavePlaces, is_named, is_of};
 
 use desk_base::{NoMemory, Room};
+use desk_words::Change;
 use std::alloc::Global;
 
 /// Puts an item at a place, or behind the others where the place is their number. It takes no memory.
@@ -26,10 +27,11 @@ pub fn put<T: Drop>(room: &mut Room<T>, place: usize, item: T)
 pub fn put_own<T: Drop>(lists: &mut Room<Room<T>>, clerk: usize, place: usize, item: T)
     requires clerk { clerk < length lists.old.items }
     requires place { place ≤ length (list_at (lists_of lists.old) clerk) }
-    requires room { HavePlaces 1 lists.old.items }
+    requires room { IfSome (slice_get lists.old.items clerk) (λ room. 0 < room.spare) }
     ensures lists { lists_of lists.new
         ≡ with_list (lists_of lists.old) clerk (put (list_at (lists_of lists.old) clerk) place item) }
-    ensures room { (count : ℕ) → HasPlaces lists.old count → HasPlaces lists.new (count - 1) }
+    ensures room { (named : ℕ → Bool) (count : ℕ) → HasPlaces lists.old named count
+        → HasPlaces lists.new named (count - 1) }
 {
     put(lists.slot(clerk), place, item);
 }
@@ -37,10 +39,11 @@ pub fn put_own<T: Drop>(lists: &mut Room<Room<T>>, clerk: usize, place: usize, i
 /// Puts an item behind the others of a clerk's list. It takes no memory.
 pub fn push_own<T: Drop>(lists: &mut Room<Room<T>>, clerk: usize, item: T)
     requires clerk { clerk < length lists.old.items }
-    requires room { HavePlaces 1 lists.old.items }
+    requires room { IfSome (slice_get lists.old.items clerk) (λ room. 0 < room.spare) }
     ensures lists { lists_of lists.new
         ≡ with_list (lists_of lists.old) clerk (list_at (lists_of lists.old) clerk ++ item ∷ []) }
-    ensures room { (count : ℕ) → HasPlaces lists.old count → HasPlaces lists.new (count - 1) }
+    ensures room { (named : ℕ → Bool) (count : ℕ) → HasPlaces lists.old named count
+        → HasPlaces lists.new named (count - 1) }
 {
     lists.slot(clerk).push_reserved(item);
 }
@@ -55,8 +58,8 @@ pub fn add_list<T: Drop>(
     requires room { 0 < lists.old.spare }
     requires fresh { AreEmptyLists fresh.old.items 1 0 }
     ensures lists { lists_of lists.new ≡ with_clerk (lists_of lists.old) place clerks }
-    ensures room { (count : ℕ) → HasPlaces lists.old count → HavePlaces count fresh.old.items
-        → HasPlaces lists.new (count - 1) }
+    ensures room { (named : ℕ → Bool) (count : ℕ) → HasPlaces lists.old named count
+        → HavePlaces count fresh.old.items → HasPlaces lists.new named (count - 1) }
     ensures fresh { (clerks count : ℕ) → AreEmptyLists fresh.old.items (clerks + 1) count
         → AreEmptyLists fresh.new.items clerks count }
 {
@@ -66,25 +69,43 @@ pub fn add_list<T: Drop>(
     }
 }
 
-/// Makes places in the list of one clerk.
+/// Makes places in the list of one clerk, where it is there.
 fn reserve_list<T>(lists: &mut Room<Room<T>>, clerk: usize, count: usize) -> Result<(), NoMemory>
-    requires { clerk < length lists.old.items }
     ensures lists { lists_of lists.new ≡ lists_of lists.old }
-    ensures spare { lists.new.spare ≡ lists.old.spare }
-    ensures places { AllWithin (λ room. count ≤ room.spare) lists.old.items 0 clerk
-        → OnOk result (AllWithin (λ room. count ≤ room.spare) lists.new.items 0 (clerk + 1)) }
+    ensures places { (named : ℕ → Bool) → HasPlaces lists.old named count
+        → OnOk result (HasPlaces lists.new (λ one. named one || (clerk == one)) count) }
 {
-    lists.slot(clerk).reserve(count)
+    if clerk < lists.len() {
+        return lists.slot(clerk).reserve(count);
+    }
+    Ok(())
 }
 
-/// Makes places for so many clerks, and for so many rows in the list of each clerk.
-pub fn reserve_lists<T>(lists: &mut Room<Room<T>>, count: usize) -> Result<(), NoMemory>
-    ensures lists { lists_of lists.new ≡ lists_of lists.old }
-    ensures places { OnOk result (HasPlaces lists.new count) }
+/// The clerk of whose own a change puts a row.
+fn clerk_of(change: &Change) -> Option<u32>
+    ensures { MatchOption result ((one : ℕ) → is_of one change.now ≡ false)
+        (λ clerk. (one : ℕ) → is_of one change.now ≡ (clerk == one)) }
 {
+    match change {
+        Change::Session(clerk, _, _) | Change::Record(clerk, _) | Change::Batch(clerk, _) => {
+            Some(*clerk)
+        }
+        _ => None,
+    }
+}
+
+/// Makes places for as many clerks as there are changes, and for so many rows in the list of each clerk whom a
+/// change names.
+pub fn reserve_lists<T>(lists: &mut Room<Room<T>>, changes: &[Change]) -> Result<(), NoMemory>
+    ensures lists { lists_of lists.new ≡ lists_of lists.old }
+    ensures places { OnOk result (HasPlaces lists.new (is_named changes.now) (length changes.now)) }
+{
+    let count = changes.len();
     lists.reserve(count)?;
-    'clerks: for clerk in 0..lists.len() {
-        reserve_list(lists, clerk, count)?;
+    'changes: for change in changes {
+        if let Some(clerk) = clerk_of(change) {
+            reserve_list(lists, clerk as usize, count)?;
+        }
     }
     Ok(())
 }

@@ -39,11 +39,23 @@ impl MemKeeper {
         requires { AreTables (rows_of tables) }
         ensures { result ≡ record { rows = rows_of tables; schedule = record { calls = 0; fails = fails }; faults = 0 } }
     {
+        MemKeeper::after_calls(tables, fails, 0, 0)
+    }
+
+    /// The same after so many calls, of which so many failed.
+    pub fn after_calls(tables: Tables, fails: List<u64>, calls: u64, faults: u64) -> MemKeeper
+        requires { AreTables (rows_of tables) }
+        ensures { result ≡ record {
+          rows = rows_of tables;
+          schedule = record { calls = calls; fails = fails };
+          faults = faults;
+        } }
+    {
         MemKeeper {
             tables,
-            calls: 0,
+            calls,
             fails,
-            faults: 0,
+            faults,
         }
     }
 }

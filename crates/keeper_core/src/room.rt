@@ -2,7 +2,7 @@
 ghost use Rattle.std.specs.Prelude.{◌≡◌, ◌≤◌, length, IfOk, OnOk};
 ghost use Rattle.desk_words.specs.Changes.{FitAll};
 ghost use Rattle.desk_words.specs.Tables.{AreTables, rows_of};
-ghost use Rattle.keeper_core.specs.Making.{AreFresh, HasRoom, IsReady, clerk_count};
+ghost use Rattle.keeper_core.specs.Making.{AreFresh, HasRoom, IsReady, clerk_count, is_named};
 
 use crate::lists::{empty_lists, reserve_lists};
 use desk_base::{NoMemory, Room};
@@ -25,24 +25,25 @@ pub fn make_room(alloc: Global, tables: &mut Tables, changes: &[Change]) -> Resu
     ensures rows { rows_of tables.new ≡ rows_of tables.old }
     ensures ready { IfOk result (λ fresh. IsReady tables.new fresh changes.now) }
 {
-    reserve(tables, changes.len())?;
+    reserve(tables, changes)?;
     fresh_lists(alloc, clerk_count(changes), changes.len())
 }
 
-/// Makes places for so many rows in each table.
-fn reserve(tables: &mut Tables, count: usize) -> Result<(), NoMemory>
+/// Makes places for so many rows as there are changes in each table, and in the lists of the clerks whom they name.
+fn reserve(tables: &mut Tables, changes: &[Change]) -> Result<(), NoMemory>
     ensures rows { rows_of tables.new ≡ rows_of tables.old }
-    ensures room { OnOk result (HasRoom tables.new count) }
+    ensures room { OnOk result (HasRoom tables.new (is_named changes.now) (length changes.now)) }
 {
+    let count = changes.len();
     tables.clerks.reserve(count)?;
     tables.schemas.reserve(count)?;
     tables.masters.reserve(count)?;
     tables.rulebooks.reserve(count)?;
     tables.editions.reserve(count)?;
     tables.regions.reserve(count)?;
-    reserve_lists(&mut tables.sessions, count)?;
-    reserve_lists(&mut tables.records, count)?;
-    reserve_lists(&mut tables.batches, count)
+    reserve_lists(&mut tables.sessions, changes)?;
+    reserve_lists(&mut tables.records, changes)?;
+    reserve_lists(&mut tables.batches, changes)
 }
 
 /// Empty lists of each kind for so many new clerks, with places for so many rows in each.

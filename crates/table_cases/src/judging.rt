@@ -3,29 +3,20 @@ ghost use Rattle.std.specs.Prelude.{◌<◌, ◌↔◌, All, length, IsTrue};
 ghost use Rattle.desk_words.specs.Tables.{AreListsOf, AreTables, lists_of, rows_of};
 
 use crate::rows::tables;
-use desk_base::{Duplicate, Room};
+use desk_base::Room;
 use desk_cases::Case;
 use desk_valid::{Bad, Damage, valid};
 use desk_words::Tables;
 use std::alloc::Global;
 use std::test::Fail;
 
-/// `valid`, or the table and the row of the first damage. A copy of the tables has to be found the same.
+/// `valid`, or the table and the row of the first damage.
 pub fn found(alloc: Global, case: &Case) -> Result<String, Fail> {
     let tables = tables(alloc, case)?;
-    let copy = tables.copy()?;
-    let found = judged(alloc, &tables)?;
-    if judged(alloc, &copy)?.as_str() != found.as_str() {
-        return Err(Fail::new("a copy is found otherwise"));
-    }
-    Ok(found)
-}
-
-fn judged(alloc: Global, tables: &Tables) -> Result<String, Fail> {
-    if !are_tables(tables) {
+    if !are_tables(&tables) {
         return Err(Fail::new("the rows of a case are no tables"));
     }
-    match valid(alloc, tables) {
+    match valid(alloc, &tables) {
         Ok(()) => Ok(String::from_str(alloc, "valid")?),
         Err(Bad::Damaged(Damage { table, row })) => {
             Ok(format!(in alloc; "table {table} row {row}")?)

@@ -11,23 +11,50 @@ use std::test::Fail;
 /// What the calls of a case answer, with a space between: `failed`, `done` for a commit, and for a load the number of
 /// the steward's last request in the tables that were loaded. The k-th call, where it commits, makes that number k.
 pub fn answers(alloc: Global, case: &Case) -> Result<String, Fail> {
-    let tables = tables(alloc, case)?;
-    if !are_tables(&tables) {
-        return Err(Fail::new("the rows of a case are no tables"));
-    }
-    let fails = List::from_vec(case.numbers(alloc, "fails")?);
-    let mut keeper = MemKeeper::new(tables, fails);
+    let mut keeper = keeper(alloc, case)?;
     let mut answers = String::new(alloc);
     let mut number = 0u64;
     for call in case.text("calls").unwrap_or("").split_whitespace() {
         number = number.saturating_add(1);
-        let answer = answer(alloc, &mut keeper, call, number)?;
-        if number > 1 {
-            answers.push_str(" ")?;
-        }
-        answers.push_str(answer.as_str())?;
+        tell(alloc, &mut answers, &mut keeper, call, number)?;
     }
     Ok(answers)
+}
+
+/// The keeper of a case, with its tables.
+fn keeper(alloc: Global, case: &Case) -> Result<MemKeeper, Fail> {
+    let (calls, faults) = (count(alloc, case, "made")?, count(alloc, case, "failed")?);
+    let fails = List::from_vec(case.numbers(alloc, "fails")?);
+    let tables = tables(alloc, case)?;
+    if are_tables(&tables) {
+        Ok(MemKeeper::after_calls(tables, fails, calls, faults))
+    } else {
+        Err(Fail::new("the rows of a case are no tables"))
+    }
+}
+
+/// Tells what a call answers behind the others.
+fn tell(
+    alloc: Global,
+    answers: &mut String,
+    keeper: &mut MemKeeper,
+    call: &str,
+    number: u64,
+) -> Result<(), Fail> {
+    let answer = answer(alloc, keeper, call, number)?;
+    if number > 1 {
+        answers.push_str(" ")?;
+    }
+    answers.push_str(answer.as_str())?;
+    Ok(())
+}
+
+/// How many calls were made or failed before those of the case, none where it doesn't say.
+fn count(alloc: Global, case: &Case, name: &str) -> Result<u64, Fail> {
+    match case.numbers(alloc, name)?.as_slice().first() {
+        Some(count) => Ok(*count),
+        None => Ok(0),
+    }
 }
 
 /// What a call answers.

@@ -1,8 +1,10 @@
-//! Tries the cases in `data/`: tables, with the damage that is found in them, and calls of a keeper in memory.
+//! Tries the cases in `data/`: tables, with the damage that is found in them, their copies, and calls of a keeper in
+//! memory.
 //!
 //! The words are the files of cases. `docs/cases.md` says how a case is written, and the README how a row is.
 #![tactic(auto)]
 
+mod copies;
 mod fields;
 mod judging;
 mod keeping;
@@ -13,7 +15,7 @@ use desk_cases::{Case, Part, Subject, try_files};
 use std::alloc::Global;
 use std::test::Fail;
 
-/// What finds damage, and calls keepers.
+/// What finds damage, copies, and calls keepers.
 #[derive(Drop)]
 struct Desk;
 
@@ -21,6 +23,7 @@ impl Subject for Desk {
     fn answer(&mut self, alloc: Global, kind: &str, case: &Case) -> Result<Vec<Part>, Fail> {
         let found = match kind {
             "tables" => judging::found(alloc, case)?,
+            "copies" => copies::told(alloc, case)?,
             "keeper" => keeping::answers(alloc, case)?,
             _ => return Err(Fail::new("a file of cases has an unknown kind")),
         };

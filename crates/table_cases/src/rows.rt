@@ -10,7 +10,8 @@ use fix_model::Region;
 use std::alloc::Global;
 use std::test::Fail;
 
-/// The tables of a case: each part is a row, in the order of the rows, but for what is wanted and the calls of a keeper.
+/// The tables of a case: each part is a row, in the order of the rows, but for what is wanted and what a keeper is
+/// asked.
 pub fn tables(alloc: Global, case: &Case) -> Result<Tables, Fail> {
     let mut tables = Tables {
         clerks: Room::new(alloc),
@@ -40,13 +41,22 @@ fn row(alloc: Global, tables: &mut Tables, table: &str, line: &str) -> Result<()
         "rulebook" => rulebook(alloc, tables, line),
         "edition" => edition(alloc, tables, line),
         "region" => region(alloc, tables, line),
-        "wanted" | "fails" | "calls" => Ok(()),
+        "wanted" | "fails" | "calls" | "made" | "failed" => Ok(()),
         _ => own_row(alloc, tables, table, line),
     }
 }
 
-/// Name, number, act, target, and the byte that the digest repeats.
+/// A row of the clerks, with its lists.
 fn clerk(alloc: Global, tables: &mut Tables, line: &str) -> Result<(), Fail> {
+    tables.clerks.push(clerk_row(alloc, line)?)?;
+    tables.sessions.push(Room::new(alloc))?;
+    tables.records.push(Room::new(alloc))?;
+    tables.batches.push(Room::new(alloc))?;
+    Ok(())
+}
+
+/// Name, number, act, target, and the byte that the digest repeats.
+fn clerk_row(alloc: Global, line: &str) -> Result<ClerkRow, Fail> {
     let (name, line) = field(line)?;
     let (last, line) = field(line)?;
     let (done, line) = field(line)?;
@@ -54,18 +64,13 @@ fn clerk(alloc: Global, tables: &mut Tables, line: &str) -> Result<(), Fail> {
     let (Ok(last), Ok(byte)) = (last.parse(), byte.parse()) else {
         return Err(Fail::new("a clerk has a field that is no number"));
     };
-    let row = ClerkRow {
+    Ok(ClerkRow {
         name: text(alloc, name)?,
         last,
         digest: Digest { bytes: [byte; 32] },
         act: act(done)?,
         target: number(target)?,
-    };
-    tables.clerks.push(row)?;
-    tables.sessions.push(Room::new(alloc))?;
-    tables.records.push(Room::new(alloc))?;
-    tables.batches.push(Room::new(alloc))?;
-    Ok(())
+    })
 }
 
 /// Name, version and body.

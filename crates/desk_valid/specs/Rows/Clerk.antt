@@ -1,8 +1,10 @@
 -- A valid row of the clerks: the steward first, then clerks under names of their own.
 use Rattle.std.specs.Prelude.{codes, ◌≡◌, ◌≢◌, ◌↔◌, ℕ, ◌<◌, ◌≤◌, List, All, length, replicate, take, IsTrue, ⊤}
+use Rattle.desk_base.specs.declared.limits.TheConstants.{MAX_CLERKS, MAX_REQUEST}
 use Rattle.desk_base.specs.Words.{is_name}
 use Rattle.desk_words.specs.declared.rows.act.Act.{Act}
-use Rattle.desk_words.specs.declared.rows.act.Act.TheVariants.{Nothing, Clerk, Schema, Master, Rulebook, Edition, Region, Opened, Changed, Committed, Batched}
+use Rattle.desk_words.specs.declared.rows.act.Act.TheVariants.{Nothing, Clerk, Schema, Master, Rulebook, Edition}
+use Rattle.desk_words.specs.declared.rows.act.Act.TheVariants.{Region, Opened, Changed, Committed, Batched}
 use Rattle.desk_words.specs.declared.rows.clerk.ClerkRow.{ClerkRow}
 use Rattle.desk_words.specs.Tables.{Rows, list_at}
 
@@ -55,11 +57,12 @@ HasTarget rows caller Changed target = target < length (list_at rows.sessions ca
 HasTarget rows caller Committed target = target < length (list_at rows.records caller)
 HasTarget rows caller Batched target = target < length (list_at rows.batches caller)
 
--- one of at most 33 rows, under a name of its own, with the last accepted request, if there was one
+-- the steward's row or one of at most 32 more, under a name of its own, with the last accepted request, if there was
+-- one
 pub record IsClerkRow (rows : Rows) (place : ℕ) (row : ClerkRow) : Type 0 where
-  pub few : place < 33
+  pub few : place ≤ MAX_CLERKS
   pub name : IsNamedApart rows place row.name
-  pub number : row.last ≤ 999999999999
+  pub number : row.last ≤ MAX_REQUEST
   pub started : (row.last ≡ 0) ↔ (row.act ≡ Nothing)
   pub digest : row.act ≡ Nothing → row.digest.bytes ≡ replicate 32 0
   pub steward : place ≡ 0 → IsStewardsAct row.act

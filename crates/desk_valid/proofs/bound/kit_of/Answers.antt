@@ -1,9 +1,10 @@
-use Rattle.std.proofs.Common.{◌≡◌, ◌∙◌, ◌<◌, Some, length, sym, ap, arith}
+use Rattle.std.proofs.Common.{◌≡◌, ◌∙◌, ◌<◌, ◌≤◌, Some, length, sym, ap, arith}
 use Rattle.std.proofs.lemmas.Result.{IfOk-weaker}
 use Rattle.desk_words.specs.Tables.{published_of, rows_of}
+use Rattle.fix_model.specs.Entries.{entries}
 use Rattle.desk_valid.specs.Bindings.{bound_at, bound_of}
 use Rattle.desk_valid.proofs.First.{slice_get-read}
-use Rattle.desk_valid.proofs.Kits.{edition-read, known-parts}
+use Rattle.desk_valid.proofs.Kits.{bound-narrow, edition-read, known-parts}
 use Rattle.desk_valid.proofs.bound.kit_of.Goals as goal
 
 pub unreachable-requires : goal.unreachable-requires
@@ -46,3 +47,14 @@ returns-clause-bound c =
     IfOk-weaker c.bound_of.result (λ made. bound_of c.in-Some.parts row.folded ≡ Some made)
     (λ made. bound_at (published_of (rows_of c.args.tables.now)) c.args.edition ≡ Some made)
     (λ made is. known.2 ∙ is) (rw c.as_slice-2.ensures at c.bound_of.ensures.bound)
+
+pub returns-clause-narrow : goal.returns-clause-narrow
+returns-clause-narrow c =
+    let row = c.index-as_slice-edition.result in
+    let within : c.args.edition < length c.as_slice.result.now = omega
+    (arith, c.requires.edition, ap length c.as_slice.ensures) in
+    IfOk-weaker c.bound_of.result (λ made. bound_of c.in-Some.parts row.folded ≡ Some made)
+    (λ made. entries made.kit ≤ 2000000)
+    (λ made is. bound-narrow (rows_of c.args.tables.now) c.args.edition row c.in-Some.parts made c.requires.valid
+    (slice_get-read c.as_slice.ensures within c.index-as_slice-edition.is)
+    (sym c.in_ok-parts.ensures ∙ c.in-Some.is) is) (rw c.as_slice-2.ensures at c.bound_of.ensures.bound)

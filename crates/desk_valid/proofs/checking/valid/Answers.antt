@@ -1,7 +1,8 @@
 use Rattle.std.proofs.Common.{None, Some, arith}
 use Rattle.desk_words.specs.Tables.{rows_of}
 use Rattle.desk_valid.specs.FirstDamaged.{IsFirstDamaged}
-use Rattle.desk_valid.proofs.Whole.{AreValid-from, IsFirstDamage-from, IsWhole-more, number_of-most, number_of-table_at, place-fits, table_at}
+use Rattle.desk_valid.proofs.Whole.{AreValid-from, IsFirstDamage-from, IsWhole-more, number_of-most}
+use Rattle.desk_valid.proofs.Whole.{number_of-table_at, place-fits, table_at}
 use Rattle.desk_valid.proofs.checking.valid.Goals as goal
 
 pub overflow_add-result : goal.overflow_add-result

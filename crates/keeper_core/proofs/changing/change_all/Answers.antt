@@ -2,9 +2,17 @@ use Rattle.std.proofs.Common.{◌≡◌, ◌∙◌, sym, ap, subst, List, ◌∷
 use Rattle.desk_words.specs.declared.change.Change.{Change}
 use Rattle.desk_words.specs.Changes.{changed_all}
 use Rattle.desk_words.specs.Tables.{rows_of}
-use Rattle.keeper_core.proofs.Ready.{IsReady-next, reverse-push}
+use Rattle.keeper_core.proofs.Ready.{IsReady-first, IsReady-next, reverse-push}
 use Rattle.keeper_core.specs.Making.{IsReady}
 use Rattle.keeper_core.proofs.changing.change_all.Goals as goal
+
+pub change-requires : goal.change-requires
+change-requires c =
+    let others : List Change = reverse c.pop.new.self.items in
+    let turned : reverse c.left.left.items ≡ c.in-Some.next ∷ others =
+    ap reverse c.in-Some.ensures.items ∙ reverse-push c.pop.new.self.items c.in-Some.next in
+    IsReady-first c.left.tables c.left.fresh c.in-Some.next others
+    (subst (λ changes. IsReady c.left.tables c.left.fresh changes) turned c.left.invariant.ready)
 
 pub left-preserved : goal.left-preserved
 left-preserved c =

@@ -9,14 +9,17 @@ returns-then-place-clerks-clause-lists g c =
     let popped : c.args.fresh.now.items ≡ c.pop.new.self.items ++ c.unwrap-room.result ∷ [] =
     c.pop.ensures.items ∙ ap (λ last. c.pop.new.self.items ++ option_to_list last) c.unwrap-room.ensures in
     let empty : c.unwrap-room.result.items ≡ [] =
-    All-last (λ room. room.items ≡ []) c.args.fresh.now.items c.pop.new.self.items c.unwrap-room.result popped c.requires.fresh.empty in
+    All-last (λ room. room.items ≡ []) c.args.fresh.now.items c.pop.new.self.items c.unwrap-room.result popped
+    c.requires.fresh.empty in
     ap lists_of c.push_reserved.ensures ∙ lists_of-push c.args.lists.now.items c.unwrap-room.result empty
     ∙ sym (with_clerk-new (lists_of c.args.lists.now) c.args.place c.args.clerks c.if-place-clerks.true)
 
 pub returns-then-place-clerks-clause-room : goal.returns-then-place-clerks-clause-room
-returns-then-place-clerks-clause-room g c = λ count have places.
+returns-then-place-clerks-clause-room g c = λ named count have places.
     let popped : c.args.fresh.now.items ≡ c.pop.new.self.items ++ c.unwrap-room.result ∷ [] =
     c.pop.ensures.items ∙ ap (λ last. c.pop.new.self.items ++ option_to_list last) c.unwrap-room.ensures in
     let enough : count ≤ c.unwrap-room.result.spare =
-    All-last (λ room. count ≤ room.spare) c.args.fresh.now.items c.pop.new.self.items c.unwrap-room.result popped places in
-    HasPlaces-push c.args.lists.now c.push_reserved.new.self c.unwrap-room.result count c.push_reserved.ensures enough have
+    All-last (λ room. count ≤ room.spare) c.args.fresh.now.items c.pop.new.self.items c.unwrap-room.result popped
+    places in
+    HasPlaces-push c.args.lists.now c.push_reserved.new.self c.unwrap-room.result named count c.push_reserved.ensures
+    enough have

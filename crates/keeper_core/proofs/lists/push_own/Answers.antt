@@ -8,5 +8,7 @@ returns-clause-lists g c = items_of-set c.args.lists.now.items c.args.clerk c.sl
 
 pub returns-clause-room : goal.returns-clause-room
 returns-clause-room g c =
-    let spare : c.push_reserved.new.self.spare ≡ c.slot.result.now.spare - 1 = ap (λ room. room.spare) c.push_reserved.ensures in
-    HasPlaces-set c.args.lists.now c.args.clerk c.slot.result.now c.push_reserved.new.self c.slot.ensures.item (omega (arith, spare))
+    let spare : c.push_reserved.new.self.spare ≡ c.slot.result.now.spare - 1 = ap (λ room. room.spare)
+    c.push_reserved.ensures in
+    HasPlaces-set c.args.lists.now c.args.clerk c.slot.result.now c.push_reserved.new.self c.slot.ensures.item
+    (omega (arith, spare))

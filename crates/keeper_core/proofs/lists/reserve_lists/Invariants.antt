@@ -1,12 +1,11 @@
-use Rattle.std.proofs.Common.{◌≡◌, ◌≤◌}
-use Rattle.std.specs.List.{AllWithin}
+use Rattle.std.proofs.Common.{◌≡◌, take}
 use Rattle.desk_words.specs.Tables.{lists_of}
+use Rattle.keeper_core.specs.Making.{HasPlaces, is_named}
 use Rattle.keeper_core.proofs.lists.reserve_lists.Given as goal
 
--- the lists hold what they held, and the first of them have their places
-abbrev pub invariant-clerks : goal.invariant-clerks
-invariant-clerks g l = record {
+-- the lists hold what they held, and those of the clerks named so far have their places
+abbrev pub invariant-changes : goal.invariant-changes
+invariant-changes g l = record {
   lists : lists_of l.lists ≡ lists_of l.fn.lists;
-  spare : l.count ≤ l.lists.spare;
-  places : AllWithin (λ room. l.count ≤ room.spare) l.lists.items 0 l.clerk;
+  places : HasPlaces l.lists (is_named (take l.change-index l.changes)) l.count;
 }
