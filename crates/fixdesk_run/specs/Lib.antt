@@ -1,4 +1,3 @@
-pub mod Case
 pub mod Link
 pub mod Status
 pub mod Task

@@ -2,7 +2,7 @@
 use Rattle.std.specs.Prelude.{◌≡◌, ◌⊎◌, ℕ, ◌<◌, List, length, Option, codes}
 use Rattle.std.specs.Io.KnownBytes.{Appends}
 use Rattle.desk_base.specs.Faults.{AppendsPart, Rose}
-use Rattle.fixdesk_run.specs.declared.case.Case.{Case}
+use Rattle.desk_json.specs.declared.case.Case.{Case}
 use Rattle.fixdesk_run.specs.declared.reply.CaseReply.{CaseReply}
 use Rattle.fixdesk_run.specs.declared.reply.CaseReply.TheVariants as replies
 use Rattle.fixdesk_run.specs.declared.reply.CaseReply.TheVariants.{Answered}
@@ -11,9 +11,9 @@ use Rattle.fixdesk_run.specs.declared.reply.InputRefusal.TheVariants.{TooLong, N
 use Rattle.fixdesk_run.specs.declared.status.Status.{Status}
 use Rattle.fixdesk_run.specs.declared.status.Status.TheVariants.{Done, NoCommand, ReadFault, WriteFault, NoMemory}
 use Rattle.fixdesk_run.specs.declared.status.Status.TheVariants.{Refused}
-use Rattle.fixdesk_run.specs.Case.Answer.{IsAnswer}
-use Rattle.fixdesk_run.specs.Case.Shapes.{line}
-use Rattle.fixdesk_run.specs.Case.Cases.{IsCaseIn, IsNoCase, IsNotJson}
+use Rattle.desk_json.specs.Case.Answer.{IsAnswer}
+use Rattle.desk_json.specs.Shapes.{line}
+use Rattle.desk_json.specs.Case.Cases.{IsCaseIn, IsNoCase, IsNotJson}
 use Rattle.fixdesk_run.specs.Input.{most, Takes, TakesPart}
 use Rattle.fixdesk_run.specs.Link.{Link}
 
@@ -43,12 +43,12 @@ IsTold bytes text = IsAnswered bytes text ⊎ IsRefused bytes text
 
 -- what these bytes are answered with
 abbrev pub IsReplyTo : List ℕ → CaseReply → Type 0
-IsReplyTo bytes (Answered text) = IsAnswered bytes text.items
+IsReplyTo bytes (Answered text) = IsAnswered bytes text
 IsReplyTo bytes (replies.Refused refusal) = IsRefusalOf bytes refusal
 
 -- the text of a reply
 abbrev pub reply_text : CaseReply → List ℕ
-reply_text (Answered text) = text.items
+reply_text (Answered text) = text
 reply_text (replies.Refused refusal) = refusal_line refusal
 
 -- the status that it is told with

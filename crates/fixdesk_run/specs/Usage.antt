@@ -5,7 +5,7 @@ use Rattle.desk_base.specs.Faults.{AppendsPart, Rose}
 use Rattle.fixdesk_run.specs.declared.status.Status.{Status}
 use Rattle.fixdesk_run.specs.declared.status.Status.TheVariants.{Done, NoCommand, ReadFault, WriteFault, NoMemory}
 use Rattle.fixdesk_run.specs.declared.status.Status.TheVariants.{Refused}
-use Rattle.fixdesk_run.specs.Case.Shapes.{line}
+use Rattle.desk_json.specs.Shapes.{line}
 use Rattle.fixdesk_run.specs.Link.{Link, IsUnread}
 
 -- the line that they are answered with

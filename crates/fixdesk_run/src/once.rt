@@ -1,11 +1,9 @@
 //! The command `once`, which answers the case that it is given.
-ghost use Rattle.std.specs.Prelude.{◌≡◌, ◌≤◌, length, IfOk};
+ghost use Rattle.std.specs.Prelude.{◌≡◌, ◌≤◌, length, Some, IfOk};
 ghost use Rattle.fix_model.specs.States.{Fits};
 ghost use Rattle.fix_model.specs.Valid.{IsValid};
-ghost use Rattle.fixdesk_run.specs.declared.case.Case.{Case as CaseOf};
-ghost use Rattle.fix_engine.specs.Verdicts as engine;
-ghost use Rattle.fixdesk_run.specs.Case.Answer.{IsAnswer, answer_line};
-ghost use Rattle.fixdesk_run.specs.Case.Cases.{PartsFit};
+ghost use Rattle.desk_json.specs.Case.Answer.{IsAnswer};
+ghost use Rattle.desk_json.specs.Case.Cases.{PartsFit};
 ghost use Rattle.fixdesk_run.specs.Input.{most};
 ghost use Rattle.fixdesk_run.specs.Link.{seen};
 ghost use Rattle.fixdesk_run.specs.Once.{IsReplyTo, EndsOnce};
@@ -13,16 +11,14 @@ ghost use Rattle.fixdesk_run.specs.Run.{IsFaultless, TakesText};
 ghost use Rattle.fixdesk_run.specs.Status.{status_code};
 ghost use Rattle.fixdesk_run.specs.declared.task.Task.TheVariants.{Once};
 
-use crate::case::Case;
-use crate::case::answer::{conflict_line, fix_line};
-use crate::case::read::{CaseFault, case_of};
 use crate::input::{InputFault, MOST, input_of};
 use crate::reply::{CaseReply, InputRefusal};
 use crate::status::Status;
-use desk_base::{Both, Failed, NoMemory, Sink, Source, Steps, Text, write_all};
-use fix_engine::{Verdict, Work, apply, decide};
+use desk_base::{Both, Failed, List, NoMemory, Sink, Source, Steps, Text, write_all};
+use desk_json::{Case, CaseFault, case_of, case_text};
+use fix_engine::{Work, decide};
 use fix_model::{Book, ListBook, State};
-use std::alloc::{AllocError, Global};
+use std::alloc::Global;
 
 /// What the bytes that were taken are answered with.
 pub fn reply_to(alloc: Global, bytes: &[u8]) -> Result<CaseReply, NoMemory>
@@ -41,10 +37,10 @@ pub fn reply_to(alloc: Global, bytes: &[u8]) -> Result<CaseReply, NoMemory>
 }
 
 /// The text that answers a case.
-fn answer_to(alloc: Global, case: Case) -> Result<Vec<u8>, NoMemory>
+fn answer_to(alloc: Global, case: Case) -> Result<List<u8>, NoMemory>
     requires valid { IsValid case.kit }
     requires fits { PartsFit case }
-    ensures { IfOk result (λ text. IsAnswer case text.items) }
+    ensures { IfOk result (λ text. IsAnswer case text) }
 {
     let Case {
         attributes,
@@ -61,50 +57,16 @@ pub fn answer_over<B: Book<()>>(
     attributes: &[Text],
     book: &B,
     mut state: State,
-) -> Result<Vec<u8>, NoMemory>
+) -> Result<List<u8>, NoMemory>
     requires named { length attributes.now ≡ (B.kit book.now).width }
     requires fits { Fits (B.kit book.now) state }
     ensures { IfOk result (λ text.
-        IsAnswer (record { attributes = attributes.now; kit = B.kit book.now; state = state }) text.items) }
+        IsAnswer (record { attributes = attributes.now; kit = B.kit book.now; state = state }) text) }
 {
     let mut work = Work::new(alloc, book.width(), book.rules().len() as u16)?;
     let mut steps = Steps::new(());
     let verdict = decide(&mut work, book, &mut state, &mut steps);
-    Ok(line_over::<B>(alloc, attributes, book, state, &work, verdict)?)
-}
-
-/// The line that shows the verdict of the state, with the runs that the work has.
-fn line_over<B: Book<()>>(
-    alloc: Global,
-    attributes: &[Text],
-    book: &B,
-    mut state: State,
-    work: &Work,
-    verdict: Verdict,
-) -> Result<Vec<u8>, AllocError>
-    requires valid { IsValid (B.kit book.now) }
-    requires named { length attributes.now ≡ (B.kit book.now).width }
-    requires fits { Fits (B.kit book.now) state }
-    requires decided { engine.IsAnswer (B.kit book.now) state work.now.first work.now.second verdict }
-    ensures { IfOk result (λ text. text.items
-        ≡ answer_line (record { attributes = attributes.now; kit = B.kit book.now; state = state })
-        work.now.first work.now.second verdict) }
-{
-    match verdict {
-        Verdict::Fix { certain, dissent } => {
-            apply::<(), B>(book, &mut state, work.first());
-            fix_line::<(), B>(
-                alloc,
-                attributes,
-                book,
-                &state,
-                work.first(),
-                certain,
-                dissent,
-            )
-        }
-        Verdict::Conflict => conflict_line(alloc, work.first(), work.second()),
-    }
+    case_text::<B>(alloc, attributes, book, &state, &work, &verdict)
 }
 
 /// Answers the case that the link has left.

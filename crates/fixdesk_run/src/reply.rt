@@ -3,6 +3,7 @@ ghost use Rattle.std.specs.Prelude.{◌≡◌};
 ghost use Rattle.fixdesk_run.specs.Once.{refusal_line, reply_text, reply_status};
 
 use crate::status::Status;
+use desk_base::List;
 
 /// Why an input is refused.
 #[derive(Clone, Copy, Debug, PartialEq, Eq)]
@@ -32,7 +33,7 @@ impl InputRefusal {
 #[derive(Debug, Drop)]
 pub enum CaseReply {
     /// The answer to the case that it is.
-    Answered(Vec<u8>),
+    Answered(List<u8>),
     /// It is refused.
     Refused(InputRefusal),
 }

@@ -1,11 +1,13 @@
 //! The answer to a case over the indexes of its masters.
-use fixdesk_run::{Case, answer_over, case_of};
+use desk_base::List;
+use desk_json::{Case, case_of};
+use fixdesk_run::answer_over;
 use master_index::{MapBook, SortedBook};
 use std::alloc::Global;
 use std::test::Fail;
 
 /// The line that answers the case of an input over a map of its masters.
-pub fn line_over_map(alloc: Global, input: &[u8]) -> Result<Vec<u8>, Fail> {
+pub fn line_over_map(alloc: Global, input: &[u8]) -> Result<List<u8>, Fail> {
     let Case {
         attributes,
         kit,
@@ -16,7 +18,7 @@ pub fn line_over_map(alloc: Global, input: &[u8]) -> Result<Vec<u8>, Fail> {
 }
 
 /// The line that answers the case of an input over a sorted index of its masters.
-pub fn line_over_sorted(alloc: Global, input: &[u8]) -> Result<Vec<u8>, Fail> {
+pub fn line_over_sorted(alloc: Global, input: &[u8]) -> Result<List<u8>, Fail> {
     let Case {
         attributes,
         kit,

@@ -20,4 +20,5 @@ returns-in_err-extend_from_slice-clause-part g c =
 
 -- a steady source does not fail
 pub returns-in_err-count-clause-steady : goal.returns-in_err-count-clause-steady
-returns-in_err-count-clause-steady g c steady failed = let ok = (c.in_err-count.ensures.steady (c.pieces.invariant.steady steady)).0 in cc
+returns-in_err-count-clause-steady g c steady failed = let ok = (c.in_err-count.ensures.steady
+    (c.pieces.invariant.steady steady)).0 in cc

@@ -24,11 +24,13 @@ pub returns-clause-complete : goal.returns-clause-complete
 returns-clause-complete g c steady takes =
     let reply = c.in-Ok-reply_to.reply in
     let is : IsReplyTo c.in-Ok.bytes.items reply = rw c.as_slice.ensures.value at c.in-Ok-reply_to.ensures in
-    let due : IsDue IsTold (g.S.Source.left c.args.link.now.source) (g.S.Source.left c.input_of.new.input) c.text.result.now = record {
+    let due : IsDue IsTold (g.S.Source.left c.args.link.now.source) (g.S.Source.left c.input_of.new.input)
+    c.text.result.now = record {
       bytes = c.in-Ok.bytes.items;
       taken = c.in-Ok.ensures.taken;
       answer = rw c.text.ensures (IsReplyTo-text _ reply is);
     } in
     let enough : length c.text.result.now ≤ length c.text.result.now = omega arith in
-    let ok = (c.in-Err-write_all.ensures.takes (length c.text.result.now) (takes c.text.result.now (_, due)) enough).0 in
+    let ok = (c.in-Err-write_all.ensures.takes (length c.text.result.now) (takes c.text.result.now (_, due)) enough).0
+    in
     absurd cc

@@ -8,7 +8,8 @@ only_once : (task : Task) → task ≡ Once
 only_once Once = refl
 
 pub returns-in-Some-Once-clause-complete : goal.returns-in-Some-Once-clause-complete
-returns-in-Some-Once-clause-complete g c = rw (c.in-Some-Once.is, only_once c.in-Some-Once.field-0) c.once.ensures.complete
+returns-in-Some-Once-clause-complete g c = rw (c.in-Some-Once.is, only_once c.in-Some-Once.field-0)
+    c.once.ensures.complete
 
 -- the usage line is the one text that is due
 pub returns-in-None-clause-complete : goal.returns-in-None-clause-complete

@@ -1,0 +1,155 @@
+-- What is printed holds no float.
+use Rattle.std.proofs.Common.{◌≡◌, ℕ, Bool, List, [], ◌∷◌, map, false, refl}
+use Rattle.std.specs.Prelude.{Option, Some, None}
+use Rattle.serde_json.specs.Data.{Data, string}
+use Rattle.serde_json.specs.View.{items_of}
+use Rattle.serde_json.specs.Written.{has_float, items_have_float}
+use Rattle.desk_words.specs.declared.made.Made.{Made}
+use Rattle.desk_words.specs.declared.made.Made.TheVariants as mades
+use Rattle.desk_words.specs.declared.refusal.Refusal.{Refusal}
+use Rattle.desk_words.specs.declared.refusal.Refusal.TheVariants as refusals
+use Rattle.desk_words.specs.declared.reply.Reply.{Reply}
+use Rattle.desk_words.specs.declared.reply.Reply.TheVariants as replies
+use Rattle.desk_words.specs.declared.reply.Suggested.{Suggested}
+use Rattle.desk_words.specs.declared.view.Outcome.{Outcome}
+use Rattle.desk_words.specs.declared.view.Outcome.TheVariants as outcomes
+use Rattle.desk_words.specs.declared.view.Shown.{Shown}
+use Rattle.desk_words.specs.declared.view.Shown.TheVariants as shown
+use Rattle.desk_words.specs.declared.view.View.{View}
+use Rattle.desk_words.specs.declared.view.ViewCell.{ViewCell}
+use Rattle.fix_model.specs.declared.kit.Kit.{Kit}
+use Rattle.fix_model.specs.declared.state.Cell.{Cell}
+use Rattle.fix_model.specs.declared.state.Cell.TheVariants.{Uncovered, Confirmed, Fixed}
+use Rattle.fix_model.specs.declared.state.State.{State}
+use Rattle.fix_model.specs.declared.state.Step.{Step}
+use Rattle.desk_json.specs.Case.Answer as case
+use Rattle.desk_json.specs.Faults.{fault_shown}
+use Rattle.desk_json.specs.Refusals.{refusal_shown}
+use Rattle.desk_json.specs.Replies.{batched_shown, committed_shown, gain_shown, made_shown, offer_shown}
+use Rattle.desk_json.specs.Replies.{reply_shown, suggested_shown}
+use Rattle.desk_json.specs.Shapes.{list_of}
+use Rattle.desk_json.specs.Viewed.{cell_shown, outcome_shown, step_shown, view_cell_shown, view_shown}
+use Rattle.desk_json.specs.declared.fault.JsonFault.{JsonFault}
+use Rattle.desk_json.specs.declared.fault.JsonFault.TheVariants as faults
+
+-- no item that is made has a float, where none is made with one
+items_have_float-map : {A : Type 0} (shown : A → Data) → ((x : A) → has_float (shown x) ≡ false) → (xs : List A)
+    → items_have_float (items_of (map shown xs)) ≡ false
+items_have_float-map shown none [] = refl
+items_have_float-map shown none (x ∷ xs) = rw (none x) (items_have_float-map shown none xs)
+
+-- a cell of a case has no float
+has_float-cell : (cell : Cell) (name text : List ℕ) → has_float (case.cell_shown cell name text) ≡ false
+has_float-cell Uncovered name text = refl
+has_float-cell Confirmed name text = refl
+has_float-cell (Fixed step) name text = refl
+
+-- nor has a run
+has_float-run : (run : List Step) → has_float (case.run_shown run) ≡ false
+has_float-run = items_have_float-map case.step_shown (λ step. refl)
+
+-- nor have the cells of a state
+has_float-cells : (attributes : List (List ℕ)) (kit : Kit) (end : State)
+    → has_float (list_of (case.cells_shown attributes kit end)) ≡ false
+has_float-cells attributes kit end =
+    items_have_float-map (case.attribute_shown attributes kit end) (λ attribute. has_float-cell _ _ _) _
+
+-- a fix has no float
+pub has_float-fix_shown : (attributes : List (List ℕ)) (kit : Kit) (end : State) (certain : Bool)
+    (dissent : Option Step) (first : List Step)
+    → has_float (case.fix_shown (list_of (case.cells_shown attributes kit end)) certain (case.dissent_shown dissent)
+    (case.run_shown first)) ≡ false
+has_float-fix_shown attributes kit end certain None first =
+    rw (has_float-cells attributes kit end, has_float-run first) refl
+has_float-fix_shown attributes kit end certain (Some step) first =
+    rw (has_float-cells attributes kit end, has_float-run first) refl
+
+-- nor has a conflict
+pub has_float-conflict_shown : (first second : List Step)
+    → has_float (case.conflict_shown (case.run_shown first) (case.run_shown second)) ≡ false
+has_float-conflict_shown first second = rw (has_float-run first, has_float-run second) refl
+
+-- a cell of a session has no float
+has_float-cell_shown : (name value : List ℕ) (how : Shown) → has_float (cell_shown name value how) ≡ false
+has_float-cell_shown name value shown.Uncovered = refl
+has_float-cell_shown name value shown.Confirmed = refl
+has_float-cell_shown name value (shown.Fixed rule master row) = refl
+
+cells_have_no_float : (cells : List ViewCell) → items_have_float (items_of (map view_cell_shown cells)) ≡ false
+cells_have_no_float =
+    items_have_float-map view_cell_shown (λ cell. has_float-cell_shown cell.name cell.value cell.shown)
+
+steps_have_no_float : (run : List (List ℕ × ℕ)) → items_have_float (items_of (map step_shown run)) ≡ false
+steps_have_no_float = items_have_float-map step_shown (λ step. refl)
+
+-- nor has a session
+has_float-outcome_shown : (session : View) (outcome : Outcome) → has_float (outcome_shown session outcome) ≡ false
+has_float-outcome_shown session (outcomes.Fix certain None) =
+    rw (cells_have_no_float session.cells, steps_have_no_float session.first) refl
+has_float-outcome_shown session (outcomes.Fix certain (Some step)) =
+    rw (cells_have_no_float session.cells, steps_have_no_float session.first) refl
+has_float-outcome_shown session (outcomes.Conflict second) =
+    rw (cells_have_no_float session.cells, steps_have_no_float session.first, steps_have_no_float second) refl
+
+has_float-made_shown : (made : Made) → has_float (made_shown made) ≡ false
+has_float-made_shown (mades.Clerk name) = refl
+has_float-made_shown (mades.Schema name version) = refl
+has_float-made_shown (mades.Master name version) = refl
+has_float-made_shown (mades.Rulebook name version) = refl
+has_float-made_shown (mades.Edition name version) = refl
+has_float-made_shown (mades.Region region certain partial conflict) = refl
+
+has_float-suggested_shown : (suggested : Suggested) → has_float (suggested_shown suggested) ≡ false
+has_float-suggested_shown suggested = rw (
+  items_have_float-map gain_shown (λ gain. refl) suggested.gains,
+  items_have_float-map string (λ name. refl) suggested.need,
+  items_have_float-map offer_shown (λ offer. refl) suggested.regions,
+) refl
+
+has_float-refusal_shown : (refusal : Refusal) → has_float (refusal_shown refusal) ≡ false
+has_float-refusal_shown refusals.NoClerk = refl
+has_float-refusal_shown (refusals.Stale last) = refl
+has_float-refusal_shown (refusals.Gap last) = refl
+has_float-refusal_shown (refusals.Reused last) = refl
+has_float-refusal_shown (refusals.NoSuch kind) = refl
+has_float-refusal_shown (refusals.Closed stage) = refl
+has_float-refusal_shown (refusals.UnknownAttr name) = refl
+has_float-refusal_shown (refusals.ValueLong name) = refl
+has_float-refusal_shown (refusals.NotCertain uncovered) = refl
+has_float-refusal_shown refusals.InConflict = refl
+has_float-refusal_shown (refusals.NotConfirmed name) = refl
+has_float-refusal_shown (refusals.Limit which most) = refl
+has_float-refusal_shown (refusals.BadText reader code first second) = refl
+has_float-refusal_shown refusals.Unavailable = refl
+has_float-refusal_shown refusals.NoMemory = refl
+has_float-refusal_shown (refusals.Twice name) = refl
+has_float-refusal_shown (refusals.Taken name) = refl
+has_float-refusal_shown (refusals.BadName name) = refl
+has_float-refusal_shown (refusals.RowWidth row) = refl
+
+-- the fault of a body has no float
+pub has_float-fault_shown : (fault : JsonFault) → has_float (fault_shown fault) ≡ false
+has_float-fault_shown faults.NotJson = refl
+has_float-fault_shown (faults.Missing key) = refl
+has_float-fault_shown (faults.WrongKind key) = refl
+has_float-fault_shown (faults.Unknown key) = refl
+has_float-fault_shown faults.NoMemory = refl
+
+-- what a reply is shown as has no float
+pub has_float-reply_shown : (reply : Reply) (value : Data) → Some value ≡ reply_shown reply → has_float value ≡ false
+has_float-reply_shown (replies.Made made) value is =
+    let same : value ≡ made_shown made = cc in rw same (has_float-made_shown made)
+has_float-reply_shown (replies.Opened session) value is =
+    let same : value ≡ view_shown session = cc in rw same (has_float-outcome_shown session session.outcome)
+has_float-reply_shown (replies.View session) value is =
+    let same : value ≡ view_shown session = cc in rw same (has_float-outcome_shown session session.outcome)
+has_float-reply_shown (replies.Committed number session certain) value is =
+    let same : value ≡ committed_shown number session certain = cc in rw same refl
+has_float-reply_shown (replies.Batched batch) value is =
+    let same : value ≡ batched_shown batch = cc in rw same refl
+has_float-reply_shown (replies.Suggested suggested) value is =
+    let same : value ≡ suggested_shown suggested = cc in rw same (has_float-suggested_shown suggested)
+has_float-reply_shown (replies.Report sheet) value is = absurd cc
+has_float-reply_shown (replies.Records sheet) value is = absurd cc
+has_float-reply_shown (replies.Refused refusal) value is =
+    let same : value ≡ refusal_shown refusal = cc in rw same (has_float-refusal_shown refusal)

@@ -1,0 +1,5 @@
+pub mod Floats
+pub mod Keys
+pub mod Reading
+pub mod Showing
+pub mod Values

@@ -1,0 +1,14 @@
+-- Abandon: `{}`.
+use Rattle.std.specs.Prelude.{ℕ, List, [], Ok}
+use Rattle.desk_words.specs.declared.clerk_work.ClerkWork.{ClerkWork}
+use Rattle.desk_words.specs.declared.clerk_work.ClerkWork.TheVariants.{Abandon}
+use Rattle.desk_json.specs.Body.{object_in}
+use Rattle.desk_json.specs.Checked.{Checked, ◌>>=◌}
+
+abbrev pub keys : List (List ℕ)
+keys = []
+
+abbrev pub abandon : ℕ → List ℕ → Checked ClerkWork
+abandon session body = do
+  fields ← object_in keys body
+  Ok (Abandon session)

@@ -1,0 +1,19 @@
+-- AddEdition: `{"folded":[string],"masters":[[string,number]],"rulebook":[string,number]}`. `folded` may be left out.
+use Rattle.std.specs.Prelude.{ℕ, List, [], ◌∷◌, codes, Ok}
+use Rattle.desk_words.specs.declared.steward_work.StewardWork.{StewardWork}
+use Rattle.desk_words.specs.declared.steward_work.StewardWork.TheVariants.{AddEdition}
+use Rattle.desk_json.specs.Body.{object_in, at_key, at_key_or}
+use Rattle.desk_json.specs.Checked.{Checked, ◌>>=◌}
+use Rattle.desk_json.specs.Forms.{strings_in, version_in}
+use Rattle.desk_json.specs.Parts.{list_in}
+
+abbrev pub keys : List (List ℕ)
+keys = codes "folded" ∷ codes "masters" ∷ codes "rulebook" ∷ []
+
+abbrev pub add_edition : List ℕ → List ℕ → Checked StewardWork
+add_edition name body = do
+  fields ← object_in keys body
+  masters ← at_key (codes "masters") (list_in version_in) fields
+  rulebook ← at_key (codes "rulebook") version_in fields
+  folded ← at_key_or (codes "folded") strings_in [] fields
+  Ok (AddEdition name rulebook masters folded)

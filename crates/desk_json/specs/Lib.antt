@@ -1,0 +1,13 @@
+pub mod Parts
+pub mod Forms
+pub mod Shapes
+pub mod Checked
+pub mod Body
+pub mod Bodies
+pub mod Commands
+pub mod Words
+pub mod Viewed
+pub mod Replies
+pub mod Refusals
+pub mod Faults
+pub mod Case

@@ -1,0 +1,86 @@
+-- How a reply is printed (docs/api.md, Replies).
+use Rattle.std.specs.Prelude.{ℕ, List, [], ◌∷◌, map, Bool, Option, Some, None, codes}
+use Rattle.serde_json.specs.Data.{Data, boolean, string}
+use Rattle.desk_words.specs.declared.made.Batched.{Batched}
+use Rattle.desk_words.specs.declared.made.Made.{Made}
+use Rattle.desk_words.specs.declared.made.Made.TheVariants.{Clerk, Schema, Master, Rulebook, Edition, Region}
+use Rattle.desk_words.specs.declared.reply.Reply.{Reply}
+use Rattle.desk_words.specs.declared.reply.Reply.TheVariants as replies
+use Rattle.desk_words.specs.declared.reply.Suggested.{Suggested}
+use Rattle.desk_json.specs.Refusals.{refusal_shown}
+use Rattle.desk_json.specs.Shapes.{list_of, object_of, whole}
+use Rattle.desk_json.specs.Viewed.{view_shown}
+
+-- what was made, with its name
+abbrev pub name_shown : List ℕ → List ℕ → Data
+name_shown made name = object_of ((codes "made", string made) ∷ (codes "name", string name) ∷ [])
+
+-- what was made, with its name and version
+abbrev pub version_shown : List ℕ → List ℕ → ℕ → Data
+version_shown made name version = object_of (
+    (codes "made", string made) ∷ (codes "name", string name) ∷ (codes "version", whole version) ∷ [])
+
+-- a region, with the number of its rows of each verdict
+abbrev pub region_shown : ℕ → ℕ → ℕ → ℕ → Data
+region_shown region certain partial conflict = object_of (
+    (codes "certain", whole certain)
+    ∷ (codes "conflict", whole conflict)
+    ∷ (codes "made", string (codes "region"))
+    ∷ (codes "partial", whole partial)
+    ∷ (codes "region", whole region)
+    ∷ [])
+
+-- what the steward made
+abbrev pub made_shown : Made → Data
+made_shown (Clerk name) = name_shown (codes "clerk") name
+made_shown (Schema name version) = version_shown (codes "schema") name version
+made_shown (Master name version) = version_shown (codes "master") name version
+made_shown (Rulebook name version) = version_shown (codes "rulebook") name version
+made_shown (Edition name version) = version_shown (codes "edition") name version
+made_shown (Region region certain partial conflict) = region_shown region certain partial conflict
+
+-- a record that was kept
+abbrev pub committed_shown : ℕ → ℕ → Bool → Data
+committed_shown number session certain = object_of (
+    (codes "certain", boolean certain) ∷ (codes "record", whole number) ∷ (codes "session", whole session) ∷ [])
+
+-- a batch
+abbrev pub batched_shown : Batched → Data
+batched_shown batch = object_of (
+    (codes "batch", whole batch.batch)
+    ∷ (codes "certain", whole batch.certain)
+    ∷ (codes "conflict", whole batch.conflict)
+    ∷ (codes "first", whole batch.first)
+    ∷ (codes "partial", whole batch.partial)
+    ∷ (codes "rows", whole batch.rows)
+    ∷ [])
+
+-- a region with its row: `[region,row]`
+abbrev pub offer_shown : ℕ × ℕ → Data
+offer_shown offer = list_of (whole offer.0 ∷ whole offer.1 ∷ [])
+
+-- an attribute with its gain: `[name,gain]`
+abbrev pub gain_shown : List ℕ × ℕ → Data
+gain_shown gain = list_of (string gain.0 ∷ whole gain.1 ∷ [])
+
+-- a suggestion, from its lists of gains, of what is needed and of offered regions
+abbrev pub lists_shown : Data → Data → Data → Data
+lists_shown gains need regions =
+    object_of ((codes "gains", gains) ∷ (codes "need", need) ∷ (codes "regions", regions) ∷ [])
+
+-- a suggestion
+abbrev pub suggested_shown : Suggested → Data
+suggested_shown suggested = lists_shown (list_of (map gain_shown suggested.gains))
+    (list_of (map string suggested.need)) (list_of (map offer_shown suggested.regions))
+
+-- a reply; a report and records are no JSON
+abbrev pub reply_shown : Reply → Option Data
+reply_shown (replies.Made made) = Some (made_shown made)
+reply_shown (replies.Opened session) = Some (view_shown session)
+reply_shown (replies.View session) = Some (view_shown session)
+reply_shown (replies.Committed number session certain) = Some (committed_shown number session certain)
+reply_shown (replies.Batched batch) = Some (batched_shown batch)
+reply_shown (replies.Suggested suggested) = Some (suggested_shown suggested)
+reply_shown (replies.Report sheet) = None
+reply_shown (replies.Records sheet) = None
+reply_shown (replies.Refused refusal) = Some (refusal_shown refusal)

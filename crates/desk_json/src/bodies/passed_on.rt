@@ -1,0 +1,57 @@
+//! The commands whose bodies are TOML, CSV or rule text, which are passed on as they stand.
+ghost use Rattle.std.specs.Prelude.{◌≡◌, IfOk};
+ghost use Rattle.desk_words.specs.declared.clerk_work.ClerkWork.TheVariants as clerk_works;
+ghost use Rattle.desk_words.specs.declared.steward_work.StewardWork.TheVariants as steward_works;
+
+use desk_base::{Duplicate, List, NoMemory, Str};
+use desk_words::{ClerkWork, StewardWork};
+use std::alloc::Global;
+
+fn bytes(alloc: Global, body: &[u8]) -> Result<List<u8>, NoMemory>
+    ensures { IfOk result (λ made. made ≡ body.now) }
+{
+    Ok(List::from_vec(Vec::from_slice(alloc, body)?))
+}
+
+pub fn add_schema(alloc: Global, body: &[u8]) -> Result<StewardWork, NoMemory>
+    ensures { IfOk result (λ work. work ≡ steward_works.AddSchema body.now) }
+{
+    Ok(StewardWork::AddSchema {
+        body: bytes(alloc, body)?,
+    })
+}
+
+pub fn add_master(alloc: Global, name: &Str, body: &[u8]) -> Result<StewardWork, NoMemory>
+    ensures { IfOk result (λ work. work ≡ steward_works.AddMaster name.now body.now) }
+{
+    Ok(StewardWork::AddMaster {
+        name: name.copy()?,
+        body: bytes(alloc, body)?,
+    })
+}
+
+pub fn add_rulebook(
+    alloc: Global,
+    name: &Str,
+    schema: &Str,
+    version: u32,
+    body: &[u8],
+) -> Result<StewardWork, NoMemory>
+    ensures { IfOk result (λ work. work ≡ steward_works.AddRulebook name.now schema.now version body.now) }
+{
+    Ok(StewardWork::AddRulebook {
+        name: name.copy()?,
+        schema: schema.copy()?,
+        version,
+        body: bytes(alloc, body)?,
+    })
+}
+
+pub fn batch(alloc: Global, edition: &Str, body: &[u8]) -> Result<ClerkWork, NoMemory>
+    ensures { IfOk result (λ work. work ≡ clerk_works.Batch edition.now body.now) }
+{
+    Ok(ClerkWork::Batch {
+        edition: edition.copy()?,
+        body: bytes(alloc, body)?,
+    })
+}

@@ -1,0 +1,54 @@
+//! Why a body, or a part of one, is not read.
+ghost use Rattle.std.specs.Prelude.{◌≡◌};
+ghost use Rattle.desk_json.specs.declared.fault.JsonFault.TheVariants as json_faults;
+ghost use Rattle.desk_json.specs.declared.fault.PartFault.TheVariants as part_faults;
+
+use desk_base::{NoMemory, Str};
+use thiserror::Error;
+
+/// Why a body is not read as its command.
+#[derive(Debug, Drop, Error)]
+pub enum JsonFault {
+    /// The body is no JSON.
+    #[error("the body is no JSON")]
+    NotJson,
+    /// This key is not there.
+    #[error("a key is missing")]
+    Missing(Str),
+    /// The value at this key has not the form that is wanted. The key is empty where the body is no object.
+    #[error("a value has not the form that is wanted")]
+    WrongKind(Str),
+    /// The body has this key, which is none of those that it may have.
+    #[error("a key is unknown")]
+    Unknown(Str),
+    /// There was no memory.
+    #[error("there was no memory")]
+    NoMemory,
+}
+
+impl From<NoMemory> for JsonFault {
+    ghost from_gives = { λ _ fault. fault ≡ json_faults.NoMemory };
+
+    fn from(_want: NoMemory) -> JsonFault {
+        JsonFault::NoMemory
+    }
+}
+
+/// Why a value is not read as a part of a case or of a body.
+#[derive(Clone, Copy, Debug, PartialEq, Eq, Error)]
+pub enum PartFault {
+    /// The value has not the form of the part.
+    #[error("the value has not the form that is wanted")]
+    WrongForm,
+    /// There was no memory.
+    #[error("there was no memory")]
+    NoMemory,
+}
+
+impl From<NoMemory> for PartFault {
+    ghost from_gives = { λ _ fault. fault ≡ part_faults.NoMemory };
+
+    fn from(_want: NoMemory) -> PartFault {
+        PartFault::NoMemory
+    }
+}

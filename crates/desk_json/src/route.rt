@@ -1,0 +1,84 @@
+//! Where a request goes.
+use desk_base::Str;
+
+/// The route of a request, with its parameters: the number `n` of a write among its caller's, and the names and numbers
+/// of what it is about (docs/api.md).
+#[derive(Debug, Drop)]
+pub enum Route {
+    AddClerk {
+        n: u64,
+    },
+    AddSchema {
+        n: u64,
+    },
+    AddMaster {
+        n: u64,
+        name: Str,
+    },
+    AddRulebook {
+        n: u64,
+        name: Str,
+        schema: Str,
+        version: u32,
+    },
+    AddEdition {
+        n: u64,
+        name: Str,
+    },
+    AddRegion {
+        n: u64,
+        edition: Str,
+        version: u32,
+    },
+    Enter {
+        clerk: Str,
+        n: u64,
+        edition: Str,
+    },
+    Confirm {
+        clerk: Str,
+        n: u64,
+        session: u32,
+    },
+    Withdraw {
+        clerk: Str,
+        n: u64,
+        session: u32,
+    },
+    Commit {
+        clerk: Str,
+        n: u64,
+        session: u32,
+    },
+    Abandon {
+        clerk: Str,
+        n: u64,
+        session: u32,
+    },
+    Batch {
+        clerk: Str,
+        n: u64,
+        edition: Str,
+    },
+    View {
+        clerk: Str,
+        session: u32,
+    },
+    Suggest {
+        clerk: Str,
+        session: u32,
+    },
+    Preview {
+        clerk: Str,
+        session: u32,
+    },
+    Report {
+        clerk: Str,
+    },
+    Records {
+        clerk: Str,
+        edition: Str,
+        version: u32,
+    },
+    DeskReport,
+}

@@ -1,0 +1,93 @@
+//! The text of records.
+ghost use Rattle.std.specs.Prelude.{◌≡◌, ℕ, List, [], ◌∷◌, ◌++◌, IfOk, OnOk};
+ghost use Rattle.desk_sheets.specs.Records.{IsFull, certain_word, fields_of, records_text};
+ghost use Rattle.desk_sheets.specs.Writing.{HasWritten, bytes_of};
+
+use csv::{Writer, WriterBuilder};
+use desk_base::{List, NoMemory, Text};
+use desk_words::{RecordLine, RecordSheet};
+use std::alloc::Global;
+
+/// The text of records: a header and a row for each, as CSV (docs/formats.md, *Reports and records*).
+pub fn records_text(alloc: Global, sheet: &RecordSheet) -> Result<List<u8>, NoMemory>
+    requires full { IsFull sheet.now }
+    ensures { IfOk result (λ text. text ≡ records_text sheet.now) }
+{
+    let mut writer = WriterBuilder::new().from_writer(Vec::new(alloc));
+    let header = fields(
+        alloc,
+        "record",
+        "session",
+        "certain",
+        sheet.attributes.as_slice(),
+    )?;
+    write(&mut writer, header.as_slice())?;
+    'lines: for line in sheet.lines.as_slice() {
+        write_line(alloc, &mut writer, line)?;
+    }
+    match writer.into_inner() {
+        Ok(bytes) => Ok(List::from_vec(bytes)),
+        Err(_) => Err(NoMemory),
+    }
+}
+
+/// Writes the row of a record.
+fn write_line(
+    alloc: Global,
+    writer: &mut Writer<Vec<u8>>,
+    line: &RecordLine,
+) -> Result<(), NoMemory>
+    ensures { OnOk result ((rows : List (List (List ℕ)))
+        → HasWritten writer.old rows → HasWritten writer.new (rows ++ fields_of line.now ∷ [])) }
+{
+    let number = line.number.to_string(alloc)?;
+    let session = line.session.to_string(alloc)?;
+    let certain = certain_word(line.certain);
+    let fields = fields(
+        alloc,
+        number.as_str(),
+        session.as_str(),
+        certain,
+        line.texts.as_slice(),
+    )?;
+    write(writer, fields.as_slice())
+}
+
+fn certain_word(certain: bool) -> &'static str
+    ensures { result.now ≡ certain_word certain }
+{
+    if certain { "yes" } else { "no" }
+}
+
+/// The fields of a row: its number, its session, whether it is certain, and the texts.
+fn fields<'a>(
+    alloc: Global,
+    number: &'a str,
+    session: &'a str,
+    certain: &'a str,
+    texts: &'a [Text],
+) -> Result<Vec<&'a [u8]>, NoMemory>
+    ensures { IfOk result (λ fields.
+        bytes_of fields.items ≡ number.now ∷ session.now ∷ certain.now ∷ texts.now) }
+{
+    let mut fields = Vec::new(alloc);
+    fields.push(number.as_bytes())?;
+    fields.push(session.as_bytes())?;
+    fields.push(certain.as_bytes())?;
+    'texts: for text in texts {
+        fields.push(text.as_str().as_bytes())?;
+    }
+    Ok(fields)
+}
+
+/// Writes a row of these fields. Over bytes in memory, and with rows as long as the header, only want of memory keeps a
+/// writer from it.
+fn write(writer: &mut Writer<Vec<u8>>, fields: &[&[u8]]) -> Result<(), NoMemory>
+    ensures { OnOk result ((rows : List (List (List ℕ)))
+        → HasWritten writer.old rows → HasWritten writer.new (rows ++ bytes_of fields.now ∷ [])) }
+{
+    match writer.write_fields(fields) {
+        Ok(()) => Ok(()),
+        Err(_) => Err(NoMemory),
+    }
+}

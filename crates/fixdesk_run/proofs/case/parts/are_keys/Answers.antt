@@ -1,6 +1,0 @@
-use Rattle.std.proofs.Common.{rules}
-use Rattle.fixdesk_run.proofs.Keys.{keys_of-members_view}
-use Rattle.fixdesk_run.proofs.case.parts.are_keys.Goals as goal
-
-pub names-init : goal.names-init
-names-init c = rw (keys_of-members_view c.args.members.now.entries, c.into_iter-name-iterator.ensures.into_iter_gives, c.keys-name-items.ensures.rest) (search rules)

@@ -1,9 +1,0 @@
-pub mod Parts
-pub mod Attributes
-pub mod Rules
-pub mod Masters
-pub mod Kits
-pub mod Records
-pub mod Cases
-pub mod Shapes
-pub mod Answer
