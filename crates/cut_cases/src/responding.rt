@@ -1,0 +1,55 @@
+//! The bytes of responses.
+use desk_cases::Case;
+use http_desk::{ContentType, Refused, Status, response};
+use std::alloc::Global;
+use std::test::Fail;
+
+/// The response with a status, a type and a body, closing or not, to HEAD or not.
+pub fn responded(alloc: Global, case: &Case) -> Result<String, Fail> {
+    let status = status(case.number("status"))?;
+    let kind = kind(case.text("type"))?;
+    let closing = case.part("closing").is_some();
+    let asks_head = case.part("head").is_some();
+    let bytes = response(alloc, status, kind, case.bytes("body")?, closing, asks_head)?;
+    match String::from_utf8(bytes) {
+        Ok(text) => Ok(text),
+        Err(_) => Err(Fail::new("a response that is not UTF-8")),
+    }
+}
+
+/// The response of a refusal before the machine.
+pub fn refused(alloc: Global, case: &Case) -> Result<String, Fail> {
+    let refusal = match case.text("refusal") {
+        Some("NoRoute") => Refused::NoRoute,
+        Some("OtherMethod") => Refused::OtherMethod,
+        Some("NoLength") => Refused::NoLength,
+        Some("BadHead") => Refused::BadHead,
+        Some("Chunked") => Refused::Chunked,
+        Some("BodyLong") => Refused::BodyLong,
+        Some("Unavailable") => Refused::Unavailable,
+        Some("NoMemory") => Refused::NoMemory,
+        _ => return Err(Fail::new("a case has no refusal that is known")),
+    };
+    let closing = case.part("closing").is_some();
+    let asks_head = case.part("head").is_some();
+    Ok(String::from_str(alloc, refusal.text(closing, asks_head))?)
+}
+
+fn status(code: Option<u64>) -> Result<Status, Fail> {
+    match code {
+        Some(200) => Ok(Status::Ok),
+        Some(201) => Ok(Status::Created),
+        Some(409) => Ok(Status::Conflict),
+        Some(422) => Ok(Status::UnprocessableContent),
+        _ => Err(Fail::new("a case has no status that is known")),
+    }
+}
+
+fn kind(name: Option<&str>) -> Result<ContentType, Fail> {
+    match name {
+        Some("json") => Ok(ContentType::Json),
+        Some("text") => Ok(ContentType::Text),
+        Some("csv") => Ok(ContentType::Csv),
+        _ => Err(Fail::new("a case has no type that is known")),
+    }
+}

@@ -1,0 +1,206 @@
+-- A stream has one cut, and what stands at its front stands there whatever follows.
+use Rattle.std.proofs.Common.{◌≡◌, ℕ, ◌<◌, ◌≤◌, List, [], ◌∷◌, ◌++◌, length, take, drop, Option, Result, Ok, Err, refl}
+use Rattle.std.proofs.Common.{sym, ap, ◌∙◌, subst, arith, append_assoc, length-append, inl, inr}
+use Rattle.std.specs.Prelude.{unwrap_or}
+use Rattle.std.proofs.Math.Seq.{take-append_seam, drop-append_seam}
+use Rattle.httparse.specs.Grammar.{RequestHead, print_request}
+use Rattle.matchit.proofs.LookupLemmas.{append-cancel}
+use Rattle.http_cut.specs.declared.fields.BadLength.{BadLength}
+use Rattle.http_cut.specs.declared.step.BadRest.{BadRest}
+use Rattle.http_cut.specs.declared.step.BadRest.TheVariants.{BadHead, Chunked, BodyLong}
+use Rattle.http_cut.specs.Head.{HasHead, IsBadHead, SaysBadLength, head_body}
+use Rattle.http_cut.specs.Routes.{body_limit}
+use Rattle.http_cut.specs.Cut.{WholeRequest, IsChunked, HasBody, Announces, BeginsRequest, IsChunkedRest, IsBadRest}
+use Rattle.http_cut.specs.Cut.{IsOpen, End, clean, bad, truncated, IsEnd, Begins, IsCut}
+use Rattle.http_cut.proofs.Heads.{HasHead-append, HasHead_unique, good_is_not_bad, bad_is_not_awaited, IsBadHead-append}
+use Rattle.http_cut.proofs.Heads.{print_request-some, no_bytes_are_not_bad}
+
+-- ---- more bytes
+
+pub Announces-append : (bytes more : List ℕ) (head : RequestHead) (count : ℕ) → Announces bytes head count
+    → Announces (bytes ++ more) head count
+Announces-append bytes more head count x = record {
+  stands = HasHead-append bytes more head x.stands;
+  body = x.body;
+  whole = x.whole;
+}
+
+pub BeginsRequest-append : (bytes more : List ℕ) (head : RequestHead) (body rest : List ℕ)
+    → BeginsRequest bytes head body rest → BeginsRequest (bytes ++ more) head body (rest ++ more)
+BeginsRequest-append bytes more head body rest x = record {
+  announces = Announces-append bytes more head (length body) x.announces;
+  fits = x.fits;
+  bytes_are = ap (λ (t : List ℕ). t ++ more) x.bytes_are ∙ simp append_assoc;
+}
+
+pub IsBadRest-append : (bytes more : List ℕ) (kind : BadRest) → IsBadRest bytes kind → IsBadRest (bytes ++ more) kind
+IsBadRest-append bytes more BadHead x = IsBadHead-append bytes more x
+IsBadRest-append bytes more Chunked (head, stands, good, says) =
+    (head, HasHead-append bytes more head stands, good, says)
+IsBadRest-append bytes more BodyLong (head, count, announces, over) =
+    (head, count, Announces-append bytes more head count announces, over)
+
+-- ---- one head, one length
+
+some_same : {A E : Type 0} {x y : A} → ◌≡◌ {A = Result A E} (Ok x) (Ok y) → x ≡ y
+some_same e = cc
+
+Announces_same : (bytes : List ℕ) (head other : RequestHead) (count second : ℕ) → Announces bytes head count
+    → Announces bytes other second → (head ≡ other) × (count ≡ second)
+Announces_same bytes head other count second x y =
+    let same = HasHead_unique bytes head other x.stands y.stands in
+    let said : x.body.0 ≡ y.body.0 = some_same {E = BadLength} (sym x.body.1 ∙ ap head_body same ∙ y.body.1) in
+    (same, sym x.body.2 ∙ ap (λ (s : Option ℕ). unwrap_or s 0) said ∙ y.body.2)
+
+pub has_good_length : (head : RequestHead) (count : ℕ) → HasBody head count → ¬ (SaysBadLength head)
+has_good_length head count (said, is, same) wrong =
+    let apart : ◌≡◌ {A = Result (Option ℕ) BadLength} (Ok said) (Err (record {})) = sym is ∙ wrong in
+    cc
+
+announced_is_not_bad : (rest : List ℕ) (head : RequestHead) (count : ℕ) → Announces rest head count → IsBadHead rest → ⊥
+announced_is_not_bad rest head count x wrong =
+    good_is_not_bad rest head x.stands (has_good_length head count x.body) wrong
+
+announced_is_not_chunked : (rest : List ℕ) (head : RequestHead) (count : ℕ) → Announces rest head count
+    → IsChunkedRest rest → ⊥
+announced_is_not_chunked rest head count x (other, stands, good, says) =
+    x.whole (subst IsChunked (sym (HasHead_unique rest head other x.stands stands)) says)
+
+within_limit : (rest : List ℕ) (head other : RequestHead) (count second : ℕ) → Announces rest head count
+    → Announces rest other second
+    → count ≤ body_limit head.target → body_limit other.target < second → ⊥
+within_limit rest head other count second x y fits over =
+    let same = Announces_same rest head other count second x y in
+    let limits : body_limit head.target ≡ body_limit other.target =
+    ap (λ (h : RequestHead). body_limit h.target) same.0 in
+    let equal : count ≡ second = same.1 in
+    omega arith
+
+-- ---- one request
+
+fronts_same : (a b r q : List ℕ) → length a ≡ length b → a ++ r ≡ b ++ q → (a ≡ b) × (r ≡ q)
+fronts_same a b r q same e = (
+  sym (take-append_seam a r) ∙ ap (take (length a)) e ∙ ap (λ (n : ℕ). take n (b ++ q)) same ∙ take-append_seam b q,
+  sym (drop-append_seam a r) ∙ ap (drop (length a)) e ∙ ap (λ (n : ℕ). drop n (b ++ q)) same ∙ drop-append_seam b q,
+)
+
+pub BeginsRequest_unique : (bytes : List ℕ) (head other : RequestHead) (body second rest left : List ℕ)
+    → BeginsRequest bytes head body rest → BeginsRequest bytes other second left
+    → (head ≡ other) × (body ≡ second) × (rest ≡ left)
+BeginsRequest_unique bytes head other body second rest left x y =
+    let same = Announces_same bytes head other (length body) (length second) x.announces y.announces in
+    let behind : body ++ rest ≡ second ++ left =
+    append-cancel (print_request head) (body ++ rest) (second ++ left)
+    (sym x.bytes_are ∙ y.bytes_are ∙ ap (λ (h : RequestHead). print_request h ++ (second ++ left)) (sym same.0)) in
+    let parts = fronts_same body second rest left same.1 behind in
+    (same.0, parts.0, parts.1)
+
+-- a request has bytes
+pub request_shorter : (bytes : List ℕ) (head : RequestHead) (body rest : List ℕ) → BeginsRequest bytes head body rest
+    → length rest < length bytes
+request_shorter bytes head body rest x =
+    omega (
+      arith,
+      ap length x.bytes_are,
+      length-append (print_request head)
+          (body ++ rest),
+      length-append body rest,
+      print_request-some head,
+    )
+
+has_bytes : (bytes : List ℕ) (head : RequestHead) → HasHead bytes head → 0 < length bytes
+has_bytes bytes head x =
+    omega (arith, ap length x.reads.1.1, length-append (print_request head) x.reads.0, print_request-some head)
+
+-- where a whole request stands, no bad rest does
+request_is_not_bad : (bytes : List ℕ) (head : RequestHead) (body rest : List ℕ) (kind : BadRest)
+    → BeginsRequest bytes head body rest
+    → IsBadRest bytes kind → ⊥
+request_is_not_bad bytes head body rest BadHead x e = announced_is_not_bad bytes head (length body) x.announces e
+request_is_not_bad bytes head body rest Chunked x e = announced_is_not_chunked bytes head (length body) x.announces e
+request_is_not_bad bytes head body rest BodyLong x (other, count, announces, over) =
+    within_limit bytes head other (length body) count x.announces announces x.fits over
+
+-- and none is awaited
+pub request_is_not_open : (bytes : List ℕ) (head : RequestHead) (body rest : List ℕ)
+    → BeginsRequest bytes head body rest
+    → IsOpen bytes → ⊥
+request_is_not_open bytes head body rest x (inl may) = may.0 head x.announces.stands
+request_is_not_open bytes head body rest x (inr (other, count, announces, fits, short)) =
+    let same = Announces_same bytes head other (length body) count x.announces announces in
+    let heads : length (print_request head) ≡ length (print_request other) =
+    ap (λ (h : RequestHead). length (print_request h)) same.0 in
+    let whole = ap length x.bytes_are in
+    omega (arith, length-append (print_request head) (body ++ rest), length-append body rest, same.1)
+
+pub request_is_no_end : (bytes : List ℕ) (head : RequestHead) (body rest : List ℕ) (end : End)
+    → BeginsRequest bytes head body rest → IsEnd bytes end → ⊥
+request_is_no_end bytes head body rest clean x e = omega (arith, ap length e, request_shorter bytes head body rest x)
+request_is_no_end bytes head body rest (bad kind) x e = request_is_not_bad bytes head body rest kind x e
+request_is_no_end bytes head body rest (truncated n) x e = request_is_not_open bytes head body rest x e.2
+
+-- ---- one end
+
+empty_is_not_bad : (rest : List ℕ) (kind : BadRest) → rest ≡ [] → IsBadRest rest kind → ⊥
+empty_is_not_bad rest BadHead e wrong = no_bytes_are_not_bad (subst IsBadHead e wrong)
+empty_is_not_bad rest Chunked e (head, stands, good, says) = omega (arith, ap length e, has_bytes rest head stands)
+empty_is_not_bad rest BodyLong e (head, count, announces, over) =
+    omega (arith, ap length e, has_bytes rest head announces.stands)
+
+-- a rest is bad in one way
+bad_unique : (rest : List ℕ) (a b : BadRest) → IsBadRest rest a → IsBadRest rest b → a ≡ b
+bad_unique rest BadHead BadHead x y = refl
+bad_unique rest BadHead Chunked x y = absurd (good_is_not_bad rest y.0 y.1 y.2 x)
+bad_unique rest BadHead BodyLong x y = absurd (announced_is_not_bad rest y.0 y.1 y.2 x)
+bad_unique rest Chunked BadHead x y = absurd (good_is_not_bad rest x.0 x.1 x.2 y)
+bad_unique rest Chunked Chunked x y = refl
+bad_unique rest Chunked BodyLong x y = absurd (announced_is_not_chunked rest y.0 y.1 y.2 x)
+bad_unique rest BodyLong BadHead x y = absurd (announced_is_not_bad rest x.0 x.1 x.2 y)
+bad_unique rest BodyLong Chunked x y = absurd (announced_is_not_chunked rest x.0 x.1 x.2 y)
+bad_unique rest BodyLong BodyLong x y = refl
+
+-- a bad rest awaits nothing
+bad_is_not_open : (rest : List ℕ) (kind : BadRest) → IsBadRest rest kind → IsOpen rest → ⊥
+bad_is_not_open rest BadHead x (inl may) = bad_is_not_awaited rest x may
+bad_is_not_open rest BadHead x (inr (head, count, announces, fits, short)) =
+    announced_is_not_bad rest head count announces x
+bad_is_not_open rest Chunked (head, stands, good, says) (inl may) = may.0 head stands
+bad_is_not_open rest Chunked x (inr (head, count, announces, fits, short)) =
+    announced_is_not_chunked rest head count announces x
+bad_is_not_open rest BodyLong (head, count, announces, over) (inl may) = may.0 head announces.stands
+bad_is_not_open rest BodyLong (head, count, announces, over) (inr (other, second, awaits, fits, short)) =
+    within_limit rest other head second count awaits announces fits over
+
+end_unique : (rest : List ℕ) (a b : End) → IsEnd rest a → IsEnd rest b → a ≡ b
+end_unique rest clean clean x y = refl
+end_unique rest clean (bad kind) x y = absurd (empty_is_not_bad rest kind x y)
+end_unique rest clean (truncated n) x y = absurd (y.0 x)
+end_unique rest (bad kind) clean x y = absurd (empty_is_not_bad rest kind y x)
+end_unique rest (bad kind) (bad other) x y = ap bad (bad_unique rest kind other x y)
+end_unique rest (bad kind) (truncated n) x y = absurd (bad_is_not_open rest kind x y.2)
+end_unique rest (truncated n) clean x y = absurd (x.0 y)
+end_unique rest (truncated n) (bad kind) x y = absurd (bad_is_not_open rest kind y x.2)
+end_unique rest (truncated n) (truncated m) x y = ap truncated (x.1 ∙ sym y.1)
+
+-- ---- one cut
+
+Begins_unique : (bytes : List ℕ) (requests others : List WholeRequest) (rest left : List ℕ) (end last : End)
+    → Begins bytes requests rest → IsEnd rest end → Begins bytes others left → IsEnd left last
+    → (requests ≡ others) × (rest ≡ left)
+Begins_unique bytes [] [] rest left end last x ends y lasts = (refl, sym x ∙ y)
+Begins_unique bytes [] (other ∷ others) rest left end last x ends y lasts =
+    absurd (request_is_no_end bytes other.0 other.1 y.0 end y.1 (subst (λ (r : List ℕ). IsEnd r end) (sym x) ends))
+Begins_unique bytes (request ∷ requests) [] rest left end last x ends y lasts =
+    absurd (request_is_no_end bytes request.0 request.1 x.0 last x.1 (subst (λ (r : List ℕ). IsEnd r last)
+    (sym y) lasts))
+Begins_unique bytes ((head, body) ∷ requests) ((other, second) ∷ others) rest left end last x ends y lasts =
+    let front = BeginsRequest_unique bytes head other body second x.0 y.0 x.1 y.1 in
+    let tails = Begins_unique x.0 requests others rest left end last x.2 ends
+    (subst (λ (b : List ℕ). Begins b others left) (sym front.2) y.2) lasts in
+    (cc, tails.1)
+
+pub IsCut_unique : (bytes : List ℕ) (requests others : List WholeRequest) (rest left : List ℕ) (end last : End)
+    → IsCut bytes requests rest end → IsCut bytes others left last → (requests ≡ others) × (rest ≡ left) × (end ≡ last)
+IsCut_unique bytes requests others rest left end last x y =
+    let same = Begins_unique bytes requests others rest left end last x.begins x.ends y.begins y.ends in
+    (same.0, same.1, end_unique rest end last x.ends (subst (λ (r : List ℕ). IsEnd r last) (sym same.1) y.ends))

@@ -1,0 +1,14 @@
+pub mod Counting
+pub mod Cuts
+pub mod Decimal
+pub mod Ends
+pub mod Finding
+pub mod Heads
+pub mod Opening
+pub mod Overlap
+pub mod Seeking
+pub mod Segments
+pub mod Spelling
+pub mod Table
+pub mod Waiting
+pub mod Walking

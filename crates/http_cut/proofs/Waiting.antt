@@ -1,0 +1,193 @@
+-- Bytes in which a request is awaited, and those that follow.
+use Rattle.std.proofs.Common.{◌≡◌, ℕ, ◌+◌, ◌-◌, ◌<◌, ◌≤◌, List, [], ◌∷◌, ◌++◌, length, take, drop, Option, Some, None}
+use Rattle.std.proofs.Common.{Result, Ok, false, refl, sym, ap, ◌∙◌, subst, arith, append_assoc, append-nil}
+use Rattle.std.proofs.Common.{length-append, length-drop, length-take, take-append-drop, inl, inr}
+use Rattle.std.specs.Prelude.{◌↔◌, IsTrue, is_some, unwrap_or}
+use Rattle.std.proofs.lemmas.Bool.{both_ways}
+use Rattle.std.proofs.Math.Seq.{take-append_seam}
+use Rattle.std.proofs.lemmas.List.{drop-drop}
+use Rattle.std.specs.Io.KnownBytes.{Consumes, Keeps}
+use Rattle.httparse.specs.Grammar.{RequestHead, print_request}
+use Rattle.http_cut.specs.declared.route.Route.{Route}
+use Rattle.http_cut.specs.declared.route.Route.TheVariants.{AddClerk, AddSchema, AddMaster, AddRulebook, AddEdition}
+use Rattle.http_cut.specs.declared.route.Route.TheVariants.{AddRegion, Enter, Confirm, Withdraw, Commit, Abandon, Batch}
+use Rattle.http_cut.specs.declared.route.Route.TheVariants.{View, Suggest, Preview, Report, Records, DeskReport}
+use Rattle.http_cut.specs.declared.fields.BadLength.{BadLength}
+use Rattle.http_cut.specs.declared.front.HeadParts.{HeadParts}
+use Rattle.http_cut.specs.Head.{HasHead, SaysBadLength, head_body}
+use Rattle.http_cut.specs.Routes.{Match, route_limit, match_limit, route_of, body_limit}
+use Rattle.http_cut.specs.Cut.{IsChunked, Announces, BeginsRequest, IsOpen, SaysLength}
+use Rattle.http_cut.specs.Looks.{ShowsHead, StaysOpen}
+use Rattle.http_cut.proofs.Overlap.{overlap}
+use Rattle.http_cut.proofs.Cuts.{Announces-append, has_good_length, request_is_not_open}
+
+-- ---- limits
+
+route_limit-most : (route : Route) → route_limit route ≤ 4194304
+route_limit-most AddClerk = omega arith
+route_limit-most AddSchema = omega arith
+route_limit-most AddMaster = omega arith
+route_limit-most AddRulebook = omega arith
+route_limit-most AddEdition = omega arith
+route_limit-most AddRegion = omega arith
+route_limit-most Enter = omega arith
+route_limit-most Confirm = omega arith
+route_limit-most Withdraw = omega arith
+route_limit-most Commit = omega arith
+route_limit-most Abandon = omega arith
+route_limit-most Batch = omega arith
+route_limit-most View = omega arith
+route_limit-most Suggest = omega arith
+route_limit-most Preview = omega arith
+route_limit-most Report = omega arith
+route_limit-most Records = omega arith
+route_limit-most DeskReport = omega arith
+
+match_limit-most : (found : Option Match) → match_limit found ≤ 4194304
+match_limit-most (Some found) = route_limit-most found.0
+match_limit-most None = omega arith
+
+-- a request is awaited in few bytes
+pub open_few : (bytes : List ℕ) → IsOpen bytes → length bytes < 4210688
+open_few bytes (inl (none, short, may)) = omega arith
+open_few bytes (inr (head, count, announces, fits, short)) =
+    let most = match_limit-most (route_of head.target) in
+    let few = announces.stands.few_bytes in
+    omega arith
+
+-- ---- how long it stays so
+
+-- bytes in which a request is awaited, up to the next byte
+pub stays_now : (bytes : List ℕ) → IsOpen bytes → StaysOpen bytes (length bytes + 1)
+stays_now bytes awaits [] short = subst IsOpen (sym (append-nil bytes)) awaits
+stays_now bytes awaits (b ∷ more) short = absurd (omega (arith, length-append bytes (b ∷ more)))
+
+-- a head whose body is awaited, up to the end of the body
+pub stays_for_body : (bytes : List ℕ) (head : RequestHead) (count least : ℕ) → Announces bytes head count
+    → count ≤ body_limit head.target → least ≡ length (print_request head) + count → StaysOpen bytes least
+stays_for_body bytes head count least announces fits is more short =
+    inr (head, count, Announces-append bytes more head count announces, fits, omega (arith, is))
+
+-- it stays so with some of the bytes
+pub stays_on : (bytes piece : List ℕ) (least : ℕ) → StaysOpen bytes least → StaysOpen (bytes ++ piece) least
+stays_on bytes piece least stays more short =
+    let same = append_assoc bytes piece more in
+    subst IsOpen (sym same) (stays (piece ++ more) (subst (λ (t : List ℕ). length t < least) same short))
+
+-- it is so now
+pub open_now : (bytes : List ℕ) (least : ℕ) → length bytes < least → StaysOpen bytes least → IsOpen bytes
+open_now bytes least short stays =
+    subst IsOpen (append-nil bytes) (stays [] (subst (λ (t : List ℕ). length t < least) (sym (append-nil bytes)) short))
+
+-- ---- what was found of a head
+
+-- it announces a body of the length that was found
+pub head_announces : (bytes : List ℕ) (parts : HeadParts) (head : RequestHead) (count : ℕ) → ShowsHead bytes parts head
+    → parts.is_chunked ≡ false → unwrap_or parts.length 0 ≡ count → Announces bytes head count
+head_announces bytes parts head count shows whole same = record {
+  stands = shows.stands;
+  body = (parts.length, shows.length, same);
+  whole = λ says. both_ways parts.is_chunked whole (shows.chunked.1 says);
+}
+
+-- its length is good
+pub head_is_good : (bytes : List ℕ) (parts : HeadParts) (head : RequestHead) → ShowsHead bytes parts head
+    → ¬ (SaysBadLength head)
+head_is_good bytes parts head shows = has_good_length head (unwrap_or parts.length 0) (parts.length, shows.length, refl)
+
+-- whether it says a length
+pub head_says : (head : RequestHead) (said : Option ℕ) → head_body head ≡ Ok said
+    → IsTrue (is_some said) ↔ SaysLength head
+head_says head None is = (λ wrong. cc, λ says. absurd (says is))
+head_says head (Some count) is = (
+  λ yes none. let apart : ◌≡◌ {A = Result (Option ℕ) BadLength} (Ok (Some count)) (Ok None) = sym is ∙ none in cc,
+  λ says. refl,
+)
+
+-- ---- a whole request
+
+-- the head that stands, and as many bytes as it announces, are a request
+pub request_stands : (bytes : List ℕ) (head : RequestHead) (said : Option ℕ) (len count : ℕ) → HasHead bytes head
+    → len ≡ length (print_request head) → head_body head ≡ Ok said → unwrap_or said 0 ≡ count → ¬ (IsChunked head)
+    → count ≤ body_limit head.target → len + count ≤ length bytes
+    → BeginsRequest bytes head (take (len + count - len) (drop len bytes)) (drop (len + count) bytes)
+request_stands bytes head said len count stands len_is says same whole fits short =
+    let size : len + count - len ≡ count = omega arith in
+    let body : List ℕ = take (len + count - len) (drop len bytes) in
+    let body_len : length body ≡ count = omega (
+      arith,
+      length-take (len + count - len)
+          (drop len bytes),
+      length-drop len bytes,
+    ) in
+    let front : take len bytes ≡ print_request head =
+    ap (take len) stands.reads.1.1 ∙ ap (λ (n : ℕ). take n (print_request head ++ stands.reads.0)) len_is
+    ∙ take-append_seam (print_request head) stands.reads.0 in
+    let behind : body ++ drop (len + count) bytes ≡ drop len bytes =
+    ap (λ (n : ℕ). take n (drop len bytes) ++ drop (len + count) bytes) size
+    ∙ ap (λ (t : List ℕ). take count (drop len bytes) ++ t) (sym (drop-drop count len bytes))
+    ∙ take-append-drop count (drop len bytes) in
+    record {
+      announces = record { stands = stands; body = (said, says, same ∙ sym body_len); whole = whole };
+      fits = omega (arith, body_len);
+      bytes_are = sym (take-append-drop len bytes) ∙ ap (λ (t : List ℕ). t ++ drop len bytes) front
+          ∙ ap (λ (t : List ℕ). print_request head ++ t) (sym behind);
+    }
+
+-- a request that stands in more bytes stands in these where they have it all
+request_within : (bytes more : List ℕ) (head : RequestHead) (body rest tail : List ℕ)
+    → BeginsRequest (bytes ++ more) head body rest
+    → bytes ≡ (print_request head ++ body) ++ tail → BeginsRequest bytes head body tail
+request_within bytes more head body rest tail x e = record {
+  announces = record {
+    stands = record {
+      reads = (body ++ tail, (x.announces.stands.reads.1.0, e ∙ append_assoc (print_request head) body tail));
+      few_bytes = x.announces.stands.few_bytes;
+      few_fields = x.announces.stands.few_fields;
+    };
+    body = x.announces.body;
+    whole = x.announces.whole;
+  };
+  fits = x.fits;
+  bytes_are = e ∙ append_assoc (print_request head) body tail;
+}
+
+-- a request that is whole only with the bytes taken last ends among these
+pub request_ends_in_last : (bytes more : List ℕ) (head : RequestHead) (body rest : List ℕ) → IsOpen bytes
+    → BeginsRequest (bytes ++ more) head body rest → length rest < length more
+request_ends_in_last bytes more head body rest awaits x =
+    elim (overlap bytes more (print_request head ++ body) rest (x.bytes_are
+    ∙ sym (append_assoc (print_request head) body rest))) [
+      | inl p ↦ by p.0 p.1 p.2
+      | inr p ↦ absurd (request_is_not_open bytes head body (p.0 ∷ p.1) (request_within bytes more head body rest
+          (p.0 ∷ p.1) x p.2) awaits)
+    ]
+  where
+    by : (w : List ℕ) → print_request head ++ body ≡ bytes ++ w → more ≡ w ++ rest → length rest < length more
+    by [] e same =
+        absurd (request_is_not_open bytes head body []
+        (request_within bytes more head body rest [] x (sym (append-nil bytes) ∙ sym e
+        ∙ sym (append-nil (print_request head ++ body)))) awaits)
+    by (b ∷ w) e same = omega (arith, ap length same, length-append (b ∷ w) rest)
+
+-- ---- what was taken
+
+-- bytes that were taken in turn
+pub Consumes-then : (a b c : Option (List ℕ)) (xs ys : List ℕ) → Consumes a b xs → Consumes b c ys
+    → Consumes a c (xs ++ ys)
+Consumes-then None b c xs ys x y = tt
+Consumes-then (Some u) None c xs ys x y = absurd x
+Consumes-then (Some u) (Some v) None xs ys x y = absurd y
+Consumes-then (Some u) (Some v) (Some w) xs ys x y = x ∙ ap (λ (t : List ℕ). xs ++ t) y ∙ sym (append_assoc xs ys w)
+
+-- none were taken
+pub Consumes-none : (a : Option (List ℕ)) → Consumes a a []
+Consumes-none None = tt
+Consumes-none (Some u) = refl
+
+-- and none after others
+pub Consumes-kept : (a b c : Option (List ℕ)) (xs : List ℕ) → Consumes a b xs → Keeps b c → Consumes a c xs
+Consumes-kept None b c xs x y = tt
+Consumes-kept (Some u) None c xs x y = absurd x
+Consumes-kept (Some u) (Some v) None xs x y = absurd y
+Consumes-kept (Some u) (Some v) (Some w) xs x y = x ∙ ap (λ (t : List ℕ). xs ++ t) (sym y)

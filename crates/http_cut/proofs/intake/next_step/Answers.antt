@@ -1,0 +1,104 @@
+use Rattle.std.proofs.Common.{◌≡◌, ◌+◌, ◌≤◌, ℕ, List, [], ◌++◌, length, take, Err, sym, ap, ◌∙◌, subst, arith, rules}
+use Rattle.std.proofs.Common.{append-nil, append_assoc, length-append}
+use Rattle.http_cut.specs.declared.step.Step.{Step}
+use Rattle.http_cut.specs.declared.intake.IntakeFault.TheVariants.{Failed, NoMemory}
+use Rattle.http_cut.specs.Cut.{IsOpen, BeginsRequest}
+use Rattle.http_cut.specs.Looks.{IsStep, StaysOpen}
+use Rattle.http_cut.specs.Taking.{Takes, Loses, Fetches}
+use Rattle.http_cut.proofs.Cuts.{request_shorter}
+use Rattle.http_cut.proofs.Waiting.{open_few, open_now, stays_on, request_ends_in_last, Consumes-then, Consumes-none}
+use Rattle.http_cut.proofs.Waiting.{Consumes-kept}
+use Rattle.http_cut.proofs.intake.next_step.Goals as goal
+
+pub reads-init : goal.reads-init
+reads-init g c =
+    let window = c.args.window.now in
+    record {
+      takes = record { bytes = []; taken = Consumes-none _; joined = sym (append-nil window) };
+      step = subst (λ (b : List ℕ). IsStep b c.first_step-step.result) c.bytes.ensures c.first_step-step.ensures;
+      few = λ head body rest begins. let shorter = request_shorter window head body rest begins in
+          omega (arith, c.requires.few);
+      later = omega arith;
+      steady = λ steady. steady;
+    }
+
+-- what is awaited
+pub step_after-step-requires : goal.step_after-step-requires
+step_after-step-requires g c =
+    λ short.
+    let read : List ℕ = take c.in_ok-count.count c.read.new.buf in
+    let waits = subst (λ (s : Step). IsStep c.reads.window s) c.in-NeedMore.is c.reads.invariant.step in
+    let now : c.bytes-in-reads.result.now ≡ c.reads.window ++ read = c.bytes-in-reads.ensures
+    ∙ c.in_ok-add.ensures.added in (
+      short,
+      subst (λ (b : List ℕ). StaysOpen b c.in-NeedMore.least) (sym now)
+          (stays_on c.reads.window read c.in-NeedMore.least waits.1),
+    )
+
+-- nothing is lost by a read that failed
+pub returns-in_err-count-clause-fetched : goal.returns-in_err-count-clause-fetched
+returns-in_err-count-clause-fetched g c =
+    let so_far = c.reads.invariant.takes in
+    let kept : Takes (g.S.Source.left c.args.source.now)
+    (g.S.Source.left c.read.new.self) c.args.window.now c.reads.window = record {
+      bytes = so_far.bytes;
+      taken = Consumes-kept _ _ _ so_far.bytes so_far.taken c.in_err-count.ensures.bytes;
+      joined = so_far.joined;
+    } in
+    let waits = subst (λ (s : Step). IsStep c.reads.window s) c.in-NeedMore.is c.reads.invariant.step in
+    let awaits : IsOpen c.reads.window = open_now c.reads.window c.in-NeedMore.least waits.0 waits.1 in
+    let failed : c.from_residual.result ≡ Err Failed = search rules in
+    subst (Fetches (g.S.Source.left c.args.source.now)
+    (g.S.Source.left c.read.new.self) c.args.window.now c.reads.window) (sym failed) (kept, awaits)
+
+-- what was read last is lost, and was taken all the same
+pub returns-in_err-add-clause-fetched : goal.returns-in_err-add-clause-fetched
+returns-in_err-add-clause-fetched g c =
+    let so_far = c.reads.invariant.takes in
+    let read : List ℕ = take c.in_ok-count.count c.read.new.buf in
+    let lost : Loses (g.S.Source.left c.args.source.now) (g.S.Source.left c.read.new.self) = record {
+      bytes = so_far.bytes ++ read;
+      taken = Consumes-then _ _ _ so_far.bytes read so_far.taken c.in_ok-count.ensures.bytes.0;
+    } in
+    let want : c.from_residual-in_err-add.result ≡ Err NoMemory = search rules in
+    subst (Fetches (g.S.Source.left c.args.source.now)
+    (g.S.Source.left c.read.new.self) c.args.window.now c.add.new.self) (sym want) lost
+
+-- a read takes at least one byte
+pub reads-smaller : goal.reads-smaller
+reads-smaller g c =
+    let read : List ℕ = take c.in_ok-count.count c.read.new.buf in
+    let waits = subst (λ (s : Step). IsStep c.reads.window s) c.in-NeedMore.is c.reads.invariant.step in
+    let few = open_few c.reads.window (open_now c.reads.window c.in-NeedMore.least waits.0 waits.1) in
+    let more : length c.add.new.self ≡ length c.reads.window + length read = ap length c.in_ok-add.ensures.added
+    ∙ length-append c.reads.window read in
+    let within = c.in_ok-count.ensures.within in
+    let some = c.if-count-eq0.false in
+    omega arith
+
+pub reads-preserved : goal.reads-preserved
+reads-preserved g c =
+    let window = c.reads.window in
+    let so_far = c.reads.invariant.takes in
+    let read : List ℕ = take c.in_ok-count.count c.read.new.buf in
+    let waits = subst (λ (s : Step). IsStep window s) c.in-NeedMore.is c.reads.invariant.step in
+    let awaits : IsOpen window = open_now window c.in-NeedMore.least waits.0 waits.1 in
+    let added : c.add.new.self ≡ window ++ read = c.in_ok-add.ensures.added in
+    let within = c.in_ok-count.ensures.within in
+    let size : length read ≤ 65536 = omega arith in
+    record {
+      takes = record {
+        bytes = so_far.bytes ++ read;
+        taken = Consumes-then _ _ _ so_far.bytes read so_far.taken c.in_ok-count.ensures.bytes.0;
+        joined = added ∙ (ap (λ (t : List ℕ). t ++ read) so_far.joined
+            ∙ append_assoc c.args.window.now so_far.bytes read);
+      };
+      step = subst (λ (b : List ℕ). IsStep b c.step_after-step.result) c.bytes-in-reads.ensures
+          c.step_after-step.ensures;
+      few = λ head body rest begins.
+          let less = request_ends_in_last window read head body rest awaits
+          (subst (λ (b : List ℕ). BeginsRequest b head body rest) added begins) in
+          omega (arith, size);
+      later = omega (arith, c.reads.invariant.later, c.in_ok-count.ensures.cause.later);
+      steady = λ steady. (c.in_ok-count.ensures.steady (c.reads.invariant.steady steady)).1;
+    }

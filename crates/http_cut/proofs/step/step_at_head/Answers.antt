@@ -1,0 +1,76 @@
+use Rattle.std.proofs.Common.{◌≡◌, ℕ, ◌+◌, List, Bool, sym, ap, ◌∙◌, subst, arith}
+use Rattle.std.specs.Prelude.{◌↔◌, IsTrue, codes}
+use Rattle.http_cut.specs.Cut.{SaysLength}
+use Rattle.http_cut.specs.Routes.{body_limit}
+use Rattle.http_cut.proofs.Heads.{stands_asks}
+use Rattle.http_cut.proofs.Waiting.{head_announces, head_is_good, head_says, stays_for_body, request_stands}
+use Rattle.http_cut.proofs.step.step_at_head.Goals as goal
+
+pub returns-then-parts : goal.returns-then-parts
+returns-then-parts c =
+    let bytes = c.args.bytes.now in
+    let head = c.requires.0 in
+    let shows = c.requires.1 in
+    let asks = stands_asks bytes head c.is_head-asks_head.result shows.stands
+    (subst (λ (m : List ℕ). IsTrue c.is_head-asks_head.result ↔ (m ≡ codes "HEAD")) (c.of.ensures
+    ∙ shows.method) c.is_head-asks_head.ensures) in
+    ((head, shows.stands, head_is_good bytes c.args.parts head shows, shows.chunked.0 c.if-parts.true), asks)
+
+pub returns-then-count-body_limit : goal.returns-then-count-body_limit
+returns-then-count-body_limit c =
+    let bytes = c.args.bytes.now in
+    let head = c.requires.0 in
+    let shows = c.requires.1 in
+    let asks = stands_asks bytes head c.is_head-asks_head.result shows.stands
+    (subst (λ (m : List ℕ). IsTrue c.is_head-asks_head.result ↔ (m ≡ codes "HEAD")) (c.of.ensures
+    ∙ shows.method) c.is_head-asks_head.ensures) in
+    let count = c.unwrap_or-count.result in
+    let announces = head_announces bytes c.args.parts head count shows c.if-parts.false
+    (sym c.unwrap_or-count.ensures) in
+    let limit : c.body_limit.result ≡ body_limit head.target = c.body_limit.ensures.limit
+    ∙ ap body_limit (c.of-2.ensures ∙ shows.target) in
+    let over = c.if-count-body_limit.true in
+    ((head, count, announces, omega (arith, limit)), asks)
+
+pub returns-then-bytes-end : goal.returns-then-bytes-end
+returns-then-bytes-end c =
+    let bytes = c.args.bytes.now in
+    let head = c.requires.0 in
+    let shows = c.requires.1 in
+    let count = c.unwrap_or-count.result in
+    let announces = head_announces bytes c.args.parts head count shows c.if-parts.false
+    (sym c.unwrap_or-count.ensures) in
+    let limit : c.body_limit.result ≡ body_limit head.target = c.body_limit.ensures.limit
+    ∙ ap body_limit (c.of-2.ensures ∙ shows.target) in
+    let fits = c.if-count-body_limit.false in (
+      c.if-bytes-end.true,
+      stays_for_body bytes head count _ announces (omega (arith, limit))
+          (ap (λ (n : ℕ). n + count) shows.len),
+    )
+
+pub returns : goal.returns
+returns c =
+    let bytes = c.args.bytes.now in
+    let parts = c.args.parts in
+    let head = c.requires.0 in
+    let shows = c.requires.1 in
+    let count = c.unwrap_or-count.result in
+    let announces = head_announces bytes parts head count shows c.if-parts.false (sym c.unwrap_or-count.ensures) in
+    let limit : c.body_limit.result ≡ body_limit head.target = c.body_limit.ensures.limit
+    ∙ ap body_limit (c.of-2.ensures ∙ shows.target) in
+    let fits = c.if-count-body_limit.false in
+    let whole = c.if-bytes-end.false in (
+      head,
+      record {
+        method_fits = (shows.method_fits.0, omega (arith, shows.method_fits.1, shows.fits));
+        method = shows.method;
+        target_fits = (shows.target_fits.0, omega (arith, shows.target_fits.1, shows.fits));
+        target = shows.target;
+        body_fits = (omega arith, omega arith);
+        has_length = subst (λ (v : Bool). IsTrue v ↔ SaysLength head) (sym c.is_some.ensures)
+            (head_says head parts.length shows.length);
+      },
+      request_stands bytes head parts.length parts.len count shows.stands shows.len shows.length
+          (sym c.unwrap_or-count.ensures)
+          announces.whole (omega (arith, limit)) (omega arith),
+    )

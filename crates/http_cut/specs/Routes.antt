@@ -1,0 +1,144 @@
+-- The route of a target, and its parameters: what `matchit` states for one table of patterns.
+use Rattle.std.specs.Prelude.{◌≡◌, ◌≢◌, ◌<◌, ◌++◌, false, ℕ, Bool, true, ◌&&◌, List, [], ◌∷◌, codes, Contains, Option}
+use Rattle.std.specs.Prelude.{Some, None, is_some, option_map, Result, Ok, Err, if◌then◌else◌}
+use Rattle.std.specs.Str.{is_utf8}
+use Rattle.desk_base.specs.declared.limits.TheConstants.{MAX_LONG_BODY, MAX_BATCH_BODY, MAX_BODY}
+use Rattle.matchit.specs.Rows.{RowsOf, param_token}
+use Rattle.matchit.specs.Route.{Scan, parse_route}
+use Rattle.matchit.specs.Order.{placed}
+use Rattle.matchit.specs.Router.{RouteOf, route_from}
+use Rattle.matchit.specs.Seek.{first, has_slash}
+use Rattle.matchit.specs.Params.{walk, named}
+use Rattle.matchit.specs.declared.error.InsertError.{InsertError}
+use Rattle.http_cut.specs.declared.route.Method.{Method}
+use Rattle.http_cut.specs.declared.route.Method.TheVariants.{Get, Post}
+use Rattle.http_cut.specs.declared.route.Route.{Route}
+use Rattle.http_cut.specs.declared.route.Route.TheVariants.{AddClerk, AddSchema, AddMaster, AddRulebook, AddEdition}
+use Rattle.http_cut.specs.declared.route.Route.TheVariants.{AddRegion, Enter, Confirm, Withdraw, Commit, Abandon, Batch}
+use Rattle.http_cut.specs.declared.route.Route.TheVariants.{View, Suggest, Preview, Report, Records, DeskReport}
+use Rattle.http_cut.specs.Numbers.{positive}
+
+-- ---- the table
+
+-- the patterns in their order, each with its route
+abbrev pub patterns : List (List ℕ × Route)
+patterns =
+    (codes "/steward/{n}/clerks", AddClerk)
+    ∷ (codes "/steward/{n}/schemas", AddSchema)
+    ∷ (codes "/steward/{n}/masters/{name}", AddMaster)
+    ∷ (codes "/steward/{n}/rulebooks/{name}/{schema}/{version}", AddRulebook)
+    ∷ (codes "/steward/{n}/editions/{name}", AddEdition)
+    ∷ (codes "/steward/{n}/regions/{edition}/{version}", AddRegion)
+    ∷ (codes "/do/{clerk}/{n}/open/{edition}", Enter)
+    ∷ (codes "/do/{clerk}/{n}/confirm/{session}", Confirm)
+    ∷ (codes "/do/{clerk}/{n}/withdraw/{session}", Withdraw)
+    ∷ (codes "/do/{clerk}/{n}/commit/{session}", Commit)
+    ∷ (codes "/do/{clerk}/{n}/abandon/{session}", Abandon)
+    ∷ (codes "/do/{clerk}/{n}/batch/{edition}", Batch)
+    ∷ (codes "/see/{clerk}/sessions/{session}", View)
+    ∷ (codes "/see/{clerk}/suggest/{session}", Suggest)
+    ∷ (codes "/see/{clerk}/preview/{session}", Preview)
+    ∷ (codes "/see/{clerk}/report", Report)
+    ∷ (codes "/see/{clerk}/records/{edition}/{version}", Records)
+    ∷ (codes "/desk/report", DeskReport)
+    ∷ []
+
+-- looks are asked for by GET, but for a preview, which has a body
+abbrev pub method_of : Route → Method
+method_of View = Get
+method_of Suggest = Get
+method_of Report = Get
+method_of Records = Get
+method_of DeskReport = Get
+method_of _ = Post
+
+-- the most bytes of a body
+abbrev pub route_limit : Route → ℕ
+route_limit AddMaster = MAX_LONG_BODY
+route_limit AddRegion = MAX_LONG_BODY
+route_limit Batch = MAX_BATCH_BODY
+route_limit _ = MAX_BODY
+
+-- ---- the table as matchit keeps it
+
+abbrev pub Rows : Type 0
+Rows = RowsOf (RouteOf Route)
+
+-- the rows with one more pattern, where it reads as one
+abbrev pub placed_read : Result Scan InsertError → Route → Rows → Rows
+placed_read (Ok scan) route rows = placed (scan.pattern, route_from scan route) rows
+placed_read (Err error) route rows = rows
+
+abbrev pub rows_with : List ℕ → Route → Rows → Rows
+rows_with text route rows = placed_read (parse_route text) route rows
+
+-- the rows with these patterns, one after the other
+abbrev pub rows_after : List (List ℕ × Route) → Rows → Rows
+rows_after [] rows = rows
+rows_after (pattern ∷ patterns) rows = rows_after patterns (rows_with pattern.0 pattern.1 rows)
+
+-- the rows of the table
+unfoldable pub route_rows : Rows
+route_rows = rows_after patterns []
+
+-- ---- a target
+
+-- a route with the parameters of a target: each name with the part of the target that it took
+abbrev pub Match : Type 0
+Match = Route × List (List ℕ × List ℕ)
+
+-- what the parameters of a pattern took of a target
+abbrev pub parts_of : RouteOf Route → List ℕ → List (List ℕ × List ℕ)
+parts_of found target = walk found.pattern found.text target found.names 0 0
+
+-- the pattern of a target as matchit finds it, with what its parameters took
+abbrev pub match_of : List ℕ → Option Match
+match_of target = option_map (λ found. (found.value, parts_of found target)) (first route_rows target)
+
+-- a parameter that is to be a number has at most so many digits, if there is one
+abbrev pub is_good_number : ℕ → Option (List ℕ) → Bool
+is_good_number most (Some text) = is_some (positive most text)
+is_good_number most None = true
+
+-- the parameters that are to be numbers are
+abbrev pub has_good_numbers : List (List ℕ × List ℕ) → Bool
+has_good_numbers parts =
+    is_good_number 12 (named (codes "n") parts) && is_good_number 9 (named (codes "version") parts)
+    && is_good_number 9 (named (codes "session") parts)
+
+abbrev pub with_good_numbers : Option Match → Option Match
+with_good_numbers (Some found) = if has_good_numbers found.1 then Some found else None
+with_good_numbers None = None
+
+-- the route of a target with its parameters; none where the target is no text, has no pattern, or a number is bad
+abbrev pub route_of : List ℕ → Option Match
+route_of target = if is_utf8 target then with_good_numbers (match_of target) else None
+
+-- the most bytes of a body that is sent to this target
+abbrev pub match_limit : Option Match → ℕ
+match_limit (Some found) = route_limit found.0
+match_limit None = MAX_BODY
+
+abbrev pub body_limit : List ℕ → ℕ
+body_limit target = match_limit (route_of target)
+
+-- ---- what a pattern says
+
+-- the target is the pattern: a byte for each byte, and for each parameter a part that isn't empty and has no slash
+pub data Spells : List ℕ → List ℕ → Type 0 where
+  at_end : Spells [] []
+  byte : (x : ℕ) {pattern target : List ℕ} → x < 256 → Spells pattern target → Spells (x ∷ pattern) (x ∷ target)
+  part : (part : List ℕ) {pattern target rest : List ℕ} → target ≡ part ++ rest → part ≢ [] → has_slash part ≡ false
+      → Spells pattern rest → Spells (param_token ∷ pattern) target
+
+-- the tokens of a pattern's text, as matchit reads it: its bytes, and one token for each name in braces
+abbrev pub tokens_read : Result Scan InsertError → List ℕ
+tokens_read (Ok scan) = scan.pattern
+tokens_read (Err error) = []
+
+abbrev pub tokens_of : List ℕ → List ℕ
+tokens_of text = tokens_read (parse_route text)
+
+-- the target spells the pattern that the table has for this route
+abbrev pub SpellsRoute : Route → List ℕ → Type 0
+SpellsRoute route target = (text : List ℕ) × Contains patterns (text, route) × Spells (tokens_of text) target

@@ -1,0 +1,27 @@
+//! Cutting a stream of bytes into requests, and the routes that requests ask for.
+//!
+//! A clause sees a request as its head, in the words of `httparse`, and the bytes of its body. `specs/Cut.antt` says
+//! how a stream is cut, and `specs/Routes.antt` which route a target has.
+#![tactic(auto)]
+
+mod digits;
+mod fields;
+mod front;
+mod intake;
+pub mod laws;
+mod lines;
+mod route;
+mod route_match;
+mod routes;
+mod step;
+mod target;
+mod window;
+
+pub use digits::{number, positive};
+pub use httparse::spans::Span;
+pub use intake::{IntakeFault, PIECE, next_step};
+pub use route::{Method, Route};
+pub use route_match::RouteMatch;
+pub use routes::Routes;
+pub use step::{BadRest, Request, Step, first_step};
+pub use window::Window;

@@ -1,0 +1,75 @@
+//! Lines at the front of a stream: the empty ones before a head, and those of a head with the most fields.
+ghost use Rattle.std.specs.Prelude.{◌≡◌, ◌↔◌, ◌++◌, None, Some, MatchOption, IsTrue};
+ghost use Rattle.httparse.specs.Grammar.{LineEnd, print_end};
+ghost use Rattle.http_cut.specs.Lines.{BeginsNoLine, SkipsLines, behind_line, behind_lines, GoesOn, HasManyLines};
+
+use desk_base::MAX_FIELDS;
+
+/// The bytes behind the empty lines.
+pub fn without_empty_lines(bytes: &[u8]) -> &[u8]
+    ensures { SkipsLines bytes.now result.now }
+{
+    let mut text = bytes;
+    'lines: while let Some(rest) = behind_empty_line(text) {
+        text = rest;
+    }
+    text
+}
+
+/// The bytes behind one empty line.
+fn behind_empty_line(text: &[u8]) -> Option<&[u8]>
+    ensures { MatchOption result (BeginsNoLine text.now)
+        (λ rest. (end : LineEnd) × (text.now ≡ print_end end ++ rest.now)) }
+{
+    match text {
+        [b'\n', rest @ ..] => Some(rest),
+        [b'\r', b'\n', rest @ ..] => Some(rest),
+        _ => None,
+    }
+}
+
+/// Whether the bytes go on behind the most lines that a head may have before its empty line.
+pub fn has_many_lines(bytes: &[u8]) -> bool
+    ensures { IsTrue result ↔ HasManyLines bytes.now }
+{
+    goes_on(without_empty_lines(bytes))
+}
+
+/// Whether a byte that ends no head stands behind a request line and the most fields.
+fn goes_on(text: &[u8]) -> bool
+    ensures { IsTrue result ↔ GoesOn text.now }
+{
+    match behind_lines(text, MAX_FIELDS + 1) {
+        Some([first, ..]) => *first != b'\r' && *first != b'\n',
+        _ => false,
+    }
+}
+
+/// The bytes behind so many lines.
+#[tactic(auto, unfolding(crate::specs::Lines::behind_lines))]
+fn behind_lines(text: &[u8], count: usize) -> Option<&[u8]>
+    ensures { MatchOption result (behind_lines count text.now ≡ None)
+        (λ rest. behind_lines count text.now ≡ Some rest.now) }
+{
+    let mut rest = text;
+    let mut left = count;
+    'lines: while left > 0 {
+        rest = behind_line(rest)?;
+        left -= 1;
+    }
+    Some(rest)
+}
+
+/// The bytes behind the first line feed.
+fn behind_line(text: &[u8]) -> Option<&[u8]>
+    ensures { MatchOption result (behind_line text.now ≡ None) (λ rest. behind_line text.now ≡ Some rest.now) }
+{
+    let mut rest = text;
+    'bytes: while let [first, behind @ ..] = rest {
+        if *first == b'\n' {
+            return Some(behind);
+        }
+        rest = behind;
+    }
+    None
+}

@@ -1,0 +1,74 @@
+//! The route of a target, with its parameters.
+ghost use Rattle.std.specs.Prelude.{◌≡◌, ◌≤◌, Some, None, MatchOption};
+ghost use Rattle.matchit.specs.Params.{named};
+ghost use Rattle.http_cut.specs.Routes.{is_good_number, has_good_numbers};
+
+use crate::digits::positive;
+use crate::route::Route;
+use matchit::Params;
+use std::marker::Model;
+
+/// The most digits of a request's number.
+const REQUEST_DIGITS: usize = 12;
+
+/// The most digits of a version, and of a session's number.
+const NUMBER_DIGITS: usize = 9;
+
+/// The route of a target, with its parameters. A clause sees the route, and each name with its text.
+#[derive(Drop)]
+pub struct RouteMatch<'r, 'p> {
+    pub(crate) route: Route,
+    pub(crate) params: Params<'r, 'p>,
+}
+
+impl<'r, 'p> Model for RouteMatch<'r, 'p> {
+    ghost use Rattle.std.specs.Prelude.{ℕ, List};
+    ghost use Rattle.matchit.specs.Params.{walk, AllText};
+    ghost use Rattle.http_cut.specs.declared.route.Route.{Route};
+
+    ghost Value = { Route × List (List ℕ × List ℕ) };
+
+    ghost view = { λ m. (
+      m.route,
+      walk m.params.pattern.now m.params.text.now m.params.path.now m.params.names.now 0 0,
+    ) };
+
+    ghost invariant = { λ m. AllText
+        (walk m.params.pattern.now m.params.text.now m.params.path.now m.params.names.now 0 0) };
+}
+
+impl<'r, 'p> RouteMatch<'r, 'p> {
+    /// The route.
+    pub fn route(&self) -> Route
+        ensures { result ≡ self.now.0 }
+    {
+        self.route
+    }
+
+    /// The text of the parameter of this name.
+    pub fn text(&self, name: &str) -> Option<&'p str>
+        ensures { MatchOption result (named name.now self.now.1 ≡ None)
+            (λ text. named name.now self.now.1 ≡ Some text.now) }
+    {
+        self.params.get(name)
+    }
+
+    /// Whether the parameters that are to be numbers are.
+    pub(crate) fn has_good_numbers(&self) -> bool
+        ensures { result ≡ has_good_numbers self.now.1 }
+    {
+        self.has_good_number("n", REQUEST_DIGITS)
+            && self.has_good_number("version", NUMBER_DIGITS)
+            && self.has_good_number("session", NUMBER_DIGITS)
+    }
+
+    fn has_good_number(&self, name: &str, most: usize) -> bool
+        requires { most ≤ 19 }
+        ensures { result ≡ is_good_number most (named name.now self.now.1) }
+    {
+        match self.text(name) {
+            Some(text) => positive(text.as_bytes(), most).is_some(),
+            None => true,
+        }
+    }
+}
