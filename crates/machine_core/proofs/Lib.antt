@@ -1,0 +1,13 @@
+pub mod Suggestions
+pub mod Chains
+pub mod Tested
+pub mod Joined
+pub mod Newest
+pub mod Stopping
+pub mod Shelving
+pub mod InOrder
+pub mod Masters
+pub mod FullRows
+pub mod Widths
+pub mod GoodRows
+pub mod Placing

@@ -1,0 +1,22 @@
+-- Sessions that are put behind others.
+use Rattle.std.proofs.Common.{◌≡◌, ◌∙◌, ℕ, ◌+◌, List, [], ◌∷◌, ◌++◌, length, refl, sym, ap, append_assoc, arith, eq-eqb}
+use Rattle.std.proofs.lemmas.List.{append-nil, length-append}
+use Rattle.desk_words.specs.declared.rows.session.SessionRow.{SessionRow}
+use Rattle.desk_words.specs.Changes.{put}
+use Rattle.machine_core.specs.Clerk.Batch.{placed}
+use Rattle.machine_core.specs.Own.{put_all}
+
+-- what is put at the end stands behind the others
+put-end : {T : Type 0} (items : List T) (item : T) → put items (length items) item ≡ items ++ item ∷ []
+put-end items item = rw (eq-eqb (length items) (length items) refl) refl
+
+-- sessions that are put behind the others, one after another
+pub put_all-placed : (sessions news : List SessionRow) (count : ℕ) → count ≡ length sessions
+    → put_all sessions (placed count news) ≡ sessions ++ news
+put_all-placed sessions [] count is = sym (append-nil sessions)
+put_all-placed sessions (session ∷ news) count is =
+    let first : put sessions count session ≡ sessions ++ session ∷ [] =
+    ap (λ place. put sessions place session) is ∙ put-end sessions session in
+    let longer : count + 1 ≡ length (sessions ++ session ∷ []) = omega (arith, is, length-append sessions (session ∷ [])) in
+    ap (λ list. put_all list (placed (count + 1) news)) first
+    ∙ put_all-placed (sessions ++ session ∷ []) news (count + 1) longer ∙ append_assoc sessions (session ∷ []) news

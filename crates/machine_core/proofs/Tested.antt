@@ -1,0 +1,227 @@
+-- What a test says, where it finds a value and where it refuses.
+use Rattle.std.proofs.Common.{◌≡◌, ◌⊎◌, ◌∙◌, ℕ, suc, ◌+◌, ◌≤◌, ◌<◌, refl, sym, ap, subst, List, [], ◌∷◌, ◌++◌, length, Contains, inl, inr, Option, Some, None, Bool, true, false, arith}
+use Rattle.std.specs.Prelude.{All, Result, Ok, Err, nat_le}
+use Rattle.std.proofs.lemmas.Bool.Decides.{nat_tests}
+use Rattle.std.proofs.lemmas.List.{length-append}
+use Rattle.std.proofs.lemmas.List.Elements.{All-cons, All-nil, Contains-append_right, Contains-push_cases}
+use Rattle.desk_words.specs.declared.limit.Which.{Which}
+use Rattle.desk_words.specs.declared.refusal.Refusal.{Refusal}
+use Rattle.desk_words.specs.declared.refusal.Refusal.TheVariants.{Limit}
+use Rattle.machine_core.specs.Checked.{Checked, done, ◌>>=◌, certainly, each, each_behind, some_or, unless, value_or, Gives}
+use Rattle.machine_core.specs.Limits.{limit_of, within}
+use Rattle.machine_core.proofs.Chains.{Gives-bind, Gives-bind_err, Gives-bind_ok, done-not_refused, done-value}
+
+-- the test passed
+pub unless-ok : (test : Bool) (refusal : Refusal) (passed : Unit {0}) → Gives (unless test refusal) (Ok passed) → test ≡ true
+unless-ok true refusal passed gives = refl
+unless-ok false refusal passed gives = absurd (cc)
+
+-- what is refused where the test fails
+pub unless-err : (test : Bool) (refusal other : Refusal) → Gives (unless test refusal) (Err other)
+    → (test ≡ false) × (other ≡ refusal)
+unless-err false refusal other gives = (refl, cc)
+unless-err true refusal other gives = absurd (cc)
+
+-- there was one
+pub some_or-ok : {A : Type 0} (option : Option A) (refusal : Refusal) (found : A)
+    → Gives (some_or option refusal) (Ok found) → option ≡ Some found
+some_or-ok None refusal found gives = absurd (cc)
+some_or-ok (Some other) refusal found gives = cc
+
+-- what is refused where there is none
+pub some_or-err : {A : Type 0} (option : Option A) (refusal other : Refusal) → Gives (some_or option refusal) (Err other)
+    → (option ≡ None) × (other ≡ refusal)
+some_or-err None refusal other gives = (refl, cc)
+some_or-err (Some found) refusal other gives = absurd (cc)
+
+-- what valid tables have
+pub certainly-ok : {A : Type 0} (option : Option A) (found : A) → Gives (certainly option) (Ok found) → option ≡ Some found
+certainly-ok None found gives = absurd gives
+certainly-ok (Some other) found gives = cc
+
+-- is never refused
+pub certainly-err : {A : Type 0} (option : Option A) (refusal : Refusal) → Gives (certainly option) (Err refusal) → ⊥
+certainly-err None refusal gives = gives
+certainly-err (Some found) refusal gives = cc
+
+-- and is there, where it is known to be
+pub certainly-some : {A : Type 0} (option : Option A) (found : A) → option ≡ Some found → certainly option ≡ done found
+certainly-some None found is = absurd (cc)
+certainly-some (Some other) found is = cc
+
+-- there was no fault
+pub value_or-ok : {A E : Type 0} (result : Result A E) (refusal_of : E → Refusal) (found : A)
+    → Gives (value_or result refusal_of) (Ok found) → result ≡ Ok found
+value_or-ok (Ok value) refusal_of found gives = cc
+value_or-ok (Err fault) refusal_of found gives = absurd (cc)
+
+-- what is said of the fault
+pub value_or-err : {A E : Type 0} (result : Result A E) (refusal_of : E → Refusal) (other : Refusal)
+    → Gives (value_or result refusal_of) (Err other) → (fault : E) × (result ≡ Err fault) × (other ≡ refusal_of fault)
+value_or-err (Ok value) refusal_of other gives = absurd (cc)
+value_or-err (Err fault) refusal_of other gives = (fault, refl, cc)
+
+-- no more than may stand would stand
+pub within-ok : (which : Which) (count : ℕ) (passed : Unit {0}) → Gives (within which count) (Ok passed)
+    → count ≤ limit_of which
+within-ok which count passed gives =
+    let holds = unless-ok (nat_le count (limit_of which)) (Limit which (limit_of which)) passed gives in
+    grind (arith, nat_tests, holds)
+
+-- more than may stand would
+pub within-err : (which : Which) (count : ℕ) (other : Refusal) → Gives (within which count) (Err other)
+    → (limit_of which < count) × (other ≡ Limit which (limit_of which))
+within-err which count other gives =
+    let fails = unless-err (nat_le count (limit_of which)) (Limit which (limit_of which)) other gives in
+    (grind (arith, nat_tests, fails.0), fails.1)
+
+-- where a list passes, what holds of each that is found holds of all
+pub each-all : {A B : Type 0} (P : B → Type 0) (find : A → Checked B) (items : List A) (found : List B)
+    → ((item : A) (value : B) → Gives (find item) (Ok value) → P value) → Gives (each find items) (Ok found) → All P found
+each-all P find [] found holds gives = subst (All P) (sym (done-value [] found gives)) (All-nil P)
+each-all P find (first ∷ others) found holds gives =
+    let here = Gives-bind_ok (find first) (λ one. each find others >>= (λ more. done (one ∷ more))) found gives in
+    let rest = Gives-bind_ok (each find others) (λ more. done (here.0 ∷ more)) found here.2 in
+    subst (All P) (sym (done-value (here.0 ∷ rest.0) found rest.2)) (All-cons P here.0 rest.0 (holds first here.0 here.1)
+    (each-all P find others rest.0 holds rest.1))
+
+-- as many are found as there are items
+pub each-length : {A B : Type 0} (find : A → Checked B) (items : List A) (found : List B)
+    → Gives (each find items) (Ok found) → length found ≡ length items
+each-length find [] found gives = ap length (done-value [] found gives)
+each-length find (first ∷ others) found gives =
+    let here = Gives-bind_ok (find first) (λ one. each find others >>= (λ more. done (one ∷ more))) found gives in
+    let rest = Gives-bind_ok (each find others) (λ more. done (here.0 ∷ more)) found here.2 in
+    ap length (done-value (here.0 ∷ rest.0) found rest.2) ∙ ap suc (each-length find others rest.0 rest.1)
+
+-- where a list is refused, one of its items is
+pub each-err : {A B : Type 0} (find : A → Checked B) (items : List A) (refusal : Refusal)
+    → Gives (each find items) (Err refusal) → (item : A) × Contains items item × Gives (find item) (Err refusal)
+each-err find [] refusal gives = absurd (cc)
+each-err {A} {B} find (first ∷ others) refusal gives =
+    elim (Gives-bind_err (find first) (λ found. each find others >>= (λ more. done (found ∷ more))) refusal gives) [
+      | inl here ↦ (first, (0, grind arith, refl), here)
+      | inr found ↦ elim (Gives-bind_err (each find others) (λ more. done (found.0 ∷ more)) refusal found.2) [
+        | inl there ↦ (let rest = each-err find others refusal there in
+            (rest.0, Contains-append_right (first ∷ []) others rest.0 rest.1, rest.2))
+        | inr more ↦ absurd (done-not_refused (found.0 ∷ more.0) refusal more.2)
+      ]
+    ]
+
+-- where each item passes behind those before it, what each leaves so holds of all
+pub each_behind-all : {A B : Type 0} (P : List B → Type 0) (find : List B → A → Checked B) (items : List A)
+    (before found : List B)
+    → ((sofar : List B) (item : A) (value : B) → P sofar → Gives (find sofar item) (Ok value) → P (sofar ++ value ∷ []))
+    → P before → Gives (each_behind before find items) (Ok found) → P found
+each_behind-all P find [] before found holds start gives = subst P (sym (done-value before found gives)) start
+each_behind-all P find (first ∷ others) before found holds start gives =
+    let here = Gives-bind_ok (find before first) (λ one. each_behind (before ++ one ∷ []) find others) found gives in
+    each_behind-all P find others (before ++ here.0 ∷ []) found holds (holds before first here.0 start here.1) here.2
+
+-- where such a list is refused, one of its items is, behind those before it
+pub each_behind-err : {A B : Type 0} (find : List B → A → Checked B) (items : List A) (before : List B) (refusal : Refusal)
+    → Gives (each_behind before find items) (Err refusal)
+    → (item : A) × Contains items item × (sofar : List B) × Gives (find sofar item) (Err refusal)
+each_behind-err find [] before refusal gives = absurd (cc)
+each_behind-err find (first ∷ others) before refusal gives =
+    elim (Gives-bind_err (find before first) (λ one. each_behind (before ++ one ∷ []) find others) refusal gives) [
+      | inl here ↦ (first, (0, grind arith, refl), before, here)
+      | inr found ↦ (let rest = each_behind-err find others (before ++ found.0 ∷ []) refusal found.2 in
+          (rest.0, Contains-append_right (first ∷ []) others rest.0 rest.1, rest.2, rest.3))
+    ]
+
+-- as many are found as there are items, behind those before them
+pub each_behind-length : {A B : Type 0} (find : List B → A → Checked B) (items : List A) (before found : List B)
+    → Gives (each_behind before find items) (Ok found) → length found ≡ length before + length items
+each_behind-length find [] before found gives = omega (arith, ap length (done-value before found gives))
+each_behind-length find (first ∷ others) before found gives =
+    let here = Gives-bind_ok (find before first) (λ one. each_behind (before ++ one ∷ []) find others) found gives in
+    omega (arith, each_behind-length find others (before ++ here.0 ∷ []) found here.2, length-append before (here.0 ∷ []))
+
+-- what holds of each refusal of the parts holds of that of the chain
+pub chain-why : {A B : Type 0} (P : Refusal → Type 0) (checked : Checked A) (next : A → Checked B)
+    → ((refusal : Refusal) → Gives checked (Err refusal) → P refusal)
+    → ((found : A) → Gives checked (Ok found) → (refusal : Refusal) → Gives (next found) (Err refusal) → P refusal)
+    → (refusal : Refusal) → Gives (checked >>= next) (Err refusal) → P refusal
+chain-why P checked next first rest refusal gives = elim (Gives-bind_err checked next refusal gives) [
+  | inl here ↦ first refusal here
+  | inr there ↦ rest there.0 there.1 refusal there.2
+]
+
+pub unless-why : (P : Refusal → Type 0) (test : Bool) (refusal : Refusal) → (test ≡ false → P refusal) → (other : Refusal)
+    → Gives (unless test refusal) (Err other) → P other
+unless-why P test refusal why other gives =
+    let says = unless-err test refusal other gives in
+    subst P (sym says.1) (why says.0)
+
+pub some_or-why : {A : Type 0} (P : Refusal → Type 0) (option : Option A) (refusal : Refusal) → (option ≡ None → P refusal)
+    → (other : Refusal) → Gives (some_or option refusal) (Err other) → P other
+some_or-why P option refusal why other gives =
+    let says = some_or-err option refusal other gives in
+    subst P (sym says.1) (why says.0)
+
+pub certainly-why : {A : Type 0} (P : Refusal → Type 0) (option : Option A) (refusal : Refusal)
+    → Gives (certainly option) (Err refusal) → P refusal
+certainly-why P option refusal gives = absurd (certainly-err option refusal gives)
+
+pub value_or-why : {A E : Type 0} (P : Refusal → Type 0) (result : Result A E) (refusal_of : E → Refusal)
+    → ((fault : E) → result ≡ Err fault → P (refusal_of fault)) → (other : Refusal)
+    → Gives (value_or result refusal_of) (Err other) → P other
+value_or-why P result refusal_of why other gives =
+    let says = value_or-err result refusal_of other gives in
+    subst P (sym says.2) (why says.0 says.1)
+
+pub within-why : (P : Refusal → Type 0) (which : Which) (count : ℕ)
+    → (limit_of which < count → P (Limit which (limit_of which))) → (other : Refusal)
+    → Gives (within which count) (Err other) → P other
+within-why P which count why other gives =
+    let says = within-err which count other gives in
+    subst P (sym says.1) (why says.0)
+
+pub done-why : {A : Type 0} (P : Refusal → Type 0) (value : A) (refusal : Refusal) → Gives (done value) (Err refusal)
+    → P refusal
+done-why P value refusal gives = absurd (done-not_refused value refusal gives)
+
+pub each-why : {A B : Type 0} (P : Refusal → Type 0) (find : A → Checked B) (items : List A)
+    → ((item : A) → Contains items item → (refusal : Refusal) → Gives (find item) (Err refusal) → P refusal)
+    → (refusal : Refusal) → Gives (each find items) (Err refusal) → P refusal
+each-why P find items why refusal gives =
+    let says = each-err find items refusal gives in
+    why says.0 says.1 refusal says.2
+
+-- where a list of tests behind one another is refused, the items before the refused one passed
+pub each_behind-refused : {A B : Type 0} (find : List B → A → Checked B) (items : List A) (before : List B)
+    (refusal : Refusal) → Gives (each_behind before find items) (Err refusal)
+    → (earlier : List A) × (item : A) × (later : List A) × (sofar : List B) × (items ≡ earlier ++ item ∷ later)
+    × Gives (each_behind before find earlier) (Ok sofar) × Gives (find sofar item) (Err refusal)
+each_behind-refused find [] before refusal gives = absurd (cc)
+each_behind-refused find (first ∷ others) before refusal gives =
+    elim (Gives-bind_err (find before first) (λ one. each_behind (before ++ one ∷ []) find others) refusal gives) [
+      | inl here ↦ ([], first, others, before, refl, refl, here)
+      | inr found ↦ (let rest = each_behind-refused find others (before ++ found.0 ∷ []) refusal found.2 in (
+        first ∷ rest.0,
+        rest.1,
+        rest.2,
+        rest.3,
+        ap (λ more. first ∷ more) rest.4,
+        Gives-bind (find before first) (λ one. each_behind (before ++ one ∷ []) find rest.0) found.0 (Ok rest.3) found.1
+            rest.5,
+        rest.6,
+      ))
+    ]
+
+-- each value that is found behind others was found for an item
+pub each_behind-found : {A B : Type 0} (find : List B → A → Checked B) (items : List A) (before sofar : List B) (value : B)
+    → Gives (each_behind before find items) (Ok sofar) → Contains sofar value
+    → Contains before value ⊎ ((item : A) × Contains items item × (some : List B) × Gives (find some item) (Ok value))
+each_behind-found find [] before sofar value gives there =
+    inl (subst (λ list. Contains list value) (done-value before sofar gives) there)
+each_behind-found find (first ∷ others) before sofar value gives there =
+    let here = Gives-bind_ok (find before first) (λ one. each_behind (before ++ one ∷ []) find others) sofar gives in
+    elim (each_behind-found find others (before ++ here.0 ∷ []) sofar value here.2 there) [
+      | inl found ↦ elim (Contains-push_cases before here.0 value found) [
+        | inl earlier ↦ inl earlier
+        | inr is ↦ inr (first, (0, grind arith, refl), before, subst (λ one. Gives (find before first) (Ok one)) is here.1)
+      ]
+      | inr rest ↦ inr (rest.0, Contains-append_right (first ∷ []) others rest.0 rest.1, rest.2, rest.3)
+    ]

@@ -1,0 +1,93 @@
+-- A value, or the first test that fails, with the answers of the engine that are asked for on the way.
+use Rattle.std.specs.Prelude.{◌≡◌, Bool, true, false, List, [], ◌∷◌, ◌++◌, Option, Some, None, Result, Ok, Err}
+use Rattle.desk_words.specs.declared.refusal.Refusal.{Refusal}
+use Rattle.fix_model.specs.declared.kit.Kit.{Kit}
+use Rattle.fix_model.specs.declared.region.Region.{Region}
+use Rattle.fix_model.specs.declared.state.State.{State}
+use Rattle.fix_model.specs.declared.state.Step.{Step}
+use Rattle.fix_engine.specs.declared.verdict.Verdict.{Verdict}
+use Rattle.fix_engine.specs.Verdicts.{IsAnswer}
+use Rattle.region_suggest.specs.declared.suggestion.Suggestion.{Suggestion}
+use Rattle.region_suggest.specs.Suggestions.{IsSuggestion}
+
+-- what the engine answers for a state: the first run, the second, and the verdict
+pub record Answer : Type 0 where
+  pub first : List Step
+  pub second : List Step
+  pub verdict : Verdict
+
+-- a value, a refusal, or a question and what comes of its answer: what the rules make of a state, or what is suggested
+-- for it; or what valid tables rule out
+pub data Checked (A : Type 0) : Type 0 where
+  done : A → Checked A
+  refused : Refusal → Checked A
+  asked : Kit → State → (Answer → Checked A) → Checked A
+  advised : Kit → State → List Region → (Suggestion → Checked A) → Checked A
+  never : Checked A
+
+infixl 10 ◌>>=◌
+-- what comes of a value, where the tests before it pass
+abbrev pub ◌>>=◌ : {A B : Type 0} → Checked A → (A → Checked B) → Checked B
+done value >>= next = next value
+refused refusal >>= next = refused refusal
+asked kit state more >>= next = asked kit state (λ answer. more answer >>= next)
+advised kit state regions more >>= next = advised kit state regions (λ suggestion. more suggestion >>= next)
+never >>= next = never
+
+infixl 10 ◌>>◌
+-- a test whose value is not wanted
+abbrev pub ◌>>◌ : {A B : Type 0} → Checked A → Checked B → Checked B
+test >> rest = test >>= (λ _. rest)
+
+-- refused so, where the test fails
+abbrev pub unless : Bool → Refusal → Checked (Unit {0})
+unless true refusal = done tt
+unless false refusal = refused refusal
+
+-- refused so, where there is none
+abbrev pub some_or : {A : Type 0} → Option A → Refusal → Checked A
+some_or None refusal = refused refusal
+some_or (Some found) refusal = done found
+
+-- what valid tables have
+abbrev pub certainly : {A : Type 0} → Option A → Checked A
+certainly None = never
+certainly (Some found) = done found
+
+-- refused by what is said of the fault, where there is one
+abbrev pub value_or : {A E : Type 0} → Result A E → (E → Refusal) → Checked A
+value_or (Ok value) refusal_of = done value
+value_or (Err fault) refusal_of = refused (refusal_of fault)
+
+-- what is found of each item, in their order, where each passes
+abbrev pub each : {A B : Type 0} → (A → Checked B) → List A → Checked (List B)
+each find [] = done []
+each find (first ∷ others) = do
+  found ← find first
+  more ← each find others
+  done (found ∷ more)
+
+-- what is found of each item among those that were found before it, behind these
+abbrev pub each_behind : {A B : Type 0} → List B → (List B → A → Checked B) → List A → Checked (List B)
+each_behind before find [] = done before
+each_behind before find (first ∷ others) = do
+  found ← find before first
+  each_behind (before ++ found ∷ []) find others
+
+-- what the rules make of a state
+abbrev pub answer_for : Kit → State → Checked Answer
+answer_for kit state = asked kit state (λ answer. done answer)
+
+-- what is suggested for a state
+abbrev pub advice_for : Kit → State → List Region → Checked Suggestion
+advice_for kit state regions = advised kit state regions (λ suggestion. done suggestion)
+
+-- the result that comes of it, where the engine answers as it is defined to
+abbrev pub Gives : {A : Type 0} → Checked A → Result A Refusal → Type 0
+Gives (done value) result = result ≡ Ok value
+Gives (refused refusal) result = result ≡ Err refusal
+Gives (asked kit state next) result =
+    (answer : Answer) × IsAnswer kit state answer.first answer.second answer.verdict × Gives (next answer) result
+Gives (advised kit state regions next) result =
+    (suggestion : Suggestion) × IsSuggestion kit state regions suggestion × Gives (next suggestion) result
+Gives never result = ⊥

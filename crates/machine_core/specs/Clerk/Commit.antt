@@ -1,0 +1,63 @@
+-- Commit: the record at the end of the first run is kept.
+use Rattle.std.specs.Prelude.{ℕ, ◌+◌, ◌-◌, ◌==◌, [], ◌∷◌, length, Some, None}
+use Rattle.desk_words.specs.declared.clerk_work.Accept.{Accept}
+use Rattle.desk_words.specs.declared.clerk_work.Accept.TheVariants.{Certain, Partial}
+use Rattle.desk_words.specs.declared.limit.Which.TheVariants as which
+use Rattle.desk_words.specs.declared.refusal.Refusal.TheVariants.{InConflict, NotCertain}
+use Rattle.desk_words.specs.declared.rows.act.Act.TheVariants as act
+use Rattle.desk_words.specs.declared.rows.record.RecordRow.{RecordRow}
+use Rattle.desk_words.specs.declared.rows.session.SessionRow.{SessionRow}
+use Rattle.desk_words.specs.declared.rows.session.Stage.TheVariants.{Committed}
+use Rattle.desk_words.specs.Tables.{Published}
+use Rattle.desk_valid.specs.declared.bound.Bound.{Bound}
+use Rattle.fix_engine.specs.declared.verdict.Verdict.{Verdict}
+use Rattle.fix_engine.specs.declared.verdict.Verdict.TheVariants.{Fix, Conflict}
+use Rattle.fix_model.specs.declared.state.State.{State}
+use Rattle.fix_model.specs.Run.{end_of}
+use Rattle.fix_model.specs.States.{record_of, uncovered_count}
+use Rattle.machine_core.specs.Answers.{bound_for, state_of}
+use Rattle.machine_core.specs.Checked.{Checked, ◌>>=◌, ◌>>◌, answer_for, done, refused, unless}
+use Rattle.machine_core.specs.Limits.{within}
+use Rattle.machine_core.specs.Own.{Own}
+use Rattle.machine_core.specs.declared.deed.Deed.{Deed}
+use Rattle.desk_valid.specs.Tallies.{bytes_in, text_bytes}
+use Rattle.machine_core.specs.Tests.{active_session}
+
+-- the verdict is a fix
+abbrev pub not_in_conflict : Verdict → Checked (Unit {0})
+not_in_conflict (Fix certain dissent) = done tt
+not_in_conflict Conflict = refused InConflict
+
+-- so many uncovered attributes are accepted
+abbrev pub accepts : Accept → ℕ → Checked (Unit {0})
+accepts Partial count = done tt
+accepts Certain count = unless (count == 0) (NotCertain count)
+
+-- the record at the end of a run; an uncovered attribute has its typed text
+abbrev pub record_at : Bound → ℕ → State → RecordRow
+record_at bound number end =
+    record { session = number; texts = record_of bound.kit end; certain = uncovered_count end == 0 }
+
+-- the tests, in their order, and the record
+abbrev pub commit_rows : Published → Own → ℕ → Accept → Checked (SessionRow × RecordRow)
+commit_rows published own number accept = do
+  session ← active_session own.sessions number
+  bound ← bound_for published session
+  answer ← answer_for bound.kit (state_of session)
+  not_in_conflict answer.verdict
+  let end = end_of bound.kit (state_of session) answer.first
+  accepts accept (uncovered_count end)
+  let row = record_at bound number end
+  within which.Bytes (text_bytes own.sessions own.records + bytes_in row.texts)
+  done (record session { stage = Committed }, row)
+
+abbrev pub commit : Published → Own → ℕ → Accept → Checked Deed
+commit published own number accept = do
+  (session, row) ← commit_rows published own number accept
+  done (record {
+    sessions = (number - 1, session) ∷ [];
+    record_row = Some row;
+    batch = None;
+    act = act.Committed;
+    target = length own.records;
+  })

@@ -1,0 +1,45 @@
+-- How rows are found: what was published by its name and version, a session by its number.
+use Rattle.std.specs.Prelude.{ℕ, ◌+◌, ◌-◌, ◌==◌, ◌&&◌, List, count_by, position, slice_get, Option, None, if◌then◌else◌}
+use Rattle.std.specs.Str.{bytes_eq}
+use Rattle.desk_words.specs.declared.rows.edition.EditionRow.{EditionRow}
+use Rattle.desk_words.specs.declared.rows.master.MasterRow.{MasterRow}
+use Rattle.desk_words.specs.declared.rows.rulebook.RulebookRow.{RulebookRow}
+use Rattle.desk_words.specs.declared.rows.schema.SchemaRow.{SchemaRow}
+use Rattle.desk_words.specs.declared.rows.session.SessionRow.{SessionRow}
+
+-- the place of the row with this name and version
+abbrev pub place_of : {T : Type 0} → (T → List ℕ) → (T → ℕ) → List T → List ℕ → ℕ → Option ℕ
+place_of name_of version_of rows name version =
+    position (λ row. bytes_eq (name_of row) name && (version_of row == version)) rows
+
+-- how many versions of the name there are
+abbrev pub version_count : {T : Type 0} → (T → List ℕ) → List T → List ℕ → ℕ
+version_count name_of rows name = count_by (λ row. bytes_eq (name_of row) name) rows
+
+-- the place of the newest version of the name
+abbrev pub newest_of : {T : Type 0} → (T → List ℕ) → (T → ℕ) → List T → List ℕ → Option ℕ
+newest_of name_of version_of rows name = place_of name_of version_of rows name (version_count name_of rows name)
+
+-- the version that the next row of the name has
+abbrev pub next_version : {T : Type 0} → (T → List ℕ) → List T → List ℕ → ℕ
+next_version name_of rows name = version_count name_of rows name + 1
+
+abbrev pub schema_named : List SchemaRow → List ℕ → ℕ → Option ℕ
+schema_named schemas name version = place_of (λ row. row.name) (λ row. row.version) schemas name version
+
+abbrev pub master_named : List MasterRow → List ℕ → ℕ → Option ℕ
+master_named masters name version = place_of (λ row. row.name) (λ row. row.version) masters name version
+
+abbrev pub rulebook_named : List RulebookRow → List ℕ → ℕ → Option ℕ
+rulebook_named rulebooks name version = place_of (λ row. row.name) (λ row. row.version) rulebooks name version
+
+abbrev pub edition_named : List EditionRow → List ℕ → ℕ → Option ℕ
+edition_named editions name version = place_of (λ row. row.name) (λ row. row.version) editions name version
+
+-- the place of the newest version of an edition's name
+abbrev pub newest_edition : List EditionRow → List ℕ → Option ℕ
+newest_edition editions name = newest_of (λ row. row.name) (λ row. row.version) editions name
+
+-- the session with this number, counted from 1
+abbrev pub session_at : List SessionRow → ℕ → Option SessionRow
+session_at sessions number = if number == 0 then None else slice_get sessions (number - 1)

@@ -1,0 +1,6 @@
+-- What a clerk looks at, one look a file.
+pub mod View
+pub mod Suggest
+pub mod Preview
+pub mod Report
+pub mod Records

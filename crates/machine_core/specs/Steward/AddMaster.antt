@@ -1,0 +1,19 @@
+-- AddMaster: the next version of a master's name.
+use Rattle.std.specs.Prelude.{ℕ, ◌+◌, List, length}
+use Rattle.desk_words.specs.declared.limit.Which.TheVariants as which
+use Rattle.desk_words.specs.declared.rows.master.MasterRow.{MasterRow}
+use Rattle.master_rows.specs.Sheet.{read_sheet}
+use Rattle.machine_core.specs.Checked.{Checked, ◌>>=◌, ◌>>◌, done, value_or}
+use Rattle.machine_core.specs.Faults.{sheet_refusal}
+use Rattle.machine_core.specs.Finding.{next_version}
+use Rattle.machine_core.specs.Limits.{within}
+use Rattle.desk_valid.specs.Tallies.{cell_count, master_cells}
+use Rattle.machine_core.specs.Tests as tests
+
+abbrev pub master_row : List MasterRow → List ℕ → List ℕ → Checked MasterRow
+master_row masters name body = do
+  tests.proper_name name
+  master ← value_or (read_sheet body) sheet_refusal
+  within which.Masters (length masters + 1)
+  within which.MasterCells (master_cells masters + cell_count master)
+  done (record { name = name; version = next_version (λ row. row.name) masters name; body = body })

@@ -1,0 +1,40 @@
+//! The session machine: what it is, the tests that several of its commands make, and the steward's part.
+//!
+//! `specs/Machine.antt` says what a request comes to, over one file for each command in `specs/Steward`,
+//! `specs/Clerk` and `specs/Look`. `specs/Checked.antt` has the form of tests in their order, and
+//! `specs/Outcomes.antt` what a part of the machine answers by them.
+#![tactic(auto)]
+
+mod answers;
+mod attributes;
+mod column;
+mod deed;
+mod faults;
+mod finding;
+mod holding;
+mod limits;
+mod machine;
+mod making;
+mod naming;
+mod own;
+mod sessions;
+mod steward;
+mod stop;
+mod ticket;
+
+pub use answers::state_of;
+pub use attributes::{another_attributes, attribute_of, attributes_of, typed_cells};
+pub use column::Column;
+pub use deed::Deed;
+pub use faults::{bind_stop, read_master, read_rulebook, read_schema};
+pub use finding::{named, newest_of, next_version, place_of};
+pub use holding::{hold, shelved};
+pub use limits::{limit_of, within};
+pub use machine::{Machine, SettleFail, StartFail, Weighed};
+pub use making::Making;
+pub use naming::proper_name;
+pub use own::Own;
+pub use sessions::{active, active_session, session_of};
+pub use steward::{clerk_row, edition_row, master_row, region_on, rulebook_row, schema_row};
+pub use stop::Stop;
+pub use ticket::{Use, ticketed, use_of};

@@ -1,0 +1,20 @@
+//! Names of what is new.
+ghost use Rattle.std.specs.Prelude.{◌≤◌, OnOk, length};
+ghost use Rattle.machine_core.specs.Outcomes.{Finds};
+ghost use Rattle.machine_core.specs.Tests.{proper_name};
+
+use crate::stop::Stop;
+use desk_base::{Duplicate, Str, is_name};
+use desk_words::Refusal;
+
+/// The text is a name.
+pub fn proper_name(text: &Str) -> Result<(), Stop>
+    ensures finds { Finds result (proper_name text.now) }
+    ensures short { OnOk result (length text.now ≤ 32) }
+{
+    if is_name(text.as_str().as_bytes()) {
+        Ok(())
+    } else {
+        Err(Stop::Refused(Refusal::BadName(text.copy()?)))
+    }
+}

@@ -1,0 +1,52 @@
+//! AddMaster: the next version of a master's name.
+ghost use Rattle.std.specs.Prelude.{◌≡◌, ◌<◌, ◌^◌, length};
+ghost use Rattle.desk_valid.specs.Tallies.{cell_count, master_cells};
+ghost use Rattle.master_rows.specs.Master.{IsMaster};
+ghost use Rattle.machine_core.specs.Outcomes.{Finds};
+ghost use Rattle.machine_core.specs.Steward.AddMaster.{master_row};
+ghost use Rattle.machine_core.specs.Versions.{AreVersions};
+
+use crate::faults::read_master;
+use crate::finding::next_version;
+use crate::limits::within;
+use crate::naming::proper_name;
+use crate::stop::Stop;
+use desk_base::{Duplicate, List, Str, Text};
+use desk_words::{MasterRow, Which};
+use master_rows::Master;
+use std::alloc::Global;
+
+/// The row of a new master, where the masters so far have so many cells.
+pub fn master_row(
+    alloc: Global,
+    masters: &[MasterRow],
+    cells: u64,
+    name: &Str,
+    body: &List<u8>,
+) -> Result<MasterRow, Stop>
+    requires versions { AreVersions (λ row. row.name) (λ row. row.version) masters.now }
+    requires few { length masters.now < 2 ^ 31 }
+    requires cells { cells ≡ master_cells masters.now }
+    requires bound { cells < 2 ^ 63 }
+    ensures { Finds result (master_row masters.now name.now body.now) }
+{
+    proper_name(name)?;
+    let master = read_master(alloc, body.as_slice())?;
+    within(Which::Masters, masters.len() as u64 + 1)?;
+    within(Which::MasterCells, cells + cell_count(&master))?;
+    let version = next_version(masters, name.as_str());
+    Ok(MasterRow {
+        name: Text::of(alloc, name.as_str())?,
+        version,
+        body: body.copy()?,
+    })
+}
+
+/// The cells of a master, without its header.
+fn cell_count(master: &Master) -> u64
+    requires { IsMaster master.now }
+    ensures count { result ≡ cell_count master.now }
+    ensures few { result < 2 ^ 32 }
+{
+    master.columns.len() as u64 * u64::from(master.grid.rows())
+}

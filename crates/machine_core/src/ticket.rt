@@ -1,0 +1,56 @@
+//! Whether a write is a new one, or the last one again.
+ghost use Rattle.std.specs.Prelude.{◌≡◌, ◌≤◌, IfOk};
+ghost use Rattle.desk_base.specs.declared.limits.TheConstants.{MAX_REQUEST};
+ghost use Rattle.machine_core.specs.Outcomes.{Finds};
+ghost use Rattle.machine_core.specs.Ticket.{ticketed, use_of};
+
+use crate::stop::Stop;
+use desk_base::{Duplicate, NoMemory};
+use desk_words::{Act, ClerkRow, Refusal, Ticket};
+
+/// What the number of a write says.
+#[derive(Clone, Copy, Debug, PartialEq, Eq)]
+pub enum Use {
+    /// It follows the last one.
+    Fresh,
+    /// It is the last one again, of the same request.
+    Repeated,
+}
+
+/// Whether a write of a caller is a new one, or the last one again.
+pub fn use_of(row: &ClerkRow, ticket: &Ticket) -> Result<Use, Stop>
+    requires { row.now.last ≤ MAX_REQUEST }
+    ensures { Finds result (use_of row.now ticket.now) }
+{
+    let last = row.last;
+    if ticket.number < last {
+        Err(Stop::Refused(Refusal::Stale(last)))
+    } else if ticket.number > last + 1 {
+        Err(Stop::Refused(Refusal::Gap(last)))
+    } else if ticket.number > last {
+        Ok(Use::Fresh)
+    } else if row.digest == ticket.digest {
+        Ok(Use::Repeated)
+    } else {
+        Err(Stop::Refused(Refusal::Reused(last)))
+    }
+}
+
+/// The row of a caller whose write was accepted.
+pub fn ticketed(
+    row: &ClerkRow,
+    ticket: &Ticket,
+    act: Act,
+    target: u32,
+) -> Result<ClerkRow, NoMemory>
+    ensures { IfOk result (λ made. made ≡ ticketed row.now ticket.now act target) }
+{
+    let name = row.name.copy()?;
+    Ok(ClerkRow {
+        name,
+        last: ticket.number,
+        digest: ticket.digest,
+        act,
+        target,
+    })
+}

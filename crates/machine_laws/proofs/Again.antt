@@ -1,0 +1,235 @@
+-- A write that comes again.
+use Rattle.std.proofs.Common.{◌≡◌, ◌≢◌, ◌⊎◌, ◌∙◌, ℕ, ◌+◌, ◌<◌, Bool, true, false, List, [], length, None, inl, inr, refl, sym, ap, subst, arith}
+use Rattle.std.specs.Prelude.{Ok, if◌then◌else◌, nat_lt, ◌==◌}
+use Rattle.std.specs.Str.{bytes_eq}
+use Rattle.std.proofs.lemmas.Bool.Decides.{nat_tests}
+use Rattle.std.proofs.lemmas.List.{get_or-set_same}
+use Rattle.std.proofs.lemmas.Slice.Eq.{bytes_eq-Decides}
+use Rattle.desk_words.specs.declared.change.Change.{Change}
+use Rattle.desk_words.specs.declared.clerk_work.ClerkWork.{ClerkWork}
+use Rattle.desk_words.specs.declared.command.Command.{Command}
+use Rattle.desk_words.specs.declared.command.Command.TheVariants.{Steward, Clerk}
+use Rattle.desk_words.specs.declared.command.Ticket.{Ticket}
+use Rattle.desk_words.specs.declared.made.Made.{Made}
+use Rattle.desk_words.specs.declared.refusal.Refusal.TheVariants.{Gap, Reused, Stale}
+use Rattle.desk_words.specs.declared.reply.Reply.{Reply}
+use Rattle.desk_words.specs.declared.reply.Reply.TheVariants as reply
+use Rattle.desk_words.specs.declared.rows.act.Act.{Act}
+use Rattle.desk_words.specs.declared.rows.act.Act.TheVariants as act
+use Rattle.desk_words.specs.declared.rows.clerk.ClerkRow.{ClerkRow}
+use Rattle.desk_words.specs.declared.steward_work.StewardWork.{StewardWork}
+use Rattle.desk_words.specs.Changes.{changed, changed_all}
+use Rattle.desk_words.specs.Tables.{Published, Rows, new_clerk, published_of}
+use Rattle.desk_valid.specs.Rows.Clerk.{HasTarget}
+use Rattle.desk_valid.specs.Valid.{AreValid}
+use Rattle.machine_core.specs.Checked.{Checked, done, refused, ◌>>=◌, unless, Gives}
+use Rattle.machine_core.specs.Kept.{kept_made, kept_reply}
+use Rattle.machine_core.specs.Machine.{IsStep, answered, changes_if, clerk_of, clerk_write, clerk_write_at, machine, steward_write}
+use Rattle.machine_core.specs.Own.{Own, after, own_of}
+use Rattle.machine_core.specs.declared.ticket.Use.{Use}
+use Rattle.machine_core.specs.declared.ticket.Use.TheVariants.{Fresh, Repeated}
+use Rattle.machine_core.specs.Ticket.{repeat_of, ticketed, use_of}
+use Rattle.machine_core.proofs.Chains.{Gives-bind, Gives-bind_ok, Gives-unique, done-value}
+use Rattle.machine_laws.specs.Callers.{Caller, asks, clerk, steward}
+use Rattle.machine_laws.proofs.Accepted.{making-sound}
+use Rattle.machine_laws.proofs.Callers.{names_of}
+use Rattle.machine_laws.proofs.Deeds.{own_after}
+use Rattle.machine_laws.proofs.Kept.{kept_made-more, kept_reply-more}
+use Rattle.machine_laws.proofs.Lists.{Begins, Begins-same, slice_get-read, slice_get-there}
+use Rattle.machine_laws.proofs.Names.{clerk_of-begins, clerk_of-same}
+use Rattle.machine_laws.proofs.Staying.{AreMore-same, IsAccepted, IsLonger, after-clerk, after-steward, by_clerk, by_steward, names-set, own_of-with_same, step-cases, step-kept, step-longer, with_making}
+use Rattle.machine_laws.proofs.Valid.{own-rows, with_own}
+use Rattle.machine_laws.proofs.Writes.{clerk_of-ok}
+
+-- the tests of a number
+abbrev pub use_at : Bool → Bool → Bool → ClerkRow → Ticket → Checked Use
+use_at stale gap same row ticket =
+    if stale then refused (Stale row.last)
+    else if gap then refused (Gap row.last)
+    else if same then repeat_of row ticket
+    else done Fresh
+
+fresh-tests : (stale gap same : Bool) (row : ClerkRow) (ticket : Ticket) → Gives (use_at stale gap same row ticket) (Ok Fresh)
+    → (stale ≡ false) × (gap ≡ false) × (same ≡ false)
+fresh-tests true gap same row ticket gives = absurd (cc)
+fresh-tests false true same row ticket gives = absurd (cc)
+fresh-tests false false true row ticket gives =
+    let passed = Gives-bind_ok (unless (bytes_eq row.digest.bytes ticket.digest.bytes) (Reused row.last)) (λ _. done Repeated)
+    Fresh gives in
+    absurd (let same = done-value Repeated Fresh passed.2 in cc)
+fresh-tests false false false row ticket gives = (refl, refl, refl)
+
+-- a new number follows the last
+pub use-fresh : (row : ClerkRow) (ticket : Ticket) → Gives (use_of row ticket) (Ok Fresh) → ticket.number ≡ row.last + 1
+use-fresh row ticket gives =
+    let told = fresh-tests (nat_lt ticket.number row.last) (nat_lt (row.last + 1) ticket.number) (ticket.number == row.last)
+    row ticket gives in
+    grind (arith, nat_tests, told.0, told.1, told.2)
+
+-- after an accepted write its ticket is the last one
+use-again : (row : ClerkRow) (ticket : Ticket) (what : Act) (target : ℕ)
+    → use_of (ticketed row ticket what target) ticket ≡ done Repeated
+use-again row ticket what target =
+    let same : bytes_eq ticket.digest.bytes ticket.digest.bytes ≡ true =
+    (bytes_eq-Decides ticket.digest.bytes ticket.digest.bytes).1 refl in
+    grind (arith, nat_tests, same)
+
+-- a number below the last is stale
+pub use-stale : (row : ClerkRow) (ticket : Ticket) → ticket.number < row.last
+    → use_of row ticket ≡ refused (Stale row.last)
+use-stale row ticket less =
+    let told : nat_lt ticket.number row.last ≡ true = grind (arith, nat_tests, less) in
+    ap (λ stale. use_at stale (nat_lt (row.last + 1) ticket.number) (ticket.number == row.last) row ticket) told
+
+-- the kept reply needs nothing of the caller's row
+kept-row : (published : Published) (own : Own) (row : ClerkRow) (what : Act) (target : ℕ)
+    → kept_reply published (record own { row = row }) what target ≡ kept_reply published own what target
+kept-row published own row act.Nothing target = refl
+kept-row published own row act.Clerk target = refl
+kept-row published own row act.Schema target = refl
+kept-row published own row act.Master target = refl
+kept-row published own row act.Rulebook target = refl
+kept-row published own row act.Edition target = refl
+kept-row published own row act.Region target = refl
+kept-row published own row act.Opened target = refl
+kept-row published own row act.Changed target = refl
+kept-row published own row act.Committed target = refl
+kept-row published own row act.Batched target = refl
+
+-- the request is the caller's last one, and this is its kept reply
+pub data IsLast (rows : Rows) : Command → Reply → Type 0 where
+  of_clerk : (name : List ℕ) (ticket : Ticket) (work : ClerkWork) (answer : Reply) (place : ℕ)
+      → clerk_of rows.clerks name ≡ done place → use_of (own_of rows place).row ticket ≡ done Repeated
+      → Gives (kept_reply (published_of rows) (own_of rows place) (own_of rows place).row.act
+      (own_of rows place).row.target) (Ok answer)
+      → IsLast rows (Clerk name ticket work) answer
+  of_steward : (ticket : Ticket) (work : StewardWork) (made : Made) → use_of (own_of rows 0).row ticket ≡ done Repeated
+      → Gives (kept_made rows (own_of rows 0).row.act (own_of rows 0).row.target) (Ok made)
+      → IsLast rows (Steward ticket work) (reply.Made made)
+
+-- it gets that reply again, and changes nothing
+last-answer : (rows : Rows) (command : Command) (answer : Reply) → IsLast rows command answer
+    → Gives (machine rows command) (Ok (answer, []))
+last-answer rows command answer (of_clerk name ticket work answer' place found used kept) =
+    let own : Own = own_of rows place in
+    let published : Published = published_of rows in
+    let both : Gives (clerk_write_at published own work Repeated) (Ok (answer', None)) =
+    Gives-bind (kept_reply published own own.row.act own.row.target) (λ one. done (one, None)) answer' (Ok (answer', None))
+    kept refl in
+    let used_it : Gives (use_of own.row ticket) (Ok Repeated) =
+    subst (λ one. Gives one (Ok Repeated)) (sym used) refl in
+    let written : Gives (clerk_write published own ticket work) (Ok (answer', None)) =
+    Gives-bind (use_of own.row ticket) (clerk_write_at published own work) Repeated (Ok (answer', None)) used_it both in
+    let found_it : Gives (clerk_of rows.clerks name) (Ok place) = subst (λ one. Gives one (Ok place)) (sym found) refl in
+    Gives-bind (clerk_of rows.clerks name) (λ there. clerk_write published (own_of rows there) ticket work >>= (λ one. done
+    (one.0, changes_if there (own_of rows there).row ticket one.1))) place (Ok (answer', [])) found_it
+    (Gives-bind (clerk_write published own ticket work) (λ one. done (one.0, changes_if place own.row ticket one.1))
+    (answer', None) (Ok (answer', [])) written refl)
+last-answer rows command answer (of_steward ticket work made used kept) =
+    let used_it : Gives (use_of (own_of rows 0).row ticket) (Ok Repeated) =
+    subst (λ one. Gives one (Ok Repeated)) (sym used) refl in
+    Gives-bind (use_of (own_of rows 0).row ticket) (steward_write rows ticket work) Repeated (Ok (reply.Made made, []))
+    used_it (Gives-bind (kept_made rows (own_of rows 0).row.act (own_of rows 0).row.target) (λ one. done (reply.Made one, []))
+    made (Ok (reply.Made made, [])) kept refl)
+
+pub last-step : (rows : Rows) (command : Command) (answer other : Reply) (changes : List Change)
+    → IsLast rows command answer → IsStep rows command other changes → (other ≡ answer) × (changes ≡ [])
+last-step rows command answer other changes last step =
+    let same = Gives-unique (machine rows command) step.outcome (Ok (answer, [])) step.gives (last-answer rows command answer
+    last) in
+    let pair = step.answers ∙ ap answered same in
+    (ap (λ (both : Reply × List Change). both.0) pair, ap (λ (both : Reply × List Change). both.1) pair)
+
+module _ (rows : Rows) (valid : AreValid rows) where
+  -- an accepted write is the caller's last one
+  accepted-last : (command : Command) (answer : Reply) (changes : List Change) → IsAccepted rows command answer changes
+      → IsLast (changed_all rows changes) command answer
+  accepted-last command answer changes (by_clerk name ticket work answer' changes' new) =
+      let own : Own = own_of rows new.place in
+      let made : Own = own_after own ticket new.deed in
+      let next : Rows = with_own rows new.place made in
+      let names = names-set rows new.place made.row new.is_place.within refl in
+      let found : clerk_of next.clerks name ≡ done new.place =
+      clerk_of-same rows.clerks next.clerks name names ∙ new.is_place.found in
+      let same : own_of next new.place ≡ made = own_of-with_same rows new.place made valid.tables new.is_place.within in
+      let used : use_of (own_of next new.place).row ticket ≡ done Repeated =
+      ap (λ (one : Own). use_of one.row ticket) same ∙ use-again own.row ticket new.deed.act new.deed.target in
+      let kept : Gives (kept_reply (published_of rows) made made.row.act made.row.target) (Ok answer') =
+      subst (λ one. Gives one (Ok answer')) (sym (kept-row (published_of rows) (after own new.deed) made.row new.deed.act
+      new.deed.target)) new.kept in
+      subst (λ (one : Rows). IsLast one (Clerk name ticket work) answer') (sym (after-clerk rows valid name ticket work answer'
+      changes' new)) (of_clerk name ticket work answer' new.place found used
+      (subst (λ (one : Own). Gives (kept_reply (published_of rows) one one.row.act one.row.target) (Ok answer')) (sym same)
+      kept))
+  accepted-last command answer changes (by_steward ticket work answer' changes' new) =
+      let sound = making-sound rows work new.making valid new.makes in
+      let next : Rows = changed rows new.making.change in
+      let row : ClerkRow = ticketed (own_of rows 0).row ticket new.making.act new.making.target in
+      let last : Rows = with_making rows valid ticket new.making in
+      let there : (own_of last 0).row ≡ row =
+      get_or-set_same next.clerks 0 row (new_clerk []) sound.valid.tables.steward in
+      let names = names-set next 0 row sound.valid.tables.steward (ap (λ (own : Own). own.row.name) (sym (sound.own 0
+      valid.tables.steward))) in
+      let same : kept_made last new.making.act new.making.target ≡ kept_made next new.making.act new.making.target =
+      kept_made-more next last sound.valid (AreMore-same (published_of next))
+      (subst (Begins (names_of next.clerks)) (sym names) (Begins-same (names_of next.clerks))) new.making.act
+      new.making.target sound.is_done.stands in
+      let kept : Gives (kept_made last row.act row.target) (Ok new.made) =
+      subst (λ one. Gives one (Ok new.made)) (sym same) new.kept in
+      let used : use_of (own_of last 0).row ticket ≡ done Repeated =
+      ap (λ (one : ClerkRow). use_of one ticket) there ∙ use-again (own_of rows 0).row ticket new.making.act
+      new.making.target in
+      subst (λ (one : Rows). IsLast one (Steward ticket work) answer') (sym (after-steward rows valid ticket work answer'
+      changes' new)) (subst (IsLast last (Steward ticket work)) (sym new.answered) (of_steward ticket work new.made used
+      (subst (λ (one : ClerkRow). Gives (kept_made last one.act one.target) (Ok new.made)) (sym there) kept)))
+
+  pub step-last : (command : Command) (answer : Reply) (changes : List Change) → IsStep rows command answer changes
+      → changes ≢ [] → IsLast (changed_all rows changes) command answer
+  step-last command answer changes step some = elim (step-cases rows command answer changes step) [
+    | inl none ↦ absurd (some none)
+    | inr accepted ↦ accepted-last command answer changes accepted
+  ]
+
+  -- and it stays so until the caller's next one
+  pub last-stays : (caller : Caller) (command : Command) (answer : Reply) → asks caller command ≡ true
+      → IsLast rows command answer → (other : Command) (reply_to : Reply) (changes : List Change)
+      → IsStep rows other reply_to changes → (changes ≡ []) ⊎ (asks caller other ≡ false)
+      → IsLast (changed_all rows changes) command answer
+  last-stays steward command answer asked_it (of_clerk name ticket work answer' place found used kept) other reply_to changes
+      step not_its = absurd (cc)
+  last-stays (clerk named) command answer asked_it (of_clerk name ticket work answer' place found used kept) other reply_to
+      changes step not_its =
+      let next : Rows = changed_all rows changes in
+      let same_name : name ≡ named = (bytes_eq-Decides name named).0 asked_it in
+      let longer : IsLonger rows valid next = step-longer rows valid other reply_to changes step in
+      let there : clerk_of rows.clerks named ≡ done place =
+      subst (λ one. clerk_of rows.clerks one ≡ done place) same_name found in
+      let found_it : clerk_of next.clerks name ≡ done place =
+      clerk_of-begins rows.clerks next.clerks name place longer.names found in
+      let within : place < length rows.clerks =
+      (clerk_of-ok rows.clerks name place (subst (λ one. Gives one (Ok place)) (sym found) refl)).within in
+      let same : own_of next place ≡ own_of rows place =
+      step-kept rows valid (clerk named) place other reply_to changes step not_its there in
+      let own : Own = own_of rows place in
+      let kept_it : Gives (kept_reply (published_of next) own own.row.act own.row.target) (Ok answer') =
+      subst (λ one. Gives one (Ok answer')) (sym (kept_reply-more rows valid (published_of next) longer.published own
+      (own-rows rows valid place) own.row.act own.row.target)) kept in
+      of_clerk name ticket work answer' place found_it (ap (λ (one : Own). use_of one.row ticket) same ∙ used)
+      (subst (λ (one : Own). Gives (kept_reply (published_of next) one one.row.act one.row.target) (Ok answer')) (sym same)
+      kept_it)
+  last-stays (clerk named) command answer asked_it (of_steward ticket work made used kept) other reply_to changes step not_its =
+      absurd (cc)
+  last-stays steward command answer asked_it (of_steward ticket work made used kept) other reply_to changes step not_its =
+      let next : Rows = changed_all rows changes in
+      let longer : IsLonger rows valid next = step-longer rows valid other reply_to changes step in
+      let same : own_of next 0 ≡ own_of rows 0 = step-kept rows valid steward 0 other reply_to changes step not_its refl in
+      let row : ClerkRow = (own_of rows 0).row in
+      let there = slice_get-there rows.clerks 0 valid.tables.steward in
+      let is : row ≡ there.0 = slice_get-read rows.clerks 0 there.0 (new_clerk []) there.1 in
+      let has : HasTarget rows 0 row.act row.target = subst (λ (one : ClerkRow). HasTarget rows 0 one.act one.target) (sym is)
+      (valid.clerks 0 there.0 there.1).target in
+      let kept_it : Gives (kept_made next row.act row.target) (Ok made) =
+      subst (λ one. Gives one (Ok made)) (sym (kept_made-more rows next valid longer.published longer.names row.act row.target
+      has)) kept in
+      of_steward ticket work made (ap (λ (one : Own). use_of one.row ticket) same ∙ used)
+      (subst (λ (one : Own). Gives (kept_made next one.row.act one.row.target) (Ok made)) (sym same) kept_it)

@@ -1,0 +1,389 @@
+-- What the steward makes is good where it is put: schemas, masters, rulebooks and clerks.
+use Rattle.std.proofs.Common.{◌≡◌, ◌≢◌, ◌∙◌, ℕ, ◌+◌, ◌<◌, ◌≤◌, Bool, List, [], ◌∷◌, ◌++◌, length, get_or, Some, refl, sym, ap, subst, arith}
+use Rattle.std.specs.Prelude.{◌&&◌, ◌==◌, All, IfSome, IsSome, IsTrue, Ok, count_by, not, slice_get}
+use Rattle.std.specs.List.{list_any}
+use Rattle.std.specs.Str.{bytes_eq}
+use Rattle.std.proofs.lemmas.List.{get_or_append_left, get_or_at, get_or_past, length-append, map-append, take_at}
+use Rattle.std.proofs.lemmas.List.Quantifiers.{position-Some}
+use Rattle.std.proofs.lemmas.Slice.Eq.{bytes_eq-Decides}
+use Rattle.desk_base.specs.Words.{is_name}
+use Rattle.schema_core.specs.Reading.{schema_of}
+use Rattle.schema_core.specs.declared.schema.Schema.{Schema}
+use Rattle.schema_core.proofs.Sound.{IsSchema-from_bytes}
+use Rattle.master_rows.specs.declared.master.Master.{Master}
+use Rattle.master_rows.specs.Sheet.{read_sheet}
+use Rattle.rule_text.specs.Reading.{read_rules}
+use Rattle.desk_words.specs.declared.change.Change.TheVariants as change
+use Rattle.desk_words.specs.declared.limit.Which.TheVariants as which
+use Rattle.desk_words.specs.declared.refusal.Kind.TheVariants as kind
+use Rattle.desk_words.specs.declared.refusal.Refusal.TheVariants.{BadName, NoSuch, Taken}
+use Rattle.desk_words.specs.declared.rows.act.Act.TheVariants as act
+use Rattle.desk_words.specs.declared.rows.clerk.ClerkRow.{ClerkRow}
+use Rattle.desk_words.specs.declared.rows.master.MasterRow.{MasterRow}
+use Rattle.desk_words.specs.declared.rows.rulebook.RulebookRow.{RulebookRow}
+use Rattle.desk_words.specs.declared.rows.schema.SchemaRow.{SchemaRow}
+use Rattle.desk_words.specs.declared.steward_work.StewardWork.TheVariants.{AddClerk, AddMaster, AddRulebook, AddSchema}
+use Rattle.desk_words.specs.Changes.{Fits, changed}
+use Rattle.desk_words.specs.Tables.{AreTables, Published, Rows, new_clerk, published_of}
+use Rattle.desk_words.proofs.Changes.{AreTables-changed}
+use Rattle.desk_valid.specs.Readings.{read, rules_over, schema_at}
+use Rattle.desk_valid.specs.Rows.Clerk.{IsClerkRow}
+use Rattle.desk_valid.specs.Rows.Master.{IsMasterRow}
+use Rattle.desk_valid.specs.Rows.Rulebook.{IsRulebookRow}
+use Rattle.desk_valid.specs.Rows.Schema.{IsSchemaRow}
+use Rattle.desk_valid.specs.Tallies.{cell_count, master_cells}
+use Rattle.desk_valid.specs.Valid.{AreValid}
+use Rattle.desk_valid.specs.Versions.{IsVersion}
+use Rattle.machine_core.specs.Checked.{Checked, ◌>>=◌, ◌>>◌, certainly, done, some_or, unless, value_or, Gives}
+use Rattle.machine_core.specs.Faults.{rules_refusal, schema_refusal, sheet_refusal}
+use Rattle.machine_core.specs.Finding.{next_version, place_of, schema_named}
+use Rattle.machine_core.specs.Limits.{within}
+use Rattle.machine_core.specs.Machine.{making_of}
+use Rattle.machine_core.specs.declared.making.Making.{Making}
+use Rattle.machine_core.specs.Own.{Own, own_of}
+use Rattle.machine_core.specs.Steward.AddClerk.{clerk_row}
+use Rattle.machine_core.specs.Steward.AddMaster.{master_row}
+use Rattle.machine_core.specs.Steward.AddRulebook.{rulebook_row}
+use Rattle.machine_core.specs.Steward.AddSchema.{schema_row}
+use Rattle.machine_core.specs.Tests as tests
+use Rattle.machine_core.proofs.Chains.{Gives-bind_ok, done-value}
+use Rattle.machine_core.proofs.Masters.{not-any}
+use Rattle.machine_core.proofs.Tested.{certainly-ok, some_or-ok, unless-ok, value_or-ok, within-ok}
+use Rattle.machine_laws.proofs.Callers.{IsDone, names_of}
+use Rattle.machine_laws.proofs.Deeds.{put-end, with_clerk-end}
+use Rattle.machine_laws.proofs.Lists.{Begins, Begins-push, Begins-same, list_at-push, nothing-behind, pushed}
+use Rattle.machine_laws.proofs.Valid.{AreValid-new, AreValid-published, with_new}
+
+-- what is a new clerk's own
+abbrev pub new_own : List ℕ → Own
+new_own name = record { row = new_clerk name; sessions = []; records = []; batches = [] }
+
+-- what the steward makes fits, and leaves valid tables in which it is done and callers and their own rows are as they
+-- were
+pub record IsSoundMaking (rows : Rows) (making : Making) : Type 0 where
+  pub fits : Fits rows making.change
+  pub valid : AreValid (changed rows making.change)
+  pub names : Begins (names_of rows.clerks) (names_of (changed rows making.change).clerks)
+  pub own : (place : ℕ) → place < length rows.clerks → own_of (changed rows making.change) place ≡ own_of rows place
+  pub new : (place : ℕ) → length rows.clerks ≤ place → place < length (changed rows making.change).clerks
+      → (name : List ℕ) × (own_of (changed rows making.change) place ≡ new_own name)
+  pub is_done : IsDone (changed rows making.change) 0 making.act making.target
+
+-- a row behind the others has the next version of its name
+pub IsVersion-next : {T : Type 0} (name_of : T → List ℕ) (rows : List T) (row : T) (name : List ℕ) → IsTrue (is_name name)
+    → IsVersion name_of (rows ++ row ∷ []) (length rows) name (next_version name_of rows name)
+IsVersion-next name_of rows row name named = record {
+  named = named;
+  next = ap (λ before. count_by (λ earlier. bytes_eq (name_of earlier) name) before + 1)
+      (sym (take_at rows (row ∷ []) (length rows) refl));
+}
+
+-- the place of a version stands
+pub place_of-within : {T : Type 0} (name_of : T → List ℕ) (version_of : T → ℕ) (rows : List T) (name : List ℕ)
+    (version place : ℕ) (past : T) → place_of name_of version_of rows name version ≡ Some place → place < length rows
+place_of-within name_of version_of rows name version place past is =
+    (position-Some (λ row. bytes_eq (name_of row) name && (version_of row == version)) rows place past is).0
+
+-- a name that was tested is a name
+pub name-ok : (text : List ℕ) (passed : Unit {0}) → Gives (tests.proper_name text) (Ok passed) → IsTrue (is_name text)
+name-ok text passed gives = unless-ok (is_name text) (BadName text) passed gives
+
+-- nothing stands behind the rows of a table that stays
+pub stays : {T : Type 0} (Q : ℕ → T → Type 0) (rows : List T) (place : ℕ) (row : T) → length rows ≤ place
+    → slice_get rows place ≡ Some row → Q place row
+stays Q rows place row past stands = absurd (nothing-behind rows place row past stands)
+
+-- a new clerk changes no caller's own rows
+own-new : (rows : Rows) (row : ClerkRow) (place : ℕ) → place < length rows.clerks
+    → own_of (with_new rows row) place ≡ own_of rows place
+own-new rows row place within =
+    let caller = get_or_append_left rows.clerks (row ∷ []) (new_clerk []) place within in
+    let sessions = list_at-push rows.sessions place in
+    let records = list_at-push rows.records place in
+    let batches = list_at-push rows.batches place in
+    λ i. record { row = caller i; sessions = sessions i; records = records i; batches = batches i }
+
+-- and a new clerk has none
+own-last : (rows : Rows) (name : List ℕ) (place : ℕ) → AreTables rows → place ≡ length rows.clerks
+    → own_of (with_new rows (new_clerk name)) place ≡ new_own name
+own-last rows name place tables last =
+    let caller = get_or_at rows.clerks (new_clerk name) [] (new_clerk []) place (sym last) in
+    let sessions = list_at-push rows.sessions place ∙ get_or_past rows.sessions place [] (omega (
+      arith,
+      last,
+      tables.sessions.each,
+    )) in
+    let records = list_at-push rows.records place ∙ get_or_past rows.records place [] (omega (
+      arith,
+      last,
+      tables.records.each,
+    )) in
+    let batches = list_at-push rows.batches place ∙ get_or_past rows.batches place [] (omega (
+      arith,
+      last,
+      tables.batches.each,
+    )) in
+    λ i. record { row = caller i; sessions = sessions i; records = records i; batches = batches i }
+
+module _ (rows : Rows) (valid : AreValid rows) where
+  -- a new schema
+  IsSoundMaking-schema : (row : SchemaRow) → length rows.schemas + 1 ≤ 128
+      → IsSchemaRow (record (published_of rows) { schemas = rows.schemas ++ row ∷ [] }) (length rows.schemas) row
+      → IsSoundMaking rows (record { change = change.Schema row; act = act.Schema; target = length rows.schemas })
+  IsSoundMaking-schema row few good =
+      let published : Published = record (published_of rows) { schemas = rows.schemas ++ row ∷ [] } in
+      let fits : Fits rows (change.Schema row) = (omega arith, omega (arith, few)) in
+      record {
+        fits = fits;
+        valid = AreValid-published rows published valid (record {
+          schemas = Begins-push rows.schemas row;
+          masters = Begins-same rows.masters;
+          rulebooks = Begins-same rows.rulebooks;
+          editions = Begins-same rows.editions;
+          regions = Begins-same rows.regions;
+        }) (record {
+          schemas = pushed (IsSchemaRow published) rows.schemas row good;
+          masters = stays _ rows.masters;
+          rulebooks = stays _ rows.rulebooks;
+          editions = stays _ rows.editions;
+          regions = stays _ rows.regions;
+        }) (AreTables-changed rows (change.Schema row) fits valid.tables);
+        names = Begins-same (names_of rows.clerks);
+        own = λ place within. refl;
+        new = λ place behind within. absurd (omega (arith, behind, within));
+        is_done = record {
+          some = λ same. cc;
+          steward = λ first. tt;
+          clerk = λ behind. absurd (omega (arith, behind));
+          stands = omega (arith, length-append rows.schemas (row ∷ []));
+        };
+      }
+
+  pub IsSoundMaking-add_schema : (body : List ℕ) (making : Making) → Gives (making_of rows (AddSchema body)) (Ok making)
+      → IsSoundMaking rows making
+  IsSoundMaking-add_schema body making gives =
+      let made_of : SchemaRow → Making = λ row.
+      record { change = change.Schema row; act = act.Schema; target = length rows.schemas } in
+      let row_of : Schema → SchemaRow = λ schema.
+      record { name = schema.name; version = next_version (λ row. row.name) rows.schemas schema.name; body = body } in
+      let row = Gives-bind_ok (schema_row rows.schemas body) (λ row. done (made_of row)) making gives in
+      let schema = Gives-bind_ok (value_or (schema_of body) schema_refusal) (λ schema. within which.Schemas
+      (length rows.schemas + 1) >> done (row_of schema)) row.0 row.1 in
+      let few = Gives-bind_ok (within which.Schemas (length rows.schemas + 1)) (λ _. done (row_of schema.0)) row.0 schema.2 in
+      let reads = value_or-ok (schema_of body) schema_refusal schema.0 schema.1 in
+      subst (IsSoundMaking rows) (sym (done-value (made_of row.0) making row.2
+      ∙ ap made_of (done-value (row_of schema.0) row.0 few.2)))
+      (IsSoundMaking-schema (row_of schema.0) (within-ok which.Schemas (length rows.schemas + 1) few.0 few.1) (record {
+        schema = schema.0;
+        reads = ap read reads;
+        name = refl;
+        version = IsVersion-next (λ row. row.name) rows.schemas (row_of schema.0) schema.0.name
+            (IsSchema-from_bytes body schema.0 reads).named;
+      }))
+
+  -- a new master
+  IsSoundMaking-master : (row : MasterRow) → length rows.masters + 1 ≤ 128
+      → IsMasterRow (record (published_of rows) { masters = rows.masters ++ row ∷ [] }) (length rows.masters) row
+      → IsSoundMaking rows (record { change = change.Master row; act = act.Master; target = length rows.masters })
+  IsSoundMaking-master row few good =
+      let published : Published = record (published_of rows) { masters = rows.masters ++ row ∷ [] } in
+      let fits : Fits rows (change.Master row) = (omega arith, omega (arith, few)) in
+      record {
+        fits = fits;
+        valid = AreValid-published rows published valid (record {
+          schemas = Begins-same rows.schemas;
+          masters = Begins-push rows.masters row;
+          rulebooks = Begins-same rows.rulebooks;
+          editions = Begins-same rows.editions;
+          regions = Begins-same rows.regions;
+        }) (record {
+          schemas = stays _ rows.schemas;
+          masters = pushed (IsMasterRow published) rows.masters row good;
+          rulebooks = stays _ rows.rulebooks;
+          editions = stays _ rows.editions;
+          regions = stays _ rows.regions;
+        }) (AreTables-changed rows (change.Master row) fits valid.tables);
+        names = Begins-same (names_of rows.clerks);
+        own = λ place within. refl;
+        new = λ place behind within. absurd (omega (arith, behind, within));
+        is_done = record {
+          some = λ same. cc;
+          steward = λ first. tt;
+          clerk = λ behind. absurd (omega (arith, behind));
+          stands = omega (arith, length-append rows.masters (row ∷ []));
+        };
+      }
+
+  pub IsSoundMaking-add_master : (name body : List ℕ) (making : Making)
+      → Gives (making_of rows (AddMaster name body)) (Ok making) → IsSoundMaking rows making
+  IsSoundMaking-add_master name body making gives =
+      let made_of : MasterRow → Making = λ row.
+      record { change = change.Master row; act = act.Master; target = length rows.masters } in
+      let new : MasterRow =
+      record { name = name; version = next_version (λ row. row.name) rows.masters name; body = body } in
+      let cells : Master → ℕ = λ master. master_cells rows.masters + cell_count master in
+      let counted : Master → Checked MasterRow = λ master. within which.MasterCells (cells master) >> done new in
+      let counting : Master → Checked MasterRow = λ master.
+      within which.Masters (length rows.masters + 1) >> counted master in
+      let row = Gives-bind_ok (master_row rows.masters name body) (λ row. done (made_of row)) making gives in
+      let named = Gives-bind_ok (tests.proper_name name) (λ _. value_or (read_sheet body) sheet_refusal >>= counting) row.0
+      row.1 in
+      let master = Gives-bind_ok (value_or (read_sheet body) sheet_refusal) counting row.0 named.2 in
+      let few = Gives-bind_ok (within which.Masters (length rows.masters + 1)) (λ _. counted master.0) row.0 master.2 in
+      let last = Gives-bind_ok (within which.MasterCells (cells master.0)) (λ _. done new) row.0 few.2 in
+      let reads = value_or-ok (read_sheet body) sheet_refusal master.0 master.1 in
+      subst (IsSoundMaking rows) (sym (done-value (made_of row.0) making row.2 ∙ ap made_of (done-value new row.0 last.2)))
+      (IsSoundMaking-master new (within-ok which.Masters (length rows.masters + 1) few.0 few.1) (record {
+        version = IsVersion-next (λ row. row.name) rows.masters new name (name-ok name named.0 named.1);
+        reads = rw reads refl;
+      }))
+
+  -- a new rulebook
+  IsSoundMaking-rulebook : (row : RulebookRow) → length rows.rulebooks + 1 ≤ 128
+      → IsRulebookRow (record (published_of rows) { rulebooks = rows.rulebooks ++ row ∷ [] }) (length rows.rulebooks) row
+      → IsSoundMaking rows (record { change = change.Rulebook row; act = act.Rulebook; target = length rows.rulebooks })
+  IsSoundMaking-rulebook row few good =
+      let published : Published = record (published_of rows) { rulebooks = rows.rulebooks ++ row ∷ [] } in
+      let fits : Fits rows (change.Rulebook row) = (omega arith, omega (arith, few)) in
+      record {
+        fits = fits;
+        valid = AreValid-published rows published valid (record {
+          schemas = Begins-same rows.schemas;
+          masters = Begins-same rows.masters;
+          rulebooks = Begins-push rows.rulebooks row;
+          editions = Begins-same rows.editions;
+          regions = Begins-same rows.regions;
+        }) (record {
+          schemas = stays _ rows.schemas;
+          masters = stays _ rows.masters;
+          rulebooks = pushed (IsRulebookRow published) rows.rulebooks row good;
+          editions = stays _ rows.editions;
+          regions = stays _ rows.regions;
+        }) (AreTables-changed rows (change.Rulebook row) fits valid.tables);
+        names = Begins-same (names_of rows.clerks);
+        own = λ place within. refl;
+        new = λ place behind within. absurd (omega (arith, behind, within));
+        is_done = record {
+          some = λ same. cc;
+          steward = λ first. tt;
+          clerk = λ behind. absurd (omega (arith, behind));
+          stands = omega (arith, length-append rows.rulebooks (row ∷ []));
+        };
+      }
+
+  pub IsSoundMaking-add_rulebook : (name schema : List ℕ) (version : ℕ) (body : List ℕ) (making : Making)
+      → Gives (making_of rows (AddRulebook name schema version body)) (Ok making) → IsSoundMaking rows making
+  IsSoundMaking-add_rulebook name schema_name version body making gives =
+      let made_of : RulebookRow → Making = λ row.
+      record { change = change.Rulebook row; act = act.Rulebook; target = length rows.rulebooks } in
+      let new : ℕ → RulebookRow = λ place. record {
+        name = name;
+        version = next_version (λ row. row.name) rows.rulebooks name;
+        schema = place;
+        body = body;
+      } in
+      let counted : ℕ → Checked RulebookRow = λ place.
+      within which.Rulebooks (length rows.rulebooks + 1) >> done (new place) in
+      let reading : ℕ → Schema → Checked RulebookRow = λ place schema.
+      value_or (read_rules body schema) rules_refusal >>= (λ rulebook. counted place) in
+      let over : ℕ → Checked RulebookRow = λ place.
+      certainly (schema_at (published_of rows) place) >>= reading place in
+      let row = Gives-bind_ok (rulebook_row (published_of rows) name schema_name version body) (λ row. done (made_of row))
+      making gives in
+      let named = Gives-bind_ok (tests.proper_name name) (λ _. some_or (schema_named rows.schemas schema_name version)
+      (NoSuch kind.Schema) >>= over) row.0 row.1 in
+      let place = Gives-bind_ok (some_or (schema_named rows.schemas schema_name version) (NoSuch kind.Schema)) over row.0
+      named.2 in
+      let schema = Gives-bind_ok (certainly (schema_at (published_of rows) place.0)) (reading place.0) row.0 place.2 in
+      let rulebook = Gives-bind_ok (value_or (read_rules body schema.0) rules_refusal) (λ rulebook. counted place.0) row.0
+      schema.2 in
+      let few = Gives-bind_ok (within which.Rulebooks (length rows.rulebooks + 1)) (λ _. done (new place.0)) row.0 rulebook.2 in
+      let found = some_or-ok (schema_named rows.schemas schema_name version) (NoSuch kind.Schema) place.0 place.1 in
+      let is = certainly-ok (schema_at (published_of rows) place.0) schema.0 schema.1 in
+      let reads : IsSome (rules_over body schema.0) =
+      rw (value_or-ok (read_rules body schema.0) rules_refusal rulebook.0 rulebook.1) refl in
+      subst (IsSoundMaking rows) (sym (done-value (made_of row.0) making row.2
+      ∙ ap made_of (done-value (new place.0) row.0 few.2)))
+      (IsSoundMaking-rulebook (new place.0) (within-ok which.Rulebooks (length rows.rulebooks + 1) few.0 few.1) (record {
+        version = IsVersion-next (λ row. row.name) rows.rulebooks (new place.0) name (name-ok name named.0 named.1);
+        schema = place_of-within (λ row. row.name) (λ row. row.version) rows.schemas schema_name version place.0
+            (record { name = []; version = 0; body = [] }) found;
+        reads = subst (λ one. IfSome one (λ schema. IsSome (rules_over body schema))) (sym is) reads;
+      }))
+
+  -- a new clerk
+  IsSoundMaking-clerk : (name : List ℕ) → length rows.clerks ≤ 32 → IsTrue (is_name name)
+      → All (λ earlier. earlier.name ≢ name) rows.clerks
+      → IsSoundMaking rows (record {
+        change = change.Clerk (length rows.clerks) (new_clerk name);
+        act = act.Clerk;
+        target = length rows.clerks;
+      })
+  IsSoundMaking-clerk name few named apart =
+      let row : ClerkRow = new_clerk name in
+      let place : ℕ = length rows.clerks in
+      let other : Rows = with_new rows row in
+      let fits : Fits rows (change.Clerk place row) = (omega arith, omega (arith, few)) in
+      let clerks = put-end rows.clerks row in
+      let sessions = with_clerk-end rows.sessions place in
+      let records = with_clerk-end rows.records place in
+      let batches = with_clerk-end rows.batches place in
+      let same : changed rows (change.Clerk place row) ≡ other = λ i. record rows
+      { clerks = clerks i; sessions = sessions i; records = records i; batches = batches i } in
+      let good : IsClerkRow other place row = record {
+        few = omega (arith, few);
+        name = record {
+          steward = λ first. absurd (omega (arith, first, valid.tables.steward));
+          clerk = λ behind. named;
+          first = subst (All (λ earlier. earlier.name ≢ name)) (sym (take_at rows.clerks (row ∷ []) place refl)) apart;
+        };
+        number = omega arith;
+        started = (λ none. refl, λ nothing. refl);
+        digest = λ nothing. refl;
+        steward = λ first. tt;
+        clerk = λ behind. tt;
+        target = refl;
+      } in
+      let tables = subst AreTables same (AreTables-changed rows (change.Clerk place row) fits valid.tables) in
+      record {
+        fits = fits;
+        valid = subst AreValid (sym same) (AreValid-new rows row valid good tables);
+        names = subst (λ (one : Rows). Begins (names_of rows.clerks) (names_of one.clerks)) (sym same)
+            (names_of (row ∷ []), map-append (λ (clerk : ClerkRow). clerk.name) rows.clerks (row ∷ []));
+        own = λ caller within. ap (λ (one : Rows). own_of one caller) same ∙ own-new rows row caller within;
+        new = λ caller behind inside. (
+          name,
+          ap (λ (one : Rows). own_of one caller) same
+              ∙ own-last rows name caller valid.tables (omega (
+                arith,
+                behind,
+                inside,
+                length-append rows.clerks (row ∷ []),
+                ap (λ (one : Rows). length one.clerks) same,
+              )),
+        );
+        is_done = subst (λ one. IsDone one 0 act.Clerk place) (sym same) (record {
+          some = λ same_act. cc;
+          steward = λ first. tt;
+          clerk = λ behind. absurd (omega (arith, behind));
+          stands = (valid.tables.steward, omega (arith, length-append rows.clerks (row ∷ [])));
+        });
+      }
+
+  pub IsSoundMaking-add_clerk : (name : List ℕ) (making : Making) → Gives (making_of rows (AddClerk name)) (Ok making)
+      → IsSoundMaking rows making
+  IsSoundMaking-add_clerk name making gives =
+      let made_of : ClerkRow → Making = λ row.
+      record { change = change.Clerk (length rows.clerks) row; act = act.Clerk; target = length rows.clerks } in
+      let is_named : ClerkRow → Bool = λ clerk. bytes_eq clerk.name name in
+      let counted : Checked ClerkRow = within which.Clerks (length rows.clerks) >> done (new_clerk name) in
+      let row = Gives-bind_ok (clerk_row rows.clerks name) (λ row. done (made_of row)) making gives in
+      let named = Gives-bind_ok (tests.proper_name name) (λ _. unless (not (list_any is_named rows.clerks)) (Taken name)
+      >> counted) row.0 row.1 in
+      let free = Gives-bind_ok (unless (not (list_any is_named rows.clerks)) (Taken name)) (λ _. counted) row.0 named.2 in
+      let few = Gives-bind_ok (within which.Clerks (length rows.clerks)) (λ _. done (new_clerk name)) row.0 free.2 in
+      subst (IsSoundMaking rows) (sym (done-value (made_of row.0) making row.2
+      ∙ ap made_of (done-value (new_clerk name) row.0 few.2)))
+      (IsSoundMaking-clerk name (within-ok which.Clerks (length rows.clerks) few.0 few.1) (name-ok name named.0 named.1)
+      (λ index past inside same. not-any is_named rows.clerks (unless-ok (not (list_any is_named rows.clerks)) (Taken name)
+      free.0 free.1) index past inside ((bytes_eq-Decides (get_or rows.clerks index past).name name).1 same)))

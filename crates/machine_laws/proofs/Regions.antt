@@ -1,0 +1,265 @@
+-- A new region is good where it is put.
+use Rattle.std.proofs.Common.{◌≡◌, ◌≢◌, ◌∙◌, ℕ, ◌+◌, ◌<◌, ◌≤◌, ◌*◌, ◌^◌, Bool, true, cond, List, [], ◌∷◌, ◌++◌, length, get_or, map, take, suc, inl, inr, refl, sym, ap, subst, arith}
+use Rattle.std.specs.Prelude.{◌==◌, All, AllPairs, IfSome, Ok, count_by, not, position, zip}
+use Rattle.std.specs.List.{list_any, range_with_len}
+use Rattle.std.specs.Str.{bytes_eq}
+use Rattle.std.proofs.lemmas.Bool.{cases_lt}
+use Rattle.std.proofs.lemmas.Bool.Decides.{nat_tests}
+use Rattle.std.proofs.lemmas.List.{length-append, length-map, take_at, take-take}
+use Rattle.std.proofs.lemmas.List.Elements.{All-cons, All-nil, All-push, All-weaker}
+use Rattle.std.proofs.lemmas.List.FromFn.{get_or-map-range_with_len, length-range_with_len}
+use Rattle.std.proofs.lemmas.List.Sums.{count_by_more_yes, sum_by-take-le}
+use Rattle.std.proofs.lemmas.Slice.Zip.{length-zip}
+use Rattle.std.proofs.lemmas.List.Quantifiers.{all_pairs_push, position-Some}
+use Rattle.desk_words.specs.declared.change.Change.TheVariants as change
+use Rattle.desk_words.specs.declared.limit.Which.TheVariants as which
+use Rattle.desk_words.specs.declared.refusal.Kind.TheVariants as kind
+use Rattle.desk_words.specs.declared.refusal.Refusal.TheVariants.{NoSuch, RowWidth, Twice, UnknownAttr}
+use Rattle.desk_words.specs.declared.rows.act.Act.TheVariants as act
+use Rattle.desk_words.specs.declared.rows.region.RegionRow.{RegionRow}
+use Rattle.desk_words.specs.declared.steward_work.StewardWork.TheVariants.{AddRegion}
+use Rattle.desk_words.specs.Changes.{Fits}
+use Rattle.desk_words.specs.Tables.{Published, Rows, published_of}
+use Rattle.desk_words.proofs.Changes.{AreTables-changed}
+use Rattle.desk_valid.specs.declared.bound.Bound.{Bound}
+use Rattle.desk_valid.specs.Bindings.{bound_at}
+use Rattle.desk_valid.specs.Rows.Region.{IsRegionRow}
+use Rattle.desk_valid.specs.Valid.{AreValid}
+use Rattle.machine_core.specs.Checked.{Checked, ◌>>=◌, ◌>>◌, certainly, done, each, each_behind, some_or, unless, Gives}
+use Rattle.machine_core.specs.Finding.{edition_named}
+use Rattle.machine_core.specs.Limits.{within}
+use Rattle.machine_core.specs.Machine.{making_of}
+use Rattle.machine_core.specs.declared.making.Making.{Making}
+use Rattle.machine_core.specs.Steward.AddRegion.{full_row, full_rows, region_count, region_row, short_text}
+use Rattle.machine_core.specs.Tests.{another_attribute, attribute_of}
+use Rattle.machine_core.proofs.Chains.{Gives-bind_ok, done-value}
+use Rattle.machine_core.proofs.Masters.{not-any}
+use Rattle.machine_core.proofs.Tested.{certainly-ok, each-length, each_behind-all, each_behind-length, some_or-ok, unless-ok, within-ok}
+use Rattle.machine_laws.proofs.Callers.{names_of}
+use Rattle.machine_laws.proofs.Lists.{Begins-push, Begins-same, pushed, slice_get-read, slice_get-there}
+use Rattle.machine_laws.proofs.Makings.{IsSoundMaking, stays}
+use Rattle.machine_laws.proofs.Sessions.{distinct-below}
+use Rattle.machine_laws.proofs.Valid.{AreValid-published}
+use Rattle.machine_core.proofs.Widths.{edition-stands, width-bound}
+
+-- distinct places below a number
+record AreDistinct (most : ℕ) (places : List ℕ) : Type 0 where
+  below : All (λ place. place < most) places
+  apart : AllPairs (λ one other. one ≢ other) places
+
+-- an attribute that is none of those before it
+another-attribute : (attributes : List (List ℕ)) (before word : List ℕ) (place : ℕ)
+    → AreDistinct (length attributes) before → Gives (another_attribute attributes before word) (Ok place)
+    → AreDistinct (length attributes) (before ++ place ∷ [])
+another-attribute attributes before word place are gives =
+    let taken : ℕ → ℕ → Bool = λ one earlier. earlier == one in
+    let found = Gives-bind_ok (attribute_of attributes word) (λ one. unless (not (list_any (taken one) before)) (Twice word)
+    >> done one) place gives in
+    let free = Gives-bind_ok (unless (not (list_any (taken found.0) before)) (Twice word)) (λ _. done found.0) place found.2 in
+    let same : place ≡ found.0 = done-value found.0 place free.2 in
+    let there = position-Some (bytes_eq word) attributes found.0 []
+    (some_or-ok (position (bytes_eq word) attributes) (UnknownAttr word) found.0 found.1) in
+    let none = not-any (taken found.0) before (unless-ok (not (list_any (taken found.0) before)) (Twice word) free.0 free.1) in
+    subst (λ one. AreDistinct (length attributes) (before ++ one ∷ [])) (sym same) (record {
+      below = All-push (λ one. one < length attributes) before found.0 are.below there.0;
+      apart = all_pairs_push (λ one other. one ≢ other) before found.0 are.apart (λ index past inside equal.
+          none index past inside (grind (arith, nat_tests, equal)));
+    })
+
+-- each row has a text for each attribute, and there are as many as were given
+full_rows-ok : (attributes : List (List ℕ)) (number : ℕ) (rows found : List (List (List ℕ)))
+    → Gives (full_rows attributes number rows) (Ok found)
+    → (length found ≡ length rows) × All (λ texts. length texts ≡ length attributes) found
+full_rows-ok attributes number [] found gives =
+    let none = done-value [] found gives in (
+      ap length none,
+      subst (All (λ texts. length texts ≡ length attributes)) (sym none)
+          (All-nil (λ texts. length texts ≡ length attributes)),
+    )
+full_rows-ok attributes number (first ∷ others) found gives =
+    let Wide : List (List ℕ) → Type 0 = λ texts. length texts ≡ length attributes in
+    let texts = Gives-bind_ok (full_row attributes number first) (λ texts. full_rows attributes (number + 1) others
+    >>= (λ more. done (texts ∷ more))) found gives in
+    let more = Gives-bind_ok (full_rows attributes (number + 1) others) (λ more. done (texts.0 ∷ more)) found texts.2 in
+    let wide = Gives-bind_ok (unless (length first == length attributes) (RowWidth number)) (λ _.
+    each short_text (zip attributes first)) texts.0 texts.1 in
+    let test = unless-ok (length first == length attributes) (RowWidth number) wide.0 wide.1 in
+    let as_wide : length first ≡ length attributes = grind (arith, nat_tests, test) in
+    let first_wide : Wide texts.0 = omega (
+      arith,
+      each-length short_text (zip attributes first) texts.0 wide.2,
+      length-zip attributes first,
+      as_wide,
+    ) in
+    let is : found ≡ texts.0 ∷ more.0 = done-value (texts.0 ∷ more.0) found more.2 in
+    let rest = full_rows-ok attributes (number + 1) others more.0 more.1 in (
+      ap length is ∙ ap suc rest.0,
+      subst (All Wide) (sym is) (All-cons Wide texts.0 more.0
+          first_wide rest.1),
+    )
+
+module _ (rows : Rows) (valid : AreValid rows) where
+  -- a new region
+  IsSoundMaking-region : (row : RegionRow) → length rows.regions + 1 < 2 ^ 31
+      → IsRegionRow (record (published_of rows) { regions = rows.regions ++ row ∷ [] }) (length rows.regions) row
+      → IsSoundMaking rows (record { change = change.Region row; act = act.Region; target = length rows.regions })
+  IsSoundMaking-region row few good =
+      let published : Published = record (published_of rows) { regions = rows.regions ++ row ∷ [] } in
+      let fits : Fits rows (change.Region row) = (omega arith, few) in
+      record {
+        fits = fits;
+        valid = AreValid-published rows published valid (record {
+          schemas = Begins-same rows.schemas;
+          masters = Begins-same rows.masters;
+          rulebooks = Begins-same rows.rulebooks;
+          editions = Begins-same rows.editions;
+          regions = Begins-push rows.regions row;
+        }) (record {
+          schemas = stays _ rows.schemas;
+          masters = stays _ rows.masters;
+          rulebooks = stays _ rows.rulebooks;
+          editions = stays _ rows.editions;
+          regions = pushed (IsRegionRow published) rows.regions row good;
+        }) (AreTables-changed rows (change.Region row) fits valid.tables);
+        names = Begins-same (names_of rows.clerks);
+        own = λ place within. refl;
+        new = λ place behind within. absurd (omega (arith, behind, within));
+        is_done = record {
+          some = λ same. cc;
+          steward = λ first. tt;
+          clerk = λ behind. absurd (omega (arith, behind));
+          stands = omega (arith, length-append rows.regions (row ∷ []));
+        };
+      }
+
+  -- there are no more than 64 editions
+  editions-few : length rows.editions ≤ 64
+  editions-few = elim (cases_lt 64 (length rows.editions)) [
+    | inl many ↦ (let past = slice_get-there rows.editions 64 many in
+        absurd (omega (arith, (valid.editions 64 past.0 past.1).few)))
+    | inr few ↦ few
+  ]
+
+  -- a number for each region: eight for each edition
+  abbrev no_region : RegionRow
+  no_region = record { edition = 0; region = record { attrs = []; rows = [] } }
+
+  abbrev edition_in : ℕ → ℕ
+  edition_in place = (get_or rows.regions place no_region).edition
+
+  abbrev earlier_count : ℕ → ℕ
+  earlier_count place = region_count (take place rows.regions) (edition_in place)
+
+  region-good : (place : ℕ) → place < length rows.regions → (edition_in place < length rows.editions) × (earlier_count place ≤ 7)
+  region-good place within =
+      let row = slice_get-there rows.regions place within in
+      let good : IsRegionRow (published_of rows) place row.0 = valid.regions place row.0 row.1 in
+      let is : get_or rows.regions place no_region ≡ row.0 = slice_get-read rows.regions place row.0 no_region row.1 in (
+        omega (arith, good.edition, ap (λ (one : RegionRow). one.edition) is),
+        omega (arith, subst (λ (one : RegionRow). region_count (take place rows.regions) one.edition < 8) (sym is) good.few),
+      )
+
+  -- of two regions of an edition the later one has more before it
+  count-rises : (one other : ℕ) → one < other → other < length rows.regions → edition_in one ≡ edition_in other
+      → earlier_count one + 1 ≤ earlier_count other
+  count-rises one other before within same =
+      let on : RegionRow → Bool = λ row. row.edition == edition_in other in
+      let here : on (get_or rows.regions one no_region) ≡ true = grind (arith, nat_tests, same) in
+      let more : count_by on (take (one + 1) rows.regions) ≡ count_by on (take one rows.regions) + 1 =
+      count_by_more_yes on rows.regions one no_region (omega arith) here in
+      let part : take (one + 1) (take other rows.regions) ≡ take (one + 1) rows.regions =
+      take-take (one + 1) other rows.regions (omega arith) in
+      let least : count_by on (take (one + 1) (take other rows.regions)) ≤ count_by on (take other rows.regions) =
+      sum_by-take-le (λ row. cond (on row) 1 0) (take other rows.regions) (one + 1) in
+      let same_count : earlier_count one ≡ count_by on (take one rows.regions) =
+      ap (region_count (take one rows.regions)) same in
+      let parts : count_by on (take (one + 1) (take other rows.regions)) ≡ count_by on (take (one + 1) rows.regions) =
+      ap (count_by on) part in
+      omega (arith, more, least, same_count, parts)
+
+  -- so there are no more than eight times as many regions as editions
+  regions-few : length rows.regions ≤ 512
+  regions-few =
+      let number : ℕ → ℕ = λ place. edition_in place * 8 + earlier_count place in
+      let places : List ℕ = range_with_len 0 (length rows.regions) in
+      let long : length (map number places) ≡ length rows.regions =
+      length-map places number ∙ length-range_with_len 0 (length rows.regions) in
+      omega (
+        arith,
+        sym long,
+        distinct-below (map number places) 512
+            (λ i j past before last same.
+            let within : j < length rows.regions = omega (arith, last, long) in
+            let one : get_or (map number places) i past ≡ number i = get_or-map-range_with_len number 0 (length rows.regions) i i
+            past (omega arith) (omega arith) in
+            let other : get_or (map number places) j past ≡ number j = get_or-map-range_with_len number 0 (length rows.regions) j j
+            past within (omega arith) in
+            apart i j before within (sym one ∙ same ∙ other))
+            (λ index past inside.
+            let within : index < length rows.regions = omega (arith, inside, long) in
+            let is : get_or (map number places) index past ≡ number index = get_or-map-range_with_len number 0
+            (length rows.regions) index index past within (omega arith) in
+            let good = region-good index within in
+            omega (arith, is, good.0, good.1, editions-few)),
+      )
+    where
+      apart : (i j : ℕ) → i < j → j < length rows.regions
+          → edition_in i * 8 + earlier_count i ≡ edition_in j * 8 + earlier_count j → ⊥
+      apart i j before within same =
+          let first = region-good i (omega arith) in
+          let second = region-good j within in
+          let editions : edition_in i ≡ edition_in j = omega (arith, same, first.1, second.1) in
+          omega (arith, same, editions, count-rises i j before within editions)
+
+  pub IsSoundMaking-add_region : (edition : List ℕ) (version : ℕ) (attributes : List (List ℕ))
+      (texts : List (List (List ℕ))) (making : Making)
+      → Gives (making_of rows (AddRegion edition version attributes texts)) (Ok making) → IsSoundMaking rows making
+  IsSoundMaking-add_region name version attributes texts making gives =
+      let published : Published = published_of rows in
+      let made_of : RegionRow → Making = λ row.
+      record { change = change.Region row; act = act.Region; target = length rows.regions } in
+      let new : ℕ → List ℕ → List (List (List ℕ)) → RegionRow = λ edition places full.
+      record { edition = edition; region = record { attrs = places; rows = full } } in
+      let counted : ℕ → RegionRow → Checked RegionRow = λ edition row.
+      within which.Regions (region_count rows.regions edition + 1) >> done row in
+      let filling : ℕ → List ℕ → Checked RegionRow = λ edition places.
+      full_rows attributes 1 texts >>= (λ full. counted edition (new edition places full)) in
+      let fewer : ℕ → List ℕ → Checked RegionRow = λ edition places.
+      within which.RegionRows (length texts) >> filling edition places in
+      let placing : ℕ → Bound → Checked RegionRow = λ edition bound.
+      each_behind [] (another_attribute bound.names.attributes) attributes >>= fewer edition in
+      let over : ℕ → Checked RegionRow = λ edition. certainly (bound_at published edition) >>= placing edition in
+      let row = Gives-bind_ok (region_row published name version attributes texts) (λ row. done (made_of row)) making gives in
+      let edition = Gives-bind_ok (some_or (edition_named rows.editions name version) (NoSuch kind.Edition)) over row.0 row.1 in
+      let bound = Gives-bind_ok (certainly (bound_at published edition.0)) (placing edition.0) row.0 edition.2 in
+      let words : List (List ℕ) = bound.0.names.attributes in
+      let places = Gives-bind_ok (each_behind [] (another_attribute words) attributes) (fewer edition.0) row.0 bound.2 in
+      let few_rows = Gives-bind_ok (within which.RegionRows (length texts)) (λ _. filling edition.0 places.0) row.0 places.2 in
+      let full = Gives-bind_ok (full_rows attributes 1 texts) (λ full. counted edition.0 (new edition.0 places.0 full)) row.0
+      few_rows.2 in
+      let made : RegionRow = new edition.0 places.0 full.0 in
+      let few = Gives-bind_ok (within which.Regions (region_count rows.regions edition.0 + 1)) (λ _. done made) row.0 full.2 in
+      let binds = certainly-ok (bound_at published edition.0) bound.0 bound.1 in
+      let distinct : AreDistinct (length words) places.0 = each_behind-all (AreDistinct (length words))
+      (another_attribute words) attributes [] places.0 (λ before word place are found. another-attribute words before word
+      place are found) (record {
+        below = All-nil (λ place. place < length words);
+        apart = λ i j past before last.
+            absurd (omega arith);
+      }) places.1 in
+      let as_many : length attributes ≡ length places.0 =
+      omega (arith, each_behind-length (another_attribute words) attributes [] places.0 places.1) in
+      let whole = full_rows-ok attributes 1 texts full.0 full.1 in
+      let few_it = within-ok which.Regions (region_count rows.regions edition.0 + 1) few.0 few.1 in
+      subst (IsSoundMaking rows) (sym (done-value (made_of row.0) making row.2 ∙ ap made_of (done-value made row.0 few.2)))
+      (IsSoundMaking-region made (omega (arith, regions-few)) (record {
+        edition = edition-stands published edition.0 bound.0 binds;
+        few = subst (λ before. region_count before edition.0 < 8)
+            (sym (take_at rows.regions (made ∷ []) (length rows.regions) refl)) (omega (arith, few_it));
+        distinct = distinct.apart;
+        within = subst (λ found. IfSome found (λ width. All (λ attribute. attribute < width) places.0))
+            (sym (width-bound published edition.0 bound.0 binds)) distinct.below;
+        few_rows = omega (arith, whole.0, within-ok which.RegionRows (length texts) few_rows.0 few_rows.1);
+        whole = All-weaker (λ one. length one ≡ length attributes) (λ one. length one ≡ length places.0)
+            (λ one same. same ∙ as_many) full.0 whole.1;
+      }))

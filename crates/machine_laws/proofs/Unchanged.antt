@@ -1,0 +1,100 @@
+-- Refusals and looks change nothing.
+use Rattle.std.proofs.Common.{◌≡◌, ◌∙◌, ℕ, ◌+◌, ◌-◌, List, [], inl, inr, refl, sym, ap, subst}
+use Rattle.std.specs.Prelude.{Result, Ok, Err, count_by, drop, slice_get, take}
+use Rattle.desk_words.specs.declared.change.Change.{Change}
+use Rattle.desk_words.specs.declared.command.Command.{Command}
+use Rattle.desk_words.specs.declared.command.Command.TheVariants.{Steward, Clerk, Look, DeskReport}
+use Rattle.desk_words.specs.declared.refusal.Refusal.{Refusal}
+use Rattle.desk_words.specs.declared.reply.Reply.{Reply}
+use Rattle.desk_words.specs.declared.reply.Reply.TheVariants as reply
+use Rattle.desk_words.specs.declared.rows.act.Act.{Act}
+use Rattle.desk_words.specs.declared.rows.act.Act.TheVariants as act
+use Rattle.desk_words.specs.Tables.{Published, Rows, published_of}
+use Rattle.machine_core.specs.Checked.{certainly, done, each, Gives}
+use Rattle.machine_core.specs.Kept.{batch_reply, kept_reply}
+use Rattle.machine_core.specs.Look.Report.{Assessment, assessment_of, is_certain_fix, is_conflict, is_partial_fix}
+use Rattle.machine_core.specs.Look.View.{view_at}
+use Rattle.machine_core.specs.Machine.{IsStep, answered, machine}
+use Rattle.machine_core.specs.Own.{Own, after, own_of}
+use Rattle.machine_core.proofs.Chains.{Gives-bind_ok, done-value}
+use Rattle.machine_laws.proofs.Writes.{clerk-written, look-unchanged, report-unchanged, steward-written}
+
+-- where what is answered changes nothing, a step does not
+pub step-unchanged : (rows : Rows) (command : Command) (answer : Reply) (changes : List Change)
+    → ((made : Reply × List Change) → Gives (machine rows command) (Ok made) → made.1 ≡ [])
+    → IsStep rows command answer changes → changes ≡ []
+step-unchanged rows command answer changes none step =
+    ap (λ (both : Reply × List Change). both.1) step.answers ∙ whole step.outcome step.gives
+  where
+    whole : (outcome : Result (Reply × List Change) Refusal) → Gives (machine rows command) outcome
+        → (answered outcome).1 ≡ []
+    whole (Ok made) gives = none made gives
+    whole (Err refusal) gives = refl
+
+-- a kept reply is no refusal
+pub kept-not_refused : (published : Published) (own : Own) (what : Act) (target : ℕ) (refusal : Refusal)
+    → Gives (kept_reply published own what target) (Ok (reply.Refused refusal)) → ⊥
+kept-not_refused published own act.Opened target refusal gives =
+    let view = Gives-bind_ok (view_at published own (target + 1)) (λ view. done (reply.Opened view)) (reply.Refused refusal)
+    gives in
+    let same = done-value (reply.Opened view.0) (reply.Refused refusal) view.2 in
+    cc
+kept-not_refused published own act.Changed target refusal gives =
+    let view = Gives-bind_ok (view_at published own (target + 1)) (λ view. done (reply.View view)) (reply.Refused refusal)
+    gives in
+    let same = done-value (reply.View view.0) (reply.Refused refusal) view.2 in
+    cc
+kept-not_refused published own act.Committed target refusal gives =
+    let row = Gives-bind_ok (certainly (slice_get own.records target)) (λ row. done (reply.Committed (target + 1) row.session
+    row.certain)) (reply.Refused refusal) gives in
+    let same = done-value (reply.Committed (target + 1) row.0.session row.0.certain) (reply.Refused refusal) row.2 in
+    cc
+kept-not_refused published own act.Batched target refusal gives =
+    let row = Gives-bind_ok (certainly (slice_get own.batches target)) (batch_reply published own (target + 1))
+    (reply.Refused refusal) gives in
+    let counted : List Assessment → Reply = λ sessions. reply.Batched (record {
+      batch = target + 1;
+      first = row.0.first;
+      rows = row.0.count;
+      certain = count_by (λ one. is_certain_fix one.verdict) sessions;
+      partial = count_by (λ one. is_partial_fix one.verdict) sessions;
+      conflict = count_by (λ one. is_conflict one.verdict) sessions;
+    }) in
+    let all = Gives-bind_ok (each (assessment_of published) (take row.0.count (drop (row.0.first - 1) own.sessions)))
+    (λ sessions. done (counted sessions)) (reply.Refused refusal) row.2 in
+    let same = done-value (counted all.0) (reply.Refused refusal) all.2 in
+    cc
+kept-not_refused published own act.Nothing target refusal gives = gives
+kept-not_refused published own act.Clerk target refusal gives = gives
+kept-not_refused published own act.Schema target refusal gives = gives
+kept-not_refused published own act.Master target refusal gives = gives
+kept-not_refused published own act.Rulebook target refusal gives = gives
+kept-not_refused published own act.Edition target refusal gives = gives
+kept-not_refused published own act.Region target refusal gives = gives
+
+-- what is answered by a refusal changes nothing
+made-unchanged : (rows : Rows) (command : Command) (made : Reply × List Change) (refusal : Refusal)
+    → Gives (machine rows command) (Ok made) → reply.Refused refusal ≡ made.0 → made.1 ≡ []
+made-unchanged rows (Steward ticket work) made refusal gives is = elim (steward-written rows ticket work made gives) [
+  | inl again ↦ again.unchanged
+  | inr new ↦ absurd (let same = is ∙ new.answered in cc)
+]
+made-unchanged rows (Clerk name ticket work) made refusal gives is = elim (clerk-written rows name ticket work made gives) [
+  | inl again ↦ again.unchanged
+  | inr new ↦ absurd (kept-not_refused (published_of rows) (after (own_of rows new.place) new.deed) new.deed.act
+      new.deed.target refusal (subst (λ one. Gives (kept_reply (published_of rows) (after (own_of rows new.place) new.deed)
+      new.deed.act new.deed.target) (Ok one)) (sym is) new.kept))
+]
+made-unchanged rows (Look name look) made refusal gives is = look-unchanged rows name look made gives
+made-unchanged rows DeskReport made refusal gives is = report-unchanged rows made gives
+
+pub refused-unchanged : (rows : Rows) (command : Command) (refusal : Refusal) (changes : List Change)
+    → IsStep rows command (reply.Refused refusal) changes → changes ≡ []
+refused-unchanged rows command refusal changes step =
+    ap (λ (both : Reply × List Change). both.1) step.answers
+    ∙ whole step.outcome step.gives (ap (λ (both : Reply × List Change). both.0) step.answers)
+  where
+    whole : (outcome : Result (Reply × List Change) Refusal) → Gives (machine rows command) outcome
+        → reply.Refused refusal ≡ (answered outcome).0 → (answered outcome).1 ≡ []
+    whole (Ok made) gives is = made-unchanged rows command made refusal gives is
+    whole (Err other) gives is = refl

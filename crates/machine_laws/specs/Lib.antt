@@ -1,0 +1,5 @@
+pub mod Callers
+pub mod Events
+pub mod Alike
+pub mod Sums
+pub mod OneByOne

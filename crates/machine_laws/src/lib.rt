@@ -1,0 +1,10 @@
+//! What holds of the session machine, over its definitions alone.
+#![tactic(auto)]
+
+pub mod batches;
+pub mod causes;
+pub mod isolation;
+pub mod repeats;
+pub mod reports;
+pub mod steps;
+pub mod validity;
