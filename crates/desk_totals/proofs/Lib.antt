@@ -1,0 +1,4 @@
+pub mod Bytes
+pub mod MasterCells
+pub mod Following
+pub mod Few
