@@ -1,0 +1,35 @@
+-- What is answered of a chain, by what its parts answer.
+use Rattle.std.proofs.Common.{◌≡◌, refl, subst, sym}
+use Rattle.std.specs.Prelude.{Result, Ok, Err, IsErrAnd}
+use Rattle.machine_core.specs.declared.stop.Stop.{Stop}
+use Rattle.machine_core.specs.declared.stop.Stop.TheVariants.{Refused, NoMemory}
+use Rattle.machine_core.specs.Checked.{Checked, ◌>>=◌, Gives}
+use Rattle.machine_core.specs.Outcomes.{Answers, Finds}
+use Rattle.machine_core.proofs.Chains.{Gives-bind, Gives-bind_refused}
+
+-- what asks no question is answered as it is found
+pub Answers-found : {A : Type 0} (checked : Checked A) (result : Result A Stop) → Finds result checked
+    → Answers result checked
+Answers-found {A} checked (Ok value) finds = subst (λ (one : Checked A). Gives one (Ok value)) (sym finds) refl
+Answers-found {A} checked (Err (Refused refusal)) finds =
+    subst (λ (one : Checked A). Gives one (Err refusal)) (sym finds) refl
+Answers-found checked (Err NoMemory) finds = tt
+
+-- a chain stops where its first part does
+stopped : {A B : Type 0} (checked : Checked A) (next : A → Checked B) (stop : Stop) → Answers {A = A} (Err stop) checked
+    → Answers {A = B} (Err stop) (checked >>= next)
+stopped checked next (Refused refusal) answers = Gives-bind_refused checked next refusal answers
+stopped checked next NoMemory answers = tt
+
+pub Answers-stopped : {A B : Type 0} (checked : Checked A) (next : A → Checked B) (stop : Stop) (result : Result B Stop)
+    → IsErrAnd result (λ one. one ≡ stop) → Answers {A = A} (Err stop) checked → Answers result (checked >>= next)
+Answers-stopped checked next stop (Ok value) is answers = absurd is
+Answers-stopped checked next stop (Err other) is answers = rw is (stopped checked next stop answers)
+
+-- and goes on where its first part gives a value
+pub Answers-then : {A B : Type 0} (checked : Checked A) (next : A → Checked B) (found : A) (result : Result B Stop)
+    → Gives checked (Ok found) → Answers result (next found) → Answers result (checked >>= next)
+Answers-then checked next found (Ok value) gives answers = Gives-bind checked next found (Ok value) gives answers
+Answers-then checked next found (Err (Refused refusal)) gives answers =
+    Gives-bind checked next found (Err refusal) gives answers
+Answers-then checked next found (Err NoMemory) gives answers = tt

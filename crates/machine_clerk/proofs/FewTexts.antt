@@ -1,0 +1,49 @@
+-- How many texts a session has, and how many bytes a clerk's texts have once one is replaced.
+use Rattle.std.proofs.Common.{◌≡◌, ◌<◌, ◌≤◌, ◌+◌, ◌-◌, ℕ, List, length, get_or, set, Option, Some, None, refl, arith}
+use Rattle.std.specs.Prelude.{IsSomeAnd}
+use Rattle.std.proofs.lemmas.List.Sums.{get_or-le-sum_by, sum_by-set}
+use Rattle.desk_words.specs.declared.rows.batch.BatchRow.{BatchRow}
+use Rattle.desk_words.specs.declared.rows.record.RecordRow.{RecordRow}
+use Rattle.desk_words.specs.declared.rows.session.SessionRow.{SessionRow}
+use Rattle.desk_words.specs.Tables.{Rows, published_of}
+use Rattle.desk_valid.specs.declared.bound.Bound.{Bound}
+use Rattle.desk_valid.specs.Bindings.{IsNamedKit, bound_at}
+use Rattle.desk_valid.specs.Rows.Session.{IsSessionRow}
+use Rattle.desk_valid.specs.Tallies.{bytes_in, text_bytes}
+use Rattle.desk_valid.specs.Valid.{AreValid}
+use Rattle.desk_valid.proofs.Kits.{edition-kit}
+use Rattle.machine_core.proofs.Widths.{few-attributes, typed-width}
+
+-- a good session of valid tables has at most 48 texts
+pub few-texts : (rows : Rows) (batches : List BatchRow) (session : SessionRow) → AreValid rows
+    → IsSessionRow (published_of rows) batches session → length session.typed ≤ 48
+few-texts rows batches session valid good =
+    known (bound_at (published_of rows) session.edition) refl (edition-kit rows session.edition valid good.edition)
+  where
+    known : (found : Option Bound) → bound_at (published_of rows) session.edition ≡ found → IsSomeAnd found IsNamedKit
+        → length session.typed ≤ 48
+    known None is named = absurd named
+    known (Some bound) is named = omega (
+      arith,
+      typed-width (published_of rows) batches session bound is good,
+      few-attributes rows session.edition bound valid is,
+    )
+
+-- the texts of one session are among a clerk's
+pub one-session : (sessions : List SessionRow) (records : List RecordRow) (place : ℕ) (past : SessionRow)
+    → place < length sessions → bytes_in (get_or sessions place past).typed ≤ text_bytes sessions records
+one-session sessions records place past within =
+    omega (arith, get_or-le-sum_by (λ (one : SessionRow). bytes_in one.typed) sessions place past within)
+
+-- where one session is replaced, the bytes of its texts go, and those of the other come
+pub bytes-replaced : (sessions : List SessionRow) (records : List RecordRow) (place : ℕ) (new past : SessionRow)
+    → place < length sessions
+    → text_bytes sessions records - bytes_in (get_or sessions place past).typed + bytes_in new.typed
+    ≡ text_bytes (set sessions place new) records
+bytes-replaced sessions records place new past within =
+    let typed : SessionRow → ℕ = λ one. bytes_in one.typed in
+    omega (
+      arith,
+      get_or-le-sum_by typed sessions place past within,
+      sum_by-set typed sessions place new past within,
+    )

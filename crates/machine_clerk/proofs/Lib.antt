@@ -1,0 +1,6 @@
+pub mod FewTexts
+pub mod Answering
+pub mod Endings
+pub mod Columns
+pub mod Stars
+pub mod Placed

@@ -1,0 +1,32 @@
+use Rattle.std.proofs.Common.{◌≡◌, ◌∙◌, ◌∷◌, ◌++◌, ◌<◌, ℕ, List, [], ap, arith, false, length, map, refl, slice_index_or, sym}
+use Rattle.machine_core.specs.declared.column.Column.{Column}
+use Rattle.machine_clerk.proofs.Columns.{map-cells_more, zip-all}
+use Rattle.machine_clerk.proofs.clerk.batch.cells_of.Goals as goal
+
+-- a cell with its attribute
+abbrev attributed : Column × List ℕ → ℕ × List ℕ
+attributed cell = (cell.0.attribute, cell.1)
+
+pub columns-preserved : goal.columns-preserved
+columns-preserved c =
+    let texts = slice_index_or c.args.grid.now.rows c.args.row [] in
+    let whole : length texts ≡ length c.args.columns.now =
+    c.requires.full c.args.row [] c.requires.row ∙ sym c.requires.columns in
+    let none : Column = record { attribute = 0; confirms = false } in
+    let column : Column = slice_index_or c.args.columns.now c.columns.place none in
+    let attribute : c.from-in-columns.result ≡ column.attribute = c.from-in-columns.ensures
+    ∙ ap (λ place. (slice_index_or c.args.columns.now place none).attribute) c.from.ensures in
+    let within : c.columns.place < length c.args.columns.now =
+    omega (arith, c.columns-test.true, c.columns-place-end.ensures, c.requires.columns) in
+    c.in_ok-push.ensures.pushed
+    ∙ ap (λ one. c.columns.cells ++ (one, c.in_ok-text.text) ∷ []) attribute
+    ∙ map-cells_more c.args.columns.now texts whole c.columns.place column none c.in_ok-text.text [] within refl
+    (c.in_ok-text.ensures.copied ∙ c.cell.ensures) attributed c.columns.cells c.columns.invariant
+
+pub returns : goal.returns
+returns c =
+    let texts = slice_index_or c.args.grid.now.rows c.args.row [] in
+    let whole : length texts ≡ length c.args.columns.now =
+    c.requires.full c.args.row [] c.requires.row ∙ sym c.requires.columns in
+    c.columns.invariant ∙ ap (map attributed) (zip-all c.args.columns.now texts whole c.columns.place
+    (omega (arith, c.columns-test.false, c.columns-place-end.ensures, c.requires.columns)))

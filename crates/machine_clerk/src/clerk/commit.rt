@@ -1,0 +1,152 @@
+//! Commit: the record at the end of the first run is kept.
+ghost use Rattle.std.specs.Prelude.{◌≡◌, ◌≤◌, OnOk, IfOk, length};
+ghost use Rattle.desk_words.specs.Tables.{published_of, rows_of};
+ghost use Rattle.desk_valid.specs.Valid.{AreValid};
+ghost use Rattle.fix_engine.specs.WorkSeen.{IsRoomFor, KeepsSize};
+ghost use Rattle.fix_model.specs.States.{Fits, record_of, uncovered_count};
+ghost use Rattle.machine_core.specs.Answers.{state_of};
+ghost use Rattle.machine_core.specs.Clerk.Commit.{accepts, commit, commit_rows};
+ghost use Rattle.machine_core.specs.Outcomes.{Answers, Finds};
+ghost use Rattle.machine_core.specs.Own.{IsOwn};
+ghost use Rattle.machine_core.specs.Shelves.{AreHeld, IsFullRoom, bound_on};
+ghost use Rattle.machine_clerk.specs.Ends.{accepted_record, fixed_end};
+
+use crate::clerk::bytes::{bytes_in, within_bytes};
+use crate::clerk::opening::open_session;
+use desk_base::{Duplicate, List, NoMemory, Steps, Text};
+use desk_words::{Accept, Act, RecordRow, Refusal, SessionRow, Stage, Tables};
+use fix_engine::{Verdict, Work, apply, decide};
+use fix_model::{Book, Cell, State, value};
+use machine_core::{Deed, Own, Stop, shelved, state_of};
+use master_index::{Shelf, Shelved, SortedBook};
+use std::alloc::Global;
+
+/// Commit: the record at the end of the first run is kept.
+pub fn commit_deed(
+    alloc: Global,
+    tables: &Tables,
+    shelf: &mut Shelf,
+    work: &mut Work,
+    own: &Own,
+    number: u32,
+    accept: Accept,
+) -> Result<Deed, Stop>
+    requires valid { AreValid (rows_of tables.now) }
+    requires own { IsOwn (rows_of tables.now) own.now }
+    requires held { AreHeld (published_of (rows_of tables.now)) shelf.old }
+    requires room { IsFullRoom work.old }
+    ensures answers { Answers result (commit (published_of (rows_of tables.now)) own.now number accept) }
+    ensures held { AreHeld (published_of (rows_of tables.now)) shelf.new }
+    ensures room { IsFullRoom work.new }
+{
+    let (session, row) = commit_rows(alloc, tables, shelf, work, own, number, accept)?;
+    let mut sessions = List::new(alloc);
+    sessions.push((number - 1, session))?;
+    Ok(Deed {
+        sessions,
+        record_row: Some(row),
+        batch: None,
+        act: Act::Committed,
+        target: own.records().len() as u32,
+    })
+}
+
+/// The session that is committed, and its record.
+fn commit_rows(
+    alloc: Global,
+    tables: &Tables,
+    shelf: &mut Shelf,
+    work: &mut Work,
+    own: &Own,
+    number: u32,
+    accept: Accept,
+) -> Result<(SessionRow, RecordRow), Stop>
+    requires valid { AreValid (rows_of tables.now) }
+    requires own { IsOwn (rows_of tables.now) own.now }
+    requires held { AreHeld (published_of (rows_of tables.now)) shelf.old }
+    requires room { IsFullRoom work.old }
+    ensures answers { Answers result (commit_rows (published_of (rows_of tables.now)) own.now number accept) }
+    ensures counted { OnOk result (1 ≤ number) }
+    ensures held { AreHeld (published_of (rows_of tables.now)) shelf.new }
+    ensures room { IsFullRoom work.new }
+{
+    let session = open_session(alloc, tables, shelf, own, number)?;
+    let shelved = shelved(shelf, session.edition);
+    let end = fixed_end(work, &shelved.book, state_of(alloc, session)?)?;
+    let row = accepted_record(alloc, shelved, &end, number, accept)?;
+    within_bytes(own, bytes_in(row.texts.as_slice()))?;
+    let mut after = session.copy()?;
+    after.stage = Stage::Committed;
+    Ok((after, row))
+}
+
+/// The state at the end of the first run, where the rules make a fix of the state.
+fn fixed_end(work: &mut Work, book: &SortedBook, mut state: State) -> Result<State, Stop>
+    requires fits { Fits book.now state }
+    requires room { IsRoomFor work.old book.now }
+    ensures answers { Answers result (fixed_end book.now state) }
+    ensures fits { IfOk result (Fits book.now) }
+    ensures size { KeepsSize work.old work.new }
+{
+    let mut steps = Steps::new(());
+    match decide(work, book, &mut state, &mut steps) {
+        Verdict::Fix { .. } => {
+            apply::<(), SortedBook>(book, &mut state, work.first());
+            Ok(state)
+        }
+        Verdict::Conflict => Err(Stop::Refused(Refusal::InConflict)),
+    }
+}
+
+/// The record of an end, where its uncovered attributes are accepted.
+fn accepted_record(
+    alloc: Global,
+    shelved: &Shelved,
+    end: &State,
+    number: u32,
+    accept: Accept,
+) -> Result<RecordRow, Stop>
+    requires { Fits shelved.now.book end.now }
+    ensures finds { Finds result (accepted_record (bound_on shelved.now) number accept end.now) }
+    ensures whole { IfOk result (λ row. length row.texts ≡ shelved.now.book.width) }
+{
+    let uncovered = uncovered_count(end);
+    accepts(accept, uncovered)?;
+    Ok(RecordRow {
+        session: number,
+        texts: texts_of(alloc, &shelved.book, end)?,
+        certain: uncovered == 0,
+    })
+}
+
+/// So many uncovered attributes are accepted.
+fn accepts(accept: Accept, uncovered: u64) -> Result<(), Stop>
+    ensures { Finds result (accepts accept uncovered) }
+{
+    match accept {
+        Accept::Certain if uncovered > 0 => Err(Stop::Refused(Refusal::NotCertain(uncovered))),
+        Accept::Certain | Accept::Partial => Ok(()),
+    }
+}
+
+/// How many attributes are uncovered.
+fn uncovered_count(state: &State) -> u64
+    ensures { result ≡ uncovered_count state.now }
+{
+    let cells = state.cells.as_slice().iter();
+    cells.filter(|cell| **cell == Cell::Uncovered).count() as u64
+}
+
+/// The value of each attribute.
+fn texts_of(alloc: Global, book: &SortedBook, state: &State) -> Result<List<Text>, NoMemory>
+    requires { Fits book.now state.now }
+    ensures texts { IfOk result (λ texts. texts ≡ record_of book.now state.now) }
+    ensures whole { IfOk result (λ texts. length texts ≡ book.now.width) }
+{
+    let width = Book::<()>::width(book);
+    let mut texts = List::new(alloc);
+    'attributes: for attribute in 0..width {
+        texts.push(value::<(), SortedBook>(book, state, attribute).copy()?)?;
+    }
+    Ok(texts)
+}

@@ -1,0 +1,102 @@
+//! Withdraw: attributes of a session are confirmed no longer. Their texts stay.
+ghost use Rattle.std.specs.Prelude.{◌≡◌, ◌<◌, ◌≤◌, All, OnOk, IfOk, length};
+ghost use Rattle.desk_words.specs.Tables.{published_of, rows_of};
+ghost use Rattle.desk_valid.specs.Valid.{AreValid};
+ghost use Rattle.machine_core.specs.Checked.{each};
+ghost use Rattle.machine_core.specs.Clerk.Withdraw.{cleared, confirmed_place, withdraw, withdraw_row};
+ghost use Rattle.machine_core.specs.Outcomes.{Finds};
+ghost use Rattle.machine_core.specs.Own.{IsOwn};
+ghost use Rattle.machine_core.specs.Shelves.{AreHeld};
+
+use crate::clerk::opening::open_session;
+use desk_base::{Duplicate, List, Str, Text};
+use desk_words::{Act, Refusal, SessionRow, Tables};
+use machine_core::{Deed, Own, Stop, attribute_of, shelved};
+use master_index::Shelf;
+use std::alloc::Global;
+
+/// Withdraw: attributes of a session are confirmed no longer. All names are tested against the session as it stands.
+pub fn withdraw_deed(
+    alloc: Global,
+    tables: &Tables,
+    shelf: &mut Shelf,
+    own: &Own,
+    number: u32,
+    names: &[Str],
+) -> Result<Deed, Stop>
+    requires valid { AreValid (rows_of tables.now) }
+    requires own { IsOwn (rows_of tables.now) own.now }
+    requires held { AreHeld (published_of (rows_of tables.now)) shelf.old }
+    ensures finds { Finds result (withdraw (published_of (rows_of tables.now)) own.now number names.now) }
+    ensures held { AreHeld (published_of (rows_of tables.now)) shelf.new }
+{
+    let session = withdraw_row(alloc, tables, shelf, own, number, names)?;
+    Ok(Deed::puts(alloc, number - 1, session, Act::Changed)?)
+}
+
+/// The session without these attributes confirmed.
+fn withdraw_row(
+    alloc: Global,
+    tables: &Tables,
+    shelf: &mut Shelf,
+    own: &Own,
+    number: u32,
+    names: &[Str],
+) -> Result<SessionRow, Stop>
+    requires valid { AreValid (rows_of tables.now) }
+    requires own { IsOwn (rows_of tables.now) own.now }
+    requires held { AreHeld (published_of (rows_of tables.now)) shelf.old }
+    ensures finds { Finds result (withdraw_row (published_of (rows_of tables.now)) own.now number names.now) }
+    ensures counted { OnOk result (1 ≤ number) }
+    ensures held { AreHeld (published_of (rows_of tables.now)) shelf.new }
+{
+    let session = open_session(alloc, tables, shelf, own, number)?;
+    let attributes = shelved(shelf, session.edition).names.attributes.as_slice();
+    let places = confirmed_places(alloc, attributes, session.confirmed.as_slice(), names)?;
+    let mut after = session.copy()?;
+    clear(&mut after.confirmed, places.as_slice());
+    Ok(after)
+}
+
+/// The places of confirmed attributes with these names.
+fn confirmed_places(
+    alloc: Global,
+    attributes: &[Text],
+    confirmed: &[bool],
+    names: &[Str],
+) -> Result<List<usize>, Stop>
+    requires { length confirmed.now ≡ length attributes.now }
+    ensures finds { Finds result (each (confirmed_place attributes.now confirmed.now) names.now) }
+    ensures within { IfOk result (All (λ place. place < length confirmed.now)) }
+{
+    let mut places = List::new(alloc);
+    'names: for name in names {
+        let place = confirmed_place(attributes, confirmed, name)?;
+        places.push(place)?;
+    }
+    Ok(places)
+}
+
+/// The place of a confirmed attribute with this name.
+fn confirmed_place(attributes: &[Text], confirmed: &[bool], name: &Str) -> Result<usize, Stop>
+    requires { length confirmed.now ≡ length attributes.now }
+    ensures finds { Finds result (confirmed_place attributes.now confirmed.now name.now) }
+    ensures within { IfOk result (λ place. place < length confirmed.now) }
+{
+    let place = attribute_of(attributes, name)?;
+    if confirmed[place] {
+        Ok(place)
+    } else {
+        Err(Stop::Refused(Refusal::NotConfirmed(name.copy()?)))
+    }
+}
+
+/// Takes the flags at these places off.
+fn clear(flags: &mut List<bool>, places: &[usize])
+    requires { All (λ place. place < length flags.old) places.now }
+    ensures { flags.new ≡ cleared flags.old places.now }
+{
+    'places: for place in places {
+        flags.set(*place, false);
+    }
+}

@@ -1,0 +1,26 @@
+use Rattle.std.proofs.Common.{Ok}
+use Rattle.std.proofs.lemmas.Result.{IfOk-weaker}
+use Rattle.desk_words.specs.Tables.{published_of, rows_of}
+use Rattle.machine_core.specs.Checked.{Gives}
+use Rattle.machine_core.specs.Look.Report.{assessment_of}
+use Rattle.machine_views.specs.Answered.{IsAnswered}
+use Rattle.machine_views.specs.Counts.{assessed}
+use Rattle.machine_views.proofs.Told.{assessment-given}
+use Rattle.machine_views.proofs.counting.assess.Goals as goal
+
+pub answer_to-requires-clause-suits : goal.answer_to-requires-clause-suits
+answer_to-requires-clause-suits c =
+    (c.book_for-shelved.ensures (rows_of c.args.tables.now) c.requires.valid c.in_ok-hold.ensures.held
+    c.requires.session).suits
+
+pub returns-clause-assessment : goal.returns-clause-assessment
+returns-clause-assessment c =
+    let published = published_of (rows_of c.args.tables.now) in
+    let session = c.args.session.now in
+    let shelved = c.book_for-shelved.result.now in
+    let book = c.book_for-shelved.ensures (rows_of c.args.tables.now) c.requires.valid c.in_ok-hold.ensures.held
+    c.requires.session in
+    IfOk-weaker c.answer_to.result (IsAnswered shelved session c.answer_to.new.work)
+    (λ answered. Gives (assessment_of published session) (Ok (assessed session answered)))
+    (λ answered is. assessment-given published session shelved c.answer_to.new.work answered book.bound is)
+    c.answer_to.ensures.answered

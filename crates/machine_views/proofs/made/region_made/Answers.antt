@@ -1,0 +1,27 @@
+use Rattle.std.proofs.Common.{◌≡◌, arith, take}
+use Rattle.desk_words.specs.Tables.{published_of, rows_of}
+use Rattle.machine_core.specs.Shelves.{bound_on}
+use Rattle.machine_core.specs.Steward.AddRegion.{region_count}
+use Rattle.machine_views.proofs.Books.{IsNamedBook-at}
+use Rattle.machine_views.proofs.Making.{region-given}
+use Rattle.machine_views.proofs.made.region_made.Goals as goal
+
+pub row_verdicts-requires-clause-room : goal.row_verdicts-requires-clause-room
+row_verdicts-requires-clause-room c =
+    let rows = rows_of c.args.tables.now in
+    let book = IsNamedBook-at rows c.args.row.now.edition c.shelved.result.now c.requires.valid
+    (c.shelved.ensures (published_of rows) c.in_ok-hold.ensures.held) in
+    record {
+      attributes = omega (arith, book.named.valid.narrow, c.requires.room.attributes);
+      rules = omega (arith, book.named.valid.few_rules, c.requires.room.rules);
+    }
+
+pub returns-clause-made : goal.returns-clause-made
+returns-clause-made c =
+    let published = published_of (rows_of c.args.tables.now) in
+    let row = c.args.row.now in
+    let earlier : c.region_count-earlier.result ≡ region_count (take c.args.place published.regions) row.edition =
+    rw c.as_slice.ensures at c.region_count-earlier.ensures.count in
+    let bound = c.shelved.ensures published c.in_ok-hold.ensures.held in
+    region-given published c.args.place row (bound_on c.shelved.result.now) c.in_ok-verdicts.verdicts
+    c.region_count-earlier.result bound c.in_ok-verdicts.ensures.verdicts earlier

@@ -1,0 +1,4 @@
+pub mod Answered
+pub mod Counts
+pub mod Doing
+pub mod Looking

@@ -1,0 +1,94 @@
+//! Batches, with the verdicts on their sessions.
+ghost use Rattle.std.specs.Prelude.{◌≡◌, ◌+◌, ◌-◌, ◌<◌, ◌≤◌, ◌^◌, All, IfOk, drop, length, map, take};
+ghost use Rattle.desk_words.specs.Tables.{published_of, rows_of};
+ghost use Rattle.desk_valid.specs.Valid.{AreValid};
+ghost use Rattle.machine_core.specs.Sessions.{IsSessionOf};
+ghost use Rattle.machine_core.specs.Shelves.{AreHeld, IsFullRoom};
+ghost use Rattle.machine_views.specs.Counts.{AreAtMost, AreSessionVerdicts, batched};
+
+use crate::counting::{Verdicts, assess};
+use desk_base::NoMemory;
+use desk_words::{BatchRow, Batched, SessionRow, Tables};
+use fix_engine::Work;
+use master_index::Shelf;
+use std::alloc::Global;
+
+/// How many of some sessions have each verdict.
+pub fn session_verdicts(
+    alloc: Global,
+    tables: &Tables,
+    shelf: &mut Shelf,
+    work: &mut Work,
+    sessions: &[SessionRow],
+) -> Result<Verdicts, NoMemory>
+    requires valid { AreValid (rows_of tables.now) }
+    requires held { AreHeld (published_of (rows_of tables.now)) shelf.old }
+    requires room { IsFullRoom work.old }
+    requires sessions { All (IsSessionOf (published_of (rows_of tables.now))) sessions.now }
+    requires few { length sessions.now < 2 ^ 32 }
+    ensures verdicts { IfOk result (AreSessionVerdicts (published_of (rows_of tables.now)) sessions.now) }
+    ensures few { IfOk result (AreAtMost (length sessions.now)) }
+    ensures held { AreHeld (published_of (rows_of tables.now)) shelf.new }
+    ensures room { IsFullRoom work.new }
+{
+    let mut verdicts = Verdicts::none();
+    'sessions: for session in sessions {
+        let answered = assess(alloc, tables, shelf, work, session)?;
+        verdicts = verdicts.with(answered.verdict);
+    }
+    Ok(verdicts)
+}
+
+/// How many of the sessions that are put somewhere have each verdict.
+pub fn put_verdicts(
+    alloc: Global,
+    tables: &Tables,
+    shelf: &mut Shelf,
+    work: &mut Work,
+    puts: &[(u32, SessionRow)],
+) -> Result<Verdicts, NoMemory>
+    requires valid { AreValid (rows_of tables.now) }
+    requires held { AreHeld (published_of (rows_of tables.now)) shelf.old }
+    requires room { IsFullRoom work.old }
+    requires sessions { All (λ put. IsSessionOf (published_of (rows_of tables.now)) put.1) puts.now }
+    requires few { length puts.now < 2 ^ 32 }
+    ensures verdicts { IfOk result
+        (AreSessionVerdicts (published_of (rows_of tables.now)) (map (λ put. put.1) puts.now)) }
+    ensures few { IfOk result (AreAtMost (length puts.now)) }
+    ensures held { AreHeld (published_of (rows_of tables.now)) shelf.new }
+    ensures room { IsFullRoom work.new }
+{
+    let mut verdicts = Verdicts::none();
+    'puts: for put in puts {
+        let answered = assess(alloc, tables, shelf, work, &put.1)?;
+        verdicts = verdicts.with(answered.verdict);
+    }
+    Ok(verdicts)
+}
+
+/// The sessions of a batch.
+pub fn sessions_in<'s>(sessions: &'s [SessionRow], row: &BatchRow) -> &'s [SessionRow]
+    requires counted { 1 ≤ row.now.first }
+    requires within { row.now.first + row.now.count ≤ length sessions.now + 1 }
+    ensures sessions { result.now ≡ take row.now.count (drop (row.now.first - 1) sessions.now) }
+    ensures count { length result.now ≡ row.now.count }
+{
+    let first = row.first as usize - 1;
+    &sessions[first..first + row.count as usize]
+}
+
+/// What is told of a batch of this number, counted from 1, whose sessions have these verdicts.
+pub fn batched(number: u32, row: &BatchRow, verdicts: Verdicts) -> Batched
+    requires most { AreAtMost row.now.count verdicts }
+    requires word { row.now.count < 2 ^ 32 }
+    ensures { result ≡ batched number row.now verdicts }
+{
+    Batched {
+        batch: number,
+        first: row.first,
+        rows: row.count,
+        certain: verdicts.certain as u32,
+        partial: verdicts.partial as u32,
+        conflict: verdicts.conflict as u32,
+    }
+}

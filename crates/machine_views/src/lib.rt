@@ -1,0 +1,17 @@
+//! What the rules make of sessions, and the replies that come of it: of writes, of their repeats, and of looks.
+#![tactic(auto)]
+
+mod answers;
+mod batches;
+mod counting;
+mod kept;
+mod looks;
+mod made;
+mod views;
+
+pub use answers::{Answered, answer_to, book_for};
+pub use counting::{Verdicts, assess};
+pub use kept::{deed_reply, kept_reply};
+pub use looks::{records_of, suggestion_of, view_at};
+pub use made::{kept_made, region_made};
+pub use views::view_of;

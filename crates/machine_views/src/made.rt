@@ -1,0 +1,150 @@
+//! The replies to the steward's writes: what was made, over the tables as they stand.
+ghost use Rattle.std.specs.Prelude.{◌≡◌, ◌≢◌, ◌<◌, ◌≤◌, ◌^◌, All, IfOk, length};
+ghost use Rattle.desk_base.specs.declared.limits.TheConstants.{MAX_REGION_ROWS};
+ghost use Rattle.desk_words.specs.Tables.{published_of, rows_of};
+ghost use Rattle.desk_valid.specs.Rows.Clerk.{HasTarget, IsStewardsAct};
+ghost use Rattle.desk_valid.specs.Rows.Region.{IsRegionRow};
+ghost use Rattle.desk_valid.specs.Valid.{AreValid};
+ghost use Rattle.fix_engine.specs.Verdicts.{IsAnswer};
+ghost use Rattle.fix_engine.specs.WorkSeen.{IsRoomFor, KeepsSize};
+ghost use Rattle.fix_model.specs.Regions.{row_state};
+ghost use Rattle.machine_core.specs.Checked.{Gives};
+ghost use Rattle.machine_core.specs.Kept.{kept_made, region_made};
+ghost use Rattle.machine_core.specs.Shelves.{AreHeld, IsFullRoom};
+ghost use Rattle.machine_core.specs.Steward.AddRegion.{region_count};
+ghost use Rattle.machine_views.specs.Counts.{AreAtMost, AreRowVerdicts};
+
+use crate::counting::Verdicts;
+use desk_base::{Duplicate, NoMemory, Steps, Text};
+use desk_words::{Act, Made, RegionRow, Tables};
+use fix_engine::{Verdict, Work, decide};
+use fix_model::{Book, Region, row_state};
+use machine_core::{hold, shelved};
+use master_index::{Shelf, SortedBook};
+use std::alloc::Global;
+
+/// The reply of the steward's act, whose target is a place counted from 0.
+pub fn kept_made(
+    alloc: Global,
+    tables: &Tables,
+    shelf: &mut Shelf,
+    work: &mut Work,
+    act: Act,
+    target: u32,
+) -> Result<Made, NoMemory>
+    requires valid { AreValid (rows_of tables.now) }
+    requires held { AreHeld (published_of (rows_of tables.now)) shelf.old }
+    requires room { IsFullRoom work.old }
+    requires steward { IsStewardsAct act }
+    requires started { act ≢ Act.Nothing }
+    requires target { HasTarget (rows_of tables.now) 0 act target }
+    ensures made { IfOk result (λ made. Gives (kept_made (rows_of tables.now) act target) (Ok made)) }
+    ensures held { AreHeld (published_of (rows_of tables.now)) shelf.new }
+    ensures room { IsFullRoom work.new }
+{
+    let place = target as usize;
+    match act {
+        Act::Clerk => Ok(Made::Clerk(tables.clerks.as_slice()[place].name.copy()?)),
+        Act::Schema => {
+            let row = &tables.schemas.as_slice()[place];
+            Ok(Made::Schema(row.name.copy()?, row.version))
+        }
+        Act::Master => {
+            let row = &tables.masters.as_slice()[place];
+            Ok(Made::Master(row.name.copy()?, row.version))
+        }
+        Act::Rulebook => {
+            let row = &tables.rulebooks.as_slice()[place];
+            Ok(Made::Rulebook(row.name.copy()?, row.version))
+        }
+        Act::Edition => {
+            let row = &tables.editions.as_slice()[place];
+            Ok(Made::Edition(row.name.copy()?, row.version))
+        }
+        Act::Region => {
+            let row = &tables.regions.as_slice()[place];
+            region_made(alloc, tables, shelf, work, target, row)
+        }
+        // The steward has no other acts.
+        _ => unreachable!(),
+    }
+}
+
+/// A region at a place, counted from 0, with the number of its rows of each verdict. It need not stand there yet.
+pub fn region_made(
+    alloc: Global,
+    tables: &Tables,
+    shelf: &mut Shelf,
+    work: &mut Work,
+    place: u32,
+    row: &RegionRow,
+) -> Result<Made, NoMemory>
+    requires valid { AreValid (rows_of tables.now) }
+    requires held { AreHeld (published_of (rows_of tables.now)) shelf.old }
+    requires room { IsFullRoom work.old }
+    requires place { place ≤ length tables.now.regions.items }
+    requires region { IsRegionRow (published_of (rows_of tables.now)) place row.now }
+    ensures made { IfOk result
+        (λ made. Gives (region_made (published_of (rows_of tables.now)) place row.now) (Ok made)) }
+    ensures held { AreHeld (published_of (rows_of tables.now)) shelf.new }
+    ensures room { IsFullRoom work.new }
+{
+    hold(alloc, tables, shelf, row.edition)?;
+    let verdicts = row_verdicts(alloc, work, &shelved(shelf, row.edition).book, &row.region)?;
+    let earlier = region_count(&tables.regions.as_slice()[..place as usize], row.edition);
+    Ok(Made::Region {
+        region: earlier + 1,
+        certain: verdicts.certain as u32,
+        partial: verdicts.partial as u32,
+        conflict: verdicts.conflict as u32,
+    })
+}
+
+/// How many of a region's rows have each verdict.
+fn row_verdicts(
+    alloc: Global,
+    work: &mut Work,
+    book: &SortedBook,
+    region: &Region,
+) -> Result<Verdicts, NoMemory>
+    requires room { IsRoomFor work.old book.now }
+    requires whole { All (λ texts. length texts ≡ length region.now.attrs) region.now.rows }
+    requires few { length region.now.rows ≤ MAX_REGION_ROWS }
+    ensures verdicts { IfOk result (AreRowVerdicts book.now region.now.attrs region.now.rows) }
+    ensures few { IfOk result (AreAtMost (length region.now.rows)) }
+    ensures size { KeepsSize work.old work.new }
+{
+    let mut verdicts = Verdicts::none();
+    'rows: for texts in region.rows.as_slice() {
+        let verdict = row_verdict(alloc, work, book, region.attrs.as_slice(), texts.as_slice())?;
+        verdicts = verdicts.with(verdict);
+    }
+    Ok(verdicts)
+}
+
+/// The verdict on a row of texts for these attributes. The runs are left in the work.
+fn row_verdict(
+    alloc: Global,
+    work: &mut Work,
+    book: &SortedBook,
+    attributes: &[u16],
+    texts: &[Text],
+) -> Result<Verdict, NoMemory>
+    requires room { IsRoomFor work.old book.now }
+    requires whole { length texts.now ≡ length attributes.now }
+    ensures verdict { IfOk result (λ verdict. IsAnswer book.now (row_state book.now.width attributes.now texts.now)
+        work.new.first work.new.second verdict) }
+    ensures size { KeepsSize work.old work.new }
+{
+    let mut state = row_state(alloc, Book::<()>::width(book), attributes, texts)?;
+    Ok(decide(work, book, &mut state, &mut Steps::new(())))
+}
+
+/// How many of these regions an edition has.
+fn region_count(regions: &[RegionRow], edition: u32) -> u32
+    requires { length regions.now < 2 ^ 31 }
+    ensures count { result ≡ region_count regions.now edition }
+    ensures few { result ≤ length regions.now }
+{
+    regions.iter().filter(|row| row.edition == edition).count() as u32
+}

@@ -1,0 +1,214 @@
+//! A session as it is shown.
+ghost use Rattle.std.specs.Prelude.{◌≡◌, ◌<◌, All, IfOk, IfSome, OnOk, List, length, map, option_map};
+ghost use Rattle.std.specs.List.{range_with_len};
+ghost use Rattle.desk_words.specs.Tables.{published_of, rows_of};
+ghost use Rattle.desk_valid.specs.Valid.{AreValid};
+ghost use Rattle.fix_model.specs.declared.state.Step.{Step as StepOf};
+ghost use Rattle.fix_model.specs.Rules.{IsStepOf};
+ghost use Rattle.fix_model.specs.States.{Fits, IsCellOf};
+ghost use Rattle.machine_core.specs.Checked.{Gives};
+ghost use Rattle.machine_core.specs.Sessions.{IsSessionOf};
+ghost use Rattle.machine_core.specs.Shelves.{AreHeld, IsFirst, IsFullRoom, bound_on};
+ghost use Rattle.machine_core.specs.Views.{name_at, named_step, outcome_of, shown_cell, view_cell, view_of};
+ghost use Rattle.machine_views.specs.Answered.{IsBookFor, IsNamedBook, NamesSteps, answer_in};
+
+use crate::answers::{answer_to, book_for};
+use desk_base::{Duplicate, List, NoMemory, Text};
+use desk_words::{Outcome, SessionRow, Shown, Tables, View, ViewCell};
+use fix_engine::{Verdict, Work};
+use fix_model::{Book, Cell, Rule, State, Step, value};
+use machine_core::hold;
+use master_index::{Shelf, Shelved, SortedBook};
+use std::alloc::Global;
+
+/// A session as it is shown under this number. Its edition comes first on the shelf.
+pub fn view_of(
+    alloc: Global,
+    tables: &Tables,
+    shelf: &mut Shelf,
+    work: &mut Work,
+    number: u32,
+    session: &SessionRow,
+) -> Result<View, NoMemory>
+    requires valid { AreValid (rows_of tables.now) }
+    requires held { AreHeld (published_of (rows_of tables.now)) shelf.old }
+    requires room { IsFullRoom work.old }
+    requires session { IsSessionOf (published_of (rows_of tables.now)) session.now }
+    ensures view { IfOk result
+        (λ view. Gives (view_of (published_of (rows_of tables.now)) number session.now) (Ok view)) }
+    ensures first { OnOk result (IsFirst session.now.edition shelf.new) }
+    ensures held { AreHeld (published_of (rows_of tables.now)) shelf.new }
+    ensures room { IsFullRoom work.new }
+{
+    hold(alloc, tables, shelf, session.edition)?;
+    let shelved = book_for(shelf, session);
+    view_on(alloc, tables, shelved, work, number, session)
+}
+
+/// A session as it is shown, by the book of its edition.
+fn view_on(
+    alloc: Global,
+    tables: &Tables,
+    shelved: &Shelved,
+    work: &mut Work,
+    number: u32,
+    session: &SessionRow,
+) -> Result<View, NoMemory>
+    requires book { IsBookFor (published_of (rows_of tables.now)) session.now shelved.now }
+    requires edition { session.now.edition < length tables.now.editions.items }
+    requires room { IsFullRoom work.old }
+    ensures view { IfOk result
+        (λ view. Gives (view_of (published_of (rows_of tables.now)) number session.now) (Ok view)) }
+    ensures room { IsFullRoom work.new }
+{
+    let answered = answer_to(alloc, work, shelved, session)?;
+    let cells = view_cells(alloc, shelved, &answered.shown)?;
+    let first = named_steps(alloc, shelved, work.first())?;
+    let outcome = outcome_of(alloc, shelved, work.second(), answered.verdict)?;
+    let edition = &tables.editions.as_slice()[session.edition as usize];
+    Ok(View {
+        session: number,
+        edition: edition.name.copy()?,
+        version: edition.version,
+        stage: session.stage,
+        cells,
+        first,
+        outcome,
+    })
+}
+
+/// Each attribute with its value, in their order.
+fn view_cells(alloc: Global, shelved: &Shelved, state: &State) -> Result<List<ViewCell>, NoMemory>
+    requires named { IsNamedBook shelved.now }
+    requires fits { Fits shelved.now.book state.now }
+    ensures { IfOk result (λ cells.
+        cells ≡ map (view_cell (bound_on shelved.now) state.now) (range_with_len 0 shelved.now.book.width)) }
+{
+    let mut cells = List::new(alloc);
+    'attributes: for attribute in 0..Book::<()>::width(&shelved.book) {
+        cells.push(view_cell(alloc, shelved, state, attribute)?)?;
+    }
+    Ok(cells)
+}
+
+/// An attribute, counted from 0, with its value.
+fn view_cell(
+    alloc: Global,
+    shelved: &Shelved,
+    state: &State,
+    attribute: u16,
+) -> Result<ViewCell, NoMemory>
+    requires named { IsNamedBook shelved.now }
+    requires fits { Fits shelved.now.book state.now }
+    requires attribute { attribute < shelved.now.book.width }
+    ensures { IfOk result (λ cell. cell ≡ view_cell (bound_on shelved.now) state.now attribute) }
+{
+    let place = usize::from(attribute);
+    let name = name_at(shelved.names.attributes.as_slice(), place)?;
+    let value = value::<(), SortedBook>(&shelved.book, state, attribute).copy()?;
+    let shown = shown_cell(shelved, state.cells.as_slice()[place])?;
+    Ok(ViewCell { name, value, shown })
+}
+
+/// How an attribute came to its value.
+fn shown_cell(shelved: &Shelved, cell: Cell) -> Result<Shown, NoMemory>
+    requires named { IsNamedBook shelved.now }
+    requires cell { IsCellOf shelved.now.book cell }
+    ensures { IfOk result (λ shown. shown ≡ shown_cell (bound_on shelved.now) cell) }
+{
+    match cell {
+        Cell::Uncovered => Ok(Shown::Uncovered),
+        Cell::Confirmed => Ok(Shown::Confirmed),
+        Cell::Fixed(step) => fixed_by(shelved, step),
+    }
+}
+
+/// An attribute that a step fixed, by the rule of the step and the row of its master.
+fn fixed_by(shelved: &Shelved, step: Step) -> Result<Shown, NoMemory>
+    requires named { IsNamedBook shelved.now }
+    requires step { IsStepOf shelved.now.book step }
+    ensures { IfOk result (λ shown. shown ≡ shown_cell (bound_on shelved.now) (Cell.Fixed step)) }
+{
+    let master = rules(&shelved.book)[usize::from(step.rule)].master;
+    let (rule, row) = named_step(shelved, step)?;
+    let master = name_at(shelved.names.masters.as_slice(), usize::from(master))?;
+    Ok(Shown::Fixed { rule, master, row })
+}
+
+/// The rules of a book.
+fn rules(book: &SortedBook) -> &[Rule]
+    ensures { result.now ≡ book.now.rules }
+{
+    Book::<()>::rules(book)
+}
+
+/// The name at a place, counted from 0.
+pub fn name_at(names: &[Text], place: usize) -> Result<Text, NoMemory>
+    requires { place < length names.now }
+    ensures { IfOk result (λ name. name ≡ name_at names.now place) }
+{
+    names[place].copy()
+}
+
+/// A step by the name of its rule, with the row counted from 1.
+fn named_step(shelved: &Shelved, step: Step) -> Result<(Text, u32), NoMemory>
+    requires named { IsNamedBook shelved.now }
+    requires step { IsStepOf shelved.now.book step }
+    ensures { IfOk result (λ named. named ≡ named_step (bound_on shelved.now) step) }
+{
+    let rule = name_at(shelved.names.rules.as_slice(), usize::from(step.rule))?;
+    Ok((rule, step.row + 1))
+}
+
+/// Steps by the names of their rules, in their order.
+fn named_steps(
+    alloc: Global,
+    shelved: &Shelved,
+    steps: &[Step],
+) -> Result<List<(Text, u32)>, NoMemory>
+    requires named { IsNamedBook shelved.now }
+    requires steps { All (IsStepOf shelved.now.book) steps.now }
+    ensures { IfOk result (λ named. named ≡ map (named_step (bound_on shelved.now)) steps.now) }
+{
+    let mut named = List::new(alloc);
+    'steps: for step in steps {
+        named.push(named_step(shelved, *step)?)?;
+    }
+    Ok(named)
+}
+
+/// What the rules make of a session whose second run is this.
+fn outcome_of(
+    alloc: Global,
+    shelved: &Shelved,
+    second: &[Step],
+    verdict: Verdict,
+) -> Result<Outcome, NoMemory>
+    requires named { IsNamedBook shelved.now }
+    requires steps { NamesSteps shelved.now.book second.now verdict }
+    ensures { IfOk result (λ outcome. (first : List StepOf) → outcome ≡ outcome_of (bound_on shelved.now)
+        (record { first = first; second = second.now; verdict = verdict }) verdict) }
+{
+    match verdict {
+        Verdict::Fix { certain, dissent } => {
+            let dissent = dissent_of(shelved, dissent)?;
+            Ok(Outcome::Fix { certain, dissent })
+        }
+        Verdict::Conflict => {
+            let second = named_steps(alloc, shelved, second)?;
+            Ok(Outcome::Conflict { second })
+        }
+    }
+}
+
+/// The step that dissents, by the name of its rule.
+fn dissent_of(shelved: &Shelved, dissent: Option<Step>) -> Result<Option<(Text, u32)>, NoMemory>
+    requires named { IsNamedBook shelved.now }
+    requires step { IfSome dissent (IsStepOf shelved.now.book) }
+    ensures { IfOk result (λ named. named ≡ option_map (named_step (bound_on shelved.now)) dissent) }
+{
+    match dissent {
+        None => Ok(None),
+        Some(step) => Ok(Some(named_step(shelved, step)?)),
+    }
+}
