@@ -1,0 +1,83 @@
+-- Requests at the front of bytes, and the rest behind them.
+use Rattle.std.proofs.Common.{◌≡◌, ◌∙◌, inl, inr, ℕ, List, [], ◌∷◌, ◌++◌, refl, ap, sym, subst, length, arith}
+use Rattle.std.specs.Prelude.{◌↔◌}
+use Rattle.httparse.specs.Grammar.{RequestHead}
+use Rattle.http_cut.specs.declared.step.BadRest.{BadRest}
+use Rattle.http_cut.specs.declared.step.BadRest.TheVariants.{BadHead, Chunked, BodyLong}
+use Rattle.http_cut.specs.Head.{HasHead, AsksHead}
+use Rattle.http_cut.specs.Cut.{WholeRequest, BeginsRequest, Begins, IsOpen, IsBadRest, End, clean, truncated}
+use Rattle.http_cut.specs.Cut.{IsEnd}
+use Rattle.http_cut.proofs.Heads.{HasHead-append, HasHead_same, NeverHasHead-append}
+use Rattle.http_cut.proofs.Cuts.{BeginsRequest-append, BeginsRequest_unique, request_is_no_end}
+
+-- one more request
+pub Begins-push : (bytes : List ℕ) (requests : List WholeRequest) (middle : List ℕ) (request : WholeRequest)
+    (rest : List ℕ) → Begins bytes requests middle → BeginsRequest middle request.0 request.1 rest
+    → Begins bytes (requests ++ request ∷ []) rest
+Begins-push bytes [] middle request rest same whole =
+    (rest, subst (λ (all : List ℕ). BeginsRequest all request.0 request.1 rest) (sym same) whole, refl)
+Begins-push bytes (first ∷ requests) middle request rest h whole =
+    (h.0, h.1, Begins-push h.0 requests middle request rest h.2 whole)
+
+-- the requests stay as bytes come
+pub Begins-more : (bytes : List ℕ) (requests : List WholeRequest) (rest more : List ℕ) → Begins bytes requests rest
+    → Begins (bytes ++ more) requests (rest ++ more)
+Begins-more bytes [] rest more same = ap (λ (all : List ℕ). all ++ more) same
+Begins-more bytes (first ∷ requests) rest more h =
+    (h.0 ++ more, BeginsRequest-append bytes more first.0 first.1 h.0 h.1, Begins-more h.0 requests rest more h.2)
+
+-- requests that stand at the front of cut bytes are the first of the cut
+pub Begins-first : (bytes : List ℕ) (requests all : List WholeRequest) (rest last : List ℕ) (end : End)
+    → Begins bytes requests rest → Begins bytes all last → IsEnd last end
+    → (more : List WholeRequest) × (all ≡ requests ++ more) × Begins rest more last
+Begins-first bytes [] all rest last end same h ends =
+    (all, refl, subst (λ (b : List ℕ). Begins b all last) same h)
+Begins-first bytes (first ∷ requests) [] rest last end h same ends =
+    absurd (request_is_no_end last first.0 first.1 h.0 end
+    (subst (λ (b : List ℕ). BeginsRequest b first.0 first.1 h.0) same h.1) ends)
+Begins-first bytes ((head, body) ∷ requests) ((other, second) ∷ all) rest last end h k ends =
+    let one = BeginsRequest_unique bytes head other body second h.0 k.0 h.1 k.1 in
+    let next = Begins-first h.0 requests all rest last end h.2
+    (subst (λ (b : List ℕ). Begins b all last) (sym one.2) k.2) ends in
+    let tails : all ≡ requests ++ next.0 = next.1 in
+    (next.0, cc, next.2)
+
+-- as many requests at the front of bytes are the same
+pub Begins-one : (bytes : List ℕ) (requests others : List WholeRequest) (rest last : List ℕ)
+    → length requests ≡ length others → Begins bytes requests rest → Begins bytes others last → requests ≡ others
+Begins-one bytes [] [] rest last size h k = refl
+Begins-one bytes [] (b ∷ others) rest last size h k = absurd (omega arith)
+Begins-one bytes (a ∷ requests) [] rest last size h k = absurd (omega arith)
+Begins-one bytes ((head, body) ∷ requests) ((other, second) ∷ others) rest last size h k =
+    let one = BeginsRequest_unique bytes head other body second h.0 k.0 h.1 k.1 in
+    let next : requests ≡ others = Begins-one h.0 requests others rest last (omega arith) h.2
+    (subst (λ (b : List ℕ). Begins b others last) (sym one.2) k.2) in
+    cc
+
+-- ---- rests
+
+-- a request whose head stands is the one that asks, whatever follows
+head_asks : (bytes more : List ℕ) (head : RequestHead) → HasHead bytes head → AsksHead (bytes ++ more) → AsksHead bytes
+head_asks bytes more head stands (other, there, is) =
+    let same = HasHead_same bytes more head other stands there in
+    (head, stands, ap (λ (h : RequestHead). h.method) same ∙ is)
+
+asks_then : (bytes more : List ℕ) (kind : BadRest) → IsBadRest bytes kind → AsksHead (bytes ++ more) → AsksHead bytes
+asks_then bytes more BadHead (inl never) asks =
+    absurd ((NeverHasHead-append bytes more never).0 asks.0 asks.1)
+asks_then bytes more BadHead (inr (head, stands, wrong)) asks = head_asks bytes more head stands asks
+asks_then bytes more Chunked (head, stands, good, says) asks = head_asks bytes more head stands asks
+asks_then bytes more BodyLong (head, count, announces, over) asks = head_asks bytes more head announces.stands asks
+
+-- a bad rest asks with HEAD or not, whatever follows
+pub AsksHead-append : (bytes more : List ℕ) (kind : BadRest) → IsBadRest bytes kind
+    → AsksHead bytes ↔ AsksHead (bytes ++ more)
+AsksHead-append bytes more kind wrong = (
+  λ asks. (asks.0, HasHead-append bytes more asks.0 asks.1, asks.2),
+  λ asks. asks_then bytes more kind wrong asks,
+)
+
+-- bytes that are open end in a kind
+pub open_end : (bytes : List ℕ) → IsOpen bytes → (end : End) × IsEnd bytes end
+open_end [] is_open = (clean, refl)
+open_end (byte ∷ bytes) is_open = (truncated (length (byte ∷ bytes)), ((λ e. cc), refl, is_open))

@@ -1,0 +1,434 @@
+-- How a stream ends.
+use Rattle.std.proofs.Common.{◌≡◌, inl, inr, ◌∙◌, ℕ, ◌+◌, ◌-◌, ◌<◌, ◌≤◌, ◌==◌, Bool, true, List, [], ◌∷◌, ◌++◌, length}
+use Rattle.std.proofs.Common.{take, refl, sym, subst, arith, length-append, append-nil, Err}
+use Rattle.std.specs.Prelude.{◌↔◌, IsTrue}
+use Rattle.std.specs.Io.KnownBytes.{Appends, IsAtEnd}
+use Rattle.desk_base.specs.Faults.{AppendsPart, Rose}
+use Rattle.desk_base.proofs.Growth.{Appends-then}
+use Rattle.keeper_core.specs.Keeping.{IfTold}
+use Rattle.http_cut.specs.declared.intake.IntakeFault.{IntakeFault}
+use Rattle.http_cut.specs.declared.intake.IntakeFault.TheVariants as intake
+use Rattle.http_cut.specs.declared.step.BadRest.{BadRest}
+use Rattle.http_cut.specs.declared.step.BadRest.TheVariants as bad_rest
+use Rattle.http_cut.specs.Cut.{WholeRequest, BeginsRequest, Begins, IsOpen, IsBadRest, End, clean, bad, truncated}
+use Rattle.http_cut.specs.Cut.{IsEnd}
+use Rattle.http_cut.specs.Cut.{IsCut}
+use Rattle.http_cut.specs.Head.{AsksHead}
+use Rattle.http_cut.specs.Taking.{Fetches, Loses}
+use Rattle.http_cut.proofs.Cuts.{IsBadRest-append}
+use Rattle.http_cut.proofs.Waiting.{Consumes-none}
+use Rattle.http_desk.specs.declared.serving.Ended.{Ended}
+use Rattle.http_desk.specs.declared.serving.Ended.TheVariants as ended
+use Rattle.http_desk.specs.Answered.{Answered, IsAnswered, asks_head, requests, texts}
+use Rattle.http_desk.specs.Commands.{command_for}
+use Rattle.http_desk.specs.Refusals.{refused_rest, refusal_text}
+use Rattle.http_desk.specs.Scenes.{Scene, Later}
+use Rattle.http_desk.specs.Streams.{Progress, Serves, IsRestText, IsEndOf, RefusesRest, AnswersAll}
+use Rattle.http_desk.specs.Streams.{EndsStream, bad_end}
+use Rattle.http_desk.specs.Streams.{IsFaultless, TakesText, fault_end}
+use Rattle.http_desk.proofs.Cutting.{Begins-more, AsksHead-append, open_end}
+use Rattle.http_desk.proofs.Progress.{Progress-takes, failures-push, texts-push}
+use Rattle.http_desk.proofs.Underway.{Serving, Serving-none, Serving-takes, Serving-weighs, answered}
+use Rattle.http_desk.proofs.Taking.{some_left, none_left}
+
+-- no count fell twice
+pub Later-then : (old mid new : Scene) → Later old mid → Later mid new → Later old new
+Later-then old mid new h k = record {
+  read_faults = omega (arith, h.read_faults, k.read_faults);
+  write_faults = omega (arith, h.write_faults, k.write_faults);
+  faults = omega (arith, h.faults, k.faults);
+}
+
+-- as many requests were answered as may be
+pub ends_limit : (reads : Type 0) (takes taking : ℕ → Type 0) (keeps : Type 0) (limit : ℕ) (old new : Scene) (count : ℕ)
+    (window : List ℕ) → Serving keeps takes taking limit old new count window → count ≡ limit → length window < 65536
+    → Serves reads takes keeps limit old new ended.Limit
+ends_limit reads takes taking keeps limit old new count window s reached few =
+    let left = some_left old.left new.left s.taken s.progress.took in
+    record {
+      streams = record {
+        bytes = left.0;
+        after = left.1;
+        taken = s.taken;
+        answers = s.answers;
+        rest = window;
+        left = left.2;
+        progress = s.progress;
+        later = s.later;
+        ends = (s.counted ∙ reached, few, s.written);
+      };
+      read = λ _ e. cc;
+      written = λ e. absurd cc;
+      available = s.settled;
+    }
+
+-- at the end of the source the cut is that of what was taken
+at_end : (keeps : Type 0) (takes taking : ℕ → Type 0) (limit : ℕ) (old new : Scene) (count : ℕ) (window : List ℕ)
+    (end : End) (s : Serving keeps takes taking limit old new count window) → count < limit → IsEnd window end
+    → AnswersAll limit old new s.taken s.taken s.answers window [] end
+at_end keeps takes taking limit old new count window end s below ends =
+    let whole : IsCut s.taken (requests s.answers) window end = record { begins = s.progress.begins; ends = ends } in
+    let counted = s.counted in
+    (subst (λ (r : List ℕ). IsCut s.taken (requests s.answers) r end) (sym (append-nil window)) whole, omega arith)
+
+-- the source ended
+pub ends_source : (reads : Type 0) (takes taking : ℕ → Type 0) (keeps : Type 0) (limit : ℕ) (old new : Scene)
+    (count : ℕ) (window : List ℕ) (end : Ended) → Serving keeps takes taking limit old new count window → count < limit
+    → IsOpen window → IsAtEnd new.left → IsEndOf window end → Serves reads takes keeps limit old new end
+ends_source reads takes taking keeps limit old new count window ended.Clean s below is_open end is = record {
+  streams = record {
+    bytes = s.taken;
+    after = [];
+    taken = s.taken;
+    answers = s.answers;
+    rest = window;
+    left = none_left old.left new.left s.taken s.progress.took end;
+    progress = s.progress;
+    later = s.later;
+    ends = (at_end keeps takes taking limit old new count window clean s below is, s.written);
+  };
+  read = λ _ e. cc;
+  written = λ e. absurd cc;
+  available = s.settled;
+}
+ends_source reads takes taking keeps limit old new count window (ended.Truncated size) s below is_open end is = record {
+  streams = record {
+    bytes = s.taken;
+    after = [];
+    taken = s.taken;
+    answers = s.answers;
+    rest = window;
+    left = none_left old.left new.left s.taken s.progress.took end;
+    progress = s.progress;
+    later = s.later;
+    ends = (
+      at_end keeps takes taking limit old new count window (truncated size) s below (is.0, is.1, is_open),
+      s.written,
+    );
+  };
+  read = λ _ e. cc;
+  written = λ e. absurd cc;
+  available = s.settled;
+}
+ends_source reads takes taking keeps limit old new count window ended.Limit s below is_open end is = absurd is
+ends_source reads takes taking keeps limit old new count window ended.BadHead s below is_open end is = absurd is
+ends_source reads takes taking keeps limit old new count window ended.Chunked s below is_open end is = absurd is
+ends_source reads takes taking keeps limit old new count window ended.BodyLong s below is_open end is = absurd is
+ends_source reads takes taking keeps limit old new count window ended.ReadFault s below is_open end is = absurd is
+ends_source reads takes taking keeps limit old new count window ended.WriteFault s below is_open end is = absurd is
+ends_source reads takes taking keeps limit old new count window ended.NoMemory s below is_open end is = absurd is
+
+-- a read failed
+ends_read_fault : (reads : Type 0) (takes taking : ℕ → Type 0) (keeps : Type 0) (limit : ℕ) (old new : Scene)
+    (count : ℕ) (window : List ℕ) → Serving keeps takes taking limit old new count window → count < limit
+    → IsOpen window → Rose old.read_faults new.read_faults → ¬ reads
+    → Serves reads takes keeps limit old new ended.ReadFault
+ends_read_fault reads takes taking keeps limit old new count window s below is_open rose unsteady =
+    let left = some_left old.left new.left s.taken s.progress.took in
+    let end = open_end window is_open in
+    let counted = s.counted in
+    record {
+      streams = record {
+        bytes = left.0;
+        after = left.1;
+        taken = s.taken;
+        answers = s.answers;
+        rest = window;
+        left = left.2;
+        progress = s.progress;
+        later = s.later;
+        ends = ((end.0, record { begins = s.progress.begins; ends = end.1 }), omega arith, s.written, rose);
+      };
+      read = λ is. absurd (unsteady is);
+      written = λ e. absurd cc;
+      available = s.settled;
+    }
+
+-- bytes that were taken may be lost where there was no memory
+pub ends_no_memory : (reads : Type 0) (takes taking : ℕ → Type 0) (keeps : Type 0) (limit : ℕ) (old mid new : Scene)
+    (count : ℕ) (window : List ℕ) → Serving keeps takes taking limit old mid count window → count < limit
+    → Loses mid.left new.left → Later mid new → new.written ≡ mid.written → new.tables ≡ mid.tables
+    → new.told ≡ mid.told → new.faults ≡ mid.faults → Serves reads takes keeps limit old new ended.NoMemory
+ends_no_memory reads takes taking keeps limit old mid new count window s below loses behind written tables told faults =
+    let later = Later-then old mid new s.later behind in
+    let progress = Progress-takes limit old mid new s.taken s.answers window loses.bytes s.progress loses.taken tables
+    told faults in
+    let left = some_left old.left new.left (s.taken ++ loses.bytes) progress.took in
+    let counted = s.counted in
+    record {
+      streams = record {
+        bytes = left.0;
+        after = left.1;
+        taken = s.taken ++ loses.bytes;
+        answers = s.answers;
+        rest = window ++ loses.bytes;
+        left = left.2;
+        progress = progress;
+        later = later;
+        ends = (omega arith, rw written s.written);
+      };
+      read = λ _ e. cc;
+      written = λ e. absurd cc;
+      available = s.settled;
+    }
+
+-- there was no memory to begin
+pub ends_at_once : (reads : Type 0) (takes : ℕ → Type 0) (keeps : Type 0) (limit : ℕ) (old : Scene) → 1 ≤ limit
+    → IfTold old.told old.tables → Serves reads takes keeps limit old old ended.NoMemory
+ends_at_once reads takes keeps limit old some told =
+    ends_no_memory reads takes takes keeps limit old old old 0 [] (Serving-none keeps takes limit old told) some
+    (record { bytes = []; taken = Consumes-none old.left })
+    (record { read_faults = omega arith; write_faults = omega arith; faults = omega arith }) refl refl refl refl
+
+-- no more could be taken
+pub ends_intake : (reads : Type 0) (takes taking : ℕ → Type 0) (keeps : Type 0) (limit : ℕ) (old mid new : Scene)
+    (count : ℕ) (window now : List ℕ) (fault : IntakeFault) → Serving keeps takes taking limit old mid count window
+    → count < limit → Fetches mid.left new.left window now (Err fault)
+    → (fault ≡ intake.Failed → Rose mid.read_faults new.read_faults) → (reads → ¬ (fault ≡ intake.Failed))
+    → Later mid new → new.written ≡ mid.written → new.write_faults ≡ mid.write_faults → new.tables ≡ mid.tables
+    → new.told ≡ mid.told → new.faults ≡ mid.faults → Serves reads takes keeps limit old new (fault_end fault)
+ends_intake reads takes taking keeps limit old mid new count window now intake.Failed s below fetched cause steady later
+    written write_faults tables told faults =
+    let serving = Serving-takes keeps takes taking limit old mid new count window now s fetched.0 later.read_faults
+    written write_faults tables told faults in
+    let before = s.later.read_faults in
+    let rose = cause refl in
+    ends_read_fault reads takes taking keeps limit old new count now serving below fetched.1 (omega arith)
+    (λ is. steady is refl)
+ends_intake reads takes taking keeps limit old mid new count window now intake.NoMemory s below fetched cause steady
+    later written write_faults tables told faults =
+    ends_no_memory reads takes taking keeps limit old mid new count window s below fetched later written tables told
+    faults
+
+-- a sink that has room for all texts and one more has room for that one behind them
+room_left : (keeps : Type 0) (takes taking : ℕ → Type 0) (limit : ℕ) (old mid : Scene) (count : ℕ)
+    (window text : List ℕ)
+    (s : Serving keeps takes taking limit old mid count window) → takes (length (texts s.answers ++ text))
+    → taking (length text)
+room_left keeps takes taking limit old mid count window text s room =
+    let size = length-append (texts s.answers) text in
+    let rest = s.room (length (texts s.answers ++ text)) room (omega arith) in
+    let same : length (texts s.answers ++ text) - length (texts s.answers) ≡ length text = omega arith in
+    subst taking same rest
+
+-- ---- a bad rest
+
+-- the bytes go on behind a bad rest
+bad_cut : (keeps : Type 0) (takes taking : ℕ → Type 0) (limit : ℕ) (old mid new : Scene) (count : ℕ)
+    (window bytes after : List ℕ) (kind : BadRest) (s : Serving keeps takes taking limit old mid count window)
+    → count < limit → IsBadRest window kind → bytes ≡ s.taken ++ after
+    → AnswersAll limit old new bytes s.taken s.answers window after (bad kind)
+bad_cut keeps takes taking limit old mid new count window bytes after kind s below wrong split =
+    let begins : Begins bytes (requests s.answers) (window ++ after) =
+    rw split (Begins-more s.taken (requests s.answers) window after s.progress.begins) in
+    let counted = s.counted in
+    (record { begins = begins; ends = IsBadRest-append window after kind wrong }, omega arith)
+
+-- its response is that of the whole rest
+rest_text : (window after : List ℕ) (kind : BadRest) (asks : Bool) → IsBadRest window kind
+    → (IsTrue asks ↔ AsksHead window)
+    → IsRestText (window ++ after) kind (refusal_text (refused_rest kind) true asks)
+rest_text window after kind asks wrong is = record {
+  asks_head = asks;
+  is_head =
+      let more = AsksHead-append window after kind wrong in
+      (λ yes. more.0 (is.0 yes), λ stands. is.1 (more.1 stands));
+  is = refl;
+}
+
+-- what the kinds of bad rests end with
+ends_badly : (limit : ℕ) (old new : Scene) (bytes taken : List ℕ) (answers : List Answered) (rest after : List ℕ)
+    (kind : BadRest) (text : List ℕ) → AnswersAll limit old new bytes taken answers rest after (bad kind)
+    → IsRestText (rest ++ after) kind text → Appends old.written new.written (texts answers ++ text)
+    → EndsStream limit old new bytes taken answers rest after (bad_end kind)
+ends_badly limit old new bytes taken answers rest after bad_rest.BadHead text all due written =
+    (all, (text, due, written))
+ends_badly limit old new bytes taken answers rest after bad_rest.Chunked text all due written =
+    (all, (text, due, written))
+ends_badly limit old new bytes taken answers rest after bad_rest.BodyLong text all due written =
+    (all, (text, due, written))
+
+no_fault : (kind : BadRest) → ¬ (bad_end kind ≡ ended.ReadFault) × ¬ (bad_end kind ≡ ended.WriteFault)
+no_fault bad_rest.BadHead = ((λ e. cc), λ e. cc)
+no_fault bad_rest.Chunked = ((λ e. cc), λ e. cc)
+no_fault bad_rest.BodyLong = ((λ e. cc), λ e. cc)
+
+-- a bad rest is refused, in full or in part
+pub ends_refused : (reads : Type 0) (takes taking : ℕ → Type 0) (keeps : Type 0) (limit : ℕ) (old mid new : Scene)
+    (count : ℕ) (window : List ℕ) (kind : BadRest) (asks : Bool) (end : Ended)
+    → Serving keeps takes taking limit old mid count window → count < limit → IsBadRest window kind
+    → (IsTrue asks ↔ AsksHead window)
+    → RefusesRest taking mid.written new.written mid.write_faults new.write_faults kind
+    (refusal_text (refused_rest kind) true asks) end
+    → new.left ≡ mid.left → new.read_faults ≡ mid.read_faults → new.tables ≡ mid.tables → new.told ≡ mid.told
+    → new.faults ≡ mid.faults → Serves reads takes keeps limit old new end
+ends_refused reads takes taking keeps limit old mid new count window kind asks end s below wrong is refuses same
+    read_faults tables told faults =
+    let text : List ℕ = refusal_text (refused_rest kind) true asks in
+    let left = some_left old.left mid.left s.taken s.progress.took in
+    let cut = bad_cut keeps takes taking limit old mid new count window left.0 left.1 kind s below wrong left.2.split in
+    let due = rest_text window left.1 kind asks wrong is in
+    let later : Later old new = record {
+      read_faults = rw read_faults s.later.read_faults;
+      write_faults = omega (arith, s.later.write_faults, refuses.later);
+      faults = rw faults s.later.faults;
+    } in
+    let progress : Progress limit old new s.taken s.answers window = record {
+      took = rw same s.progress.took;
+      begins = s.progress.begins;
+      served = s.progress.served;
+      tables = tables ∙ s.progress.tables;
+      told = rw (told, tables) s.progress.told;
+      failed = rw faults s.progress.failed;
+    } in
+    elim refuses.ends [
+      | inl all ↦
+          let apart = no_fault kind in
+          record {
+            streams = record {
+              bytes = left.0;
+              after = left.1;
+              taken = s.taken;
+              answers = s.answers;
+              rest = window;
+              left = rw same left.2;
+              progress = progress;
+              later = later;
+              ends = rw all.0 (ends_badly limit old new left.0 s.taken s.answers window left.1 kind text cut due
+                  (Appends-then old.written mid.written new.written (texts s.answers) text s.written all.1));
+            };
+            read = λ _ e. apart.0 (sym all.0 ∙ e);
+            written = λ e. absurd (apart.1 (sym all.0 ∙ e));
+            available = s.settled;
+          }
+      | inr part ↦
+          let front : Appends old.written new.written (texts s.answers ++ take part.1.0 text) =
+          Appends-then old.written mid.written new.written (texts s.answers) (take part.1.0 text) s.written part.1.2 in
+          let before = s.later.write_faults in
+          let rose = part.2 in
+          record {
+            streams = record {
+              bytes = left.0;
+              after = left.1;
+              taken = s.taken;
+              answers = s.answers;
+              rest = window;
+              left = rw same left.2;
+              progress = progress;
+              later = later;
+              ends = rw part.0 (
+                inr (
+                  kind,
+                  cut,
+                  record {
+                    text = text;
+                    due = due;
+                    count = part.1.0;
+                    part = part.1.1;
+                    written = front;
+                  },
+                ),
+                omega arith,
+              );
+            };
+            read = λ _ e. let apart = sym part.0 ∙ e in cc;
+            written = λ _. (
+              texts s.answers ++ text,
+              record {
+                bytes = left.0;
+                had = left.2.had;
+                answers = s.answers;
+                rest = window ++ left.1;
+                begins = cut.0.begins;
+                served = s.progress.served;
+                is = inr (kind, text, cut.0.ends, due, refl);
+              },
+              λ room. part.3 (room_left keeps takes taking limit old mid count window text s room),
+            );
+            available = s.settled;
+          }
+    ]
+
+-- ---- a response in part
+
+pub ends_write_fault : (reads : Type 0) (takes taking took : ℕ → Type 0) (keeps keeping : Type 0) (limit : ℕ)
+    (old mid new : Scene) (count : ℕ) (window : List ℕ) (request : WholeRequest) (behind text : List ℕ)
+    → Serving keeps takes taking limit old mid count window → count < limit
+    → BeginsRequest window request.0 request.1 behind
+    → IsAnswered keeping mid.tables (command_for request) ((count + 1) == limit) (asks_head request) new.tables text
+    mid.faults new.faults
+    → IfTold new.told new.tables → new.left ≡ mid.left → AppendsPart mid.written new.written text
+    → Rose mid.write_faults new.write_faults → ¬ (taking (length text)) → (keeps → keeping)
+    → new.read_faults ≡ mid.read_faults → mid.write_faults ≤ new.write_faults
+    → Serves reads takes keeps limit old new ended.WriteFault
+ends_write_fault reads takes taking took keeps keeping limit old mid new count window request behind text s below whole
+    h told same written rose full keeping_it read_faults write_faults =
+    let last : Answered = answered request h in
+    let answers : List Answered = s.answers ++ last ∷ [] in
+    let progress = Serving-weighs keeps takes taking limit old mid new count window request behind text keeping s
+    whole h told same in
+    let left = some_left old.left new.left s.taken progress.took in
+    let before = s.later.write_faults in
+    let size : length answers ≤ limit = omega (arith, s.counted, length-append s.answers (last ∷ [])) in
+    let all : Begins left.0 (requests answers) (behind ++ left.1) =
+    rw left.2.split (Begins-more s.taken (requests answers) behind left.1 progress.begins) in
+    record {
+      streams = record {
+        bytes = left.0;
+        after = left.1;
+        taken = s.taken;
+        answers = answers;
+        rest = behind;
+        left = left.2;
+        progress = progress;
+        later = record {
+          read_faults = rw read_faults s.later.read_faults;
+          write_faults = omega arith;
+          faults = omega (arith, s.later.faults, h.later);
+        };
+        ends = (
+          inl (
+            record {
+              front = s.answers;
+              last = last;
+              are = refl;
+              count = written.0;
+              part = written.1;
+              written = Appends-then old.written mid.written new.written (texts s.answers) (take written.0 text)
+                  s.written written.2;
+            },
+            size,
+          ),
+          omega arith,
+        );
+      };
+      read = λ _ e. cc;
+      written = λ _. (
+        texts answers,
+        record {
+          bytes = left.0;
+          had = left.2.had;
+          answers = answers;
+          rest = behind ++ left.1;
+          begins = all;
+          served = progress.served;
+          is = inl refl;
+        },
+        λ room. full (room_left keeps takes taking limit old mid count window text s
+            (subst (λ (t : List ℕ). takes (length t)) (texts-push s.answers last) room)),
+      );
+      available = λ is. rw (failures-push s.answers last, s.settled is, h.settled (keeping_it is)) refl;
+    }
+
+-- ---- steady devices
+
+-- over devices that do not fail no fault comes
+pub faultless : (reads : Type 0) (takes : ℕ → Type 0) (keeps : Type 0) (limit : ℕ) (old new : Scene) (end : Ended)
+    → Serves reads takes keeps limit old new end → reads → keeps → TakesText takes limit old
+    → IsFaultless limit old new end
+faultless reads takes keeps limit old new end s steady settled room = record {
+  streams = s.streams;
+  available = s.available settled;
+  read = s.read steady;
+  written = λ e. let full = s.written e in full.2 (room full.0 full.1);
+}

@@ -1,0 +1,10 @@
+pub mod Alike
+pub mod Cutting
+pub mod Declining
+pub mod Ends
+pub mod Lengths
+pub mod Numbered
+pub mod Progress
+pub mod Sheets
+pub mod Taking
+pub mod Underway

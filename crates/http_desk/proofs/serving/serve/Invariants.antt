@@ -1,0 +1,21 @@
+use Rattle.std.proofs.Common.{◌-◌, ◌<◌, ◌≤◌, length}
+use Rattle.http_desk.specs.Scenes.{scene}
+use Rattle.http_desk.proofs.Underway.{Serving}
+use Rattle.http_desk.proofs.serving.serve.Given as goal
+
+abbrev pub invariant-requests : goal.invariant-requests
+invariant-requests g l =
+    let at = scene g.S.Source.left g.S.Source.read_faults g.W.Sink.written g.W.Sink.write_faults g.M.Machine.rows
+    g.K.Keeper.tables g.K.Keeper.faults in
+    record {
+      serving : Serving (g.K.Keeper.is_steady l.fn.keeper) (g.W.Sink.takes l.fn.sink) (g.W.Sink.takes l.sink) l.limit
+          (at l.fn.source l.fn.sink l.fn.machine l.fn.keeper) (at l.source l.sink l.machine l.keeper) l.answered
+          l.window;
+      reads : g.S.Source.is_steady l.fn.source → g.S.Source.is_steady l.source;
+      keeps : g.K.Keeper.is_steady l.fn.keeper → g.K.Keeper.is_steady l.keeper;
+      within : l.answered ≤ l.limit;
+      few : length l.window < 65536;
+    }
+
+abbrev pub decreases-requests : goal.decreases-requests
+decreases-requests g l = l.limit - l.answered

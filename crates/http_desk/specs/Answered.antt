@@ -1,0 +1,145 @@
+-- Requests that were answered, one after another: what became of each, and what was written.
+use Rattle.std.specs.Prelude.{◌≡◌, ◌≢◌, ℕ, ◌+◌, ◌-◌, ◌^◌, ◌≤◌, ◌==◌, min, Bool, List, [], ◌∷◌, map, codes, Option}
+use Rattle.std.specs.Prelude.{Result, Ok, Err, OnOk, OnErr, length, ⊤}
+use Rattle.std.specs.Io.KnownBytes.{Appends}
+use Rattle.std.specs.List.{flat_map, sum_by}
+use Rattle.std.specs.Str.{bytes_eq}
+use Rattle.desk_base.specs.declared.error.Failed.{Failed}
+use Rattle.desk_base.specs.Faults.{AppendsPart}
+use Rattle.http_cut.specs.Cut.{WholeRequest}
+use Rattle.desk_words.specs.declared.change.Change.{Change}
+use Rattle.desk_words.specs.declared.command.Command.{Command}
+use Rattle.desk_words.specs.declared.reply.Reply.{Reply}
+use Rattle.desk_words.specs.Changes.{changed_all}
+use Rattle.desk_words.specs.Tables.{Rows}
+use Rattle.machine_core.specs.Machine.{IsStep}
+use Rattle.http_desk.specs.declared.declined.Declined.{Declined}
+use Rattle.http_desk.specs.declared.refusal.Refused.TheVariants as refused
+use Rattle.http_desk.specs.declared.text.Text.{Text}
+use Rattle.http_desk.specs.declared.text.Text.TheVariants.{Made, Fixed}
+use Rattle.http_desk.specs.Checked.{Checked}
+use Rattle.http_desk.specs.Commands.{command_for}
+use Rattle.http_desk.specs.Refusals.{refusal_text}
+use Rattle.http_desk.specs.Replies.{declined_text, reply_text}
+
+-- ---- one request
+
+-- the method is HEAD
+abbrev pub asks_head : WholeRequest → Bool
+asks_head request = bytes_eq request.0.method (codes "HEAD")
+
+-- the machine's step over these tables for what is asked
+pub record IsAsked (before : Rows) (asks : Checked Command) (reply : Reply) (changes : List Change) : Type 0 where
+  pub command : Command
+  pub is : asks ≡ Ok command
+  pub step : IsStep before command reply changes
+
+-- what became of a request: it was answered before the machine, the machine replied and its changes were kept, the
+-- keeper failed, or there was no memory
+pub data Outcome : Type 0 where
+  Declines : (why : Declined) → Outcome
+  Replied : (reply : Reply) (changes : List Change) → Outcome
+  Unavailable : Outcome
+  NoMemory : Outcome
+
+-- what a request asks may be answered so over these tables, which leaves these tables and this text. Where the keeper
+-- failed, something was to be changed. The text says whether the stream is closed behind it, and has no body to HEAD
+abbrev pub Answers : Rows → Checked Command → Bool → Bool → Outcome → Rows → List ℕ → Type 0
+Answers before asks closing asks_head (Declines why) after text =
+    (asks ≡ Err why) × (after ≡ before) × (text ≡ declined_text why closing asks_head)
+Answers before asks closing asks_head (Replied reply changes) after text =
+    IsAsked before asks reply changes × (after ≡ changed_all before changes)
+    × (text ≡ reply_text reply closing asks_head)
+Answers before asks closing asks_head Unavailable after text =
+    ((reply : Reply) × (changes : List Change) × IsAsked before asks reply changes × (changes ≢ []))
+    × (after ≡ before) × (text ≡ refusal_text refused.Unavailable closing asks_head)
+Answers before asks closing asks_head NoMemory after text =
+    (after ≡ before) × (text ≡ refusal_text refused.NoMemory closing asks_head)
+
+-- how often the keeper failed
+abbrev pub failure : Outcome → ℕ
+failure (Declines why) = 0
+failure (Replied reply changes) = 0
+failure Unavailable = 1
+failure NoMemory = 0
+
+-- the count of faults rose by so many at least, or it stands at its last value
+abbrev pub RoseBy : ℕ → ℕ → ℕ → Type 0
+RoseBy count before now = min (before + count) (2 ^ 64 - 1) ≤ now
+
+-- what a request asks was answered, over a keeper that does not fail where it is steady
+pub record IsAnswered (steady : Type 0) (before : Rows) (asks : Checked Command) (closing asks_head : Bool)
+    (after : Rows) (text : List ℕ) (faults now : ℕ) : Type 0 where
+  pub outcome : Outcome
+  pub answers : Answers before asks closing asks_head outcome after text
+  pub failed : RoseBy (failure outcome) faults now
+  pub later : faults ≤ now
+  pub settled : steady → failure outcome ≡ 0
+
+-- the bytes of a text
+abbrev pub text_bytes : Text → List ℕ
+text_bytes (Made bytes) = bytes.items
+text_bytes (Fixed text) = text.now
+
+-- a sink that took so many bytes takes the rest of its room still
+abbrev pub TakesRest : (ℕ → Type 0) → (ℕ → Type 0) → ℕ → Type 0
+TakesRest old new count = (room : ℕ) → old room → count ≤ room → new (room - count)
+
+-- a request was answered and its text written, or a part of it where the sink failed, which had no room for all of it
+pub record Responds (steady : Type 0) (takes taking : ℕ → Type 0) (before : Rows) (closing : Bool)
+    (request : WholeRequest) (after : Rows) (faults now : ℕ) (old new : Option (List ℕ))
+    (result : Result (Unit {0}) Failed) : Type 0 where
+  pub text : List ℕ
+  pub answered : IsAnswered steady before (command_for request) closing (asks_head request) after text faults now
+  pub written : OnOk result (Appends old new text)
+  pub part : OnErr result (AppendsPart old new text)
+  pub full : OnErr result (¬ (takes (length text)))
+  pub room : OnOk result (TakesRest takes taking (length text))
+
+-- ---- many requests
+
+-- a request that was answered: what became of it, the tables after it, and what was to be written
+pub record Answered : Type 0 where
+  pub request : WholeRequest
+  pub outcome : Outcome
+  pub tables : Rows
+  pub text : List ℕ
+
+-- it was answered so over these tables; closing says whether the stream is closed behind it
+abbrev pub IsServed : Rows → Bool → Answered → Type 0
+IsServed before closing a =
+    Answers before (command_for a.request) closing (asks_head a.request) a.outcome a.tables a.text
+
+-- so many were answered before, and then these, from these tables on. The one that reaches the limit is the last
+abbrev pub Served : ℕ → ℕ → Rows → List Answered → Type 0
+Served limit count before [] = ⊤
+Served limit count before (a ∷ answers) =
+    IsServed before ((count + 1) == limit) a × Served limit (count + 1) a.tables answers
+
+-- the requests
+abbrev pub requests : List Answered → List WholeRequest
+requests answers = map (λ a. a.request) answers
+
+-- the texts, one behind another
+abbrev pub texts : List Answered → List ℕ
+texts answers = flat_map (λ a. a.text) answers
+
+-- the tables after the last of them
+abbrev pub last_tables : Rows → List Answered → Rows
+last_tables tables [] = tables
+last_tables tables (a ∷ answers) = last_tables a.tables answers
+
+-- how many answers say that the keeper failed
+abbrev pub failures : List Answered → ℕ
+failures answers = sum_by (λ a. failure a.outcome) answers
+
+-- no answer is for a failure of the keeper or want of memory
+abbrev pub IsDue : Outcome → Type 0
+IsDue (Declines why) = ⊤
+IsDue (Replied reply changes) = ⊤
+IsDue Unavailable = ⊥
+IsDue NoMemory = ⊥
+
+abbrev pub AreDue : List Answered → Type 0
+AreDue [] = ⊤
+AreDue (a ∷ answers) = IsDue a.outcome × AreDue answers

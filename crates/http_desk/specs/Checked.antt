@@ -1,0 +1,43 @@
+-- A value, or the first test before the machine that a request fails.
+use Rattle.std.specs.Prelude.{◌≡◌, ◌≢◌, Option, Some, None, Result, Ok, Err}
+use Rattle.desk_json.specs.declared.fault.JsonFault.{JsonFault}
+use Rattle.desk_json.specs.declared.fault.JsonFault.TheVariants as fault
+use Rattle.http_desk.specs.declared.declined.Declined.{Declined}
+use Rattle.http_desk.specs.declared.declined.Declined.TheVariants.{Refused, BadBody}
+use Rattle.http_desk.specs.declared.refusal.Refused.{Refused as RefusedBy}
+use Rattle.http_desk.specs.declared.refusal.Refused.TheVariants.{NoRoute, NoMemory}
+
+-- a value, or why the request is answered without the machine
+abbrev pub Checked : Type 0 → Type 0
+Checked A = Result A Declined
+
+infixl 10 ◌>>=◌
+-- what comes of a value, where the tests before it pass
+abbrev pub ◌>>=◌ : {A B : Type 0} → Checked A → (A → Checked B) → Checked B
+Ok value >>= next = next value
+Err why >>= next = Err why
+
+-- refused by a test of the head
+abbrev pub or_refused : {A : Type 0} → Result A RefusedBy → Checked A
+or_refused (Ok value) = Ok value
+or_refused (Err refusal) = Err (Refused refusal)
+
+-- without a route, where there is none
+abbrev pub or_no_route : {A : Type 0} → Option A → Checked A
+or_no_route (Some found) = Ok found
+or_no_route None = Err (Refused NoRoute)
+
+-- declined for a fault of the body
+abbrev pub or_bad_body : {A : Type 0} → Result A JsonFault → Checked A
+or_bad_body (Ok value) = Ok value
+or_bad_body (Err fault) = Err (BadBody fault)
+
+-- why a fault of the body declines a request: want of memory is no fault of the body
+abbrev pub declined_for : JsonFault → Declined
+declined_for fault.NoMemory = Refused NoMemory
+declined_for other = BadBody other
+
+-- what is answered is the value, or the first test that fails, or that there was no memory
+abbrev pub Finds : {A : Type 0} → Result A Declined → Checked A → Type 0
+Finds (Ok value) checked = checked ≡ Ok value
+Finds (Err why) checked = why ≢ Refused NoMemory → checked ≡ Err why

@@ -1,0 +1,9 @@
+pub mod Answered
+pub mod Checked
+pub mod Commands
+pub mod Parameters
+pub mod Refusals
+pub mod Replies
+pub mod Responses
+pub mod Scenes
+pub mod Streams

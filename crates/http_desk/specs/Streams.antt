@@ -1,0 +1,183 @@
+-- What serving a stream leaves, by how it ends.
+use Rattle.std.specs.Prelude.{◌≡◌, ◌≢◌, ◌↔◌, ◌⊎◌, ℕ, ◌<◌, ◌≤◌, IsTrue, Bool, true, List, [], ◌∷◌, ◌++◌, length, take}
+use Rattle.std.specs.Prelude.{Option, Some, None, ⊤}
+use Rattle.std.specs.Io.KnownBytes.{Appends, Consumes}
+use Rattle.desk_base.specs.Faults.{AppendsPart, Rose}
+use Rattle.keeper_core.specs.Keeping.{IfTold}
+use Rattle.http_cut.specs.declared.intake.IntakeFault.{IntakeFault}
+use Rattle.http_cut.specs.declared.intake.IntakeFault.TheVariants as intake
+use Rattle.http_cut.specs.declared.step.BadRest.{BadRest}
+use Rattle.http_cut.specs.declared.step.BadRest.TheVariants as bad_rest
+use Rattle.http_cut.specs.Cut.{Begins, End, clean, bad, truncated, IsBadRest, IsCut}
+use Rattle.http_cut.specs.Head.{AsksHead}
+use Rattle.http_desk.specs.declared.serving.Ended.{Ended}
+use Rattle.http_desk.specs.declared.serving.Ended.TheVariants as ended
+use Rattle.http_desk.specs.Answered.{Answered, Served, requests, texts, last_tables, failures, RoseBy}
+use Rattle.http_desk.specs.Refusals.{refused_rest, refusal_text}
+use Rattle.http_desk.specs.Scenes.{Scene, Later}
+
+-- these bytes were taken, and these requests at their front answered, up to a rest
+pub record Progress (limit : ℕ) (old new : Scene) (taken : List ℕ) (answers : List Answered) (rest : List ℕ) : Type 0
+  where
+    pub took : Consumes old.left new.left taken
+    pub begins : Begins taken (requests answers) rest
+    pub served : Served limit 0 old.tables answers
+    pub tables : new.tables ≡ last_tables old.tables answers
+    pub told : IfTold new.told new.tables
+    pub failed : RoseBy (failures answers) old.faults new.faults
+
+-- the source had these bytes left, where it told them
+abbrev pub IfShown : Option (List ℕ) → List ℕ → Type 0
+IfShown None bytes = ⊤
+IfShown (Some told) bytes = told ≡ bytes
+
+-- what the source had left and has left, where it tells it, and what was taken
+pub record Left (old new : Option (List ℕ)) (taken bytes after : List ℕ) : Type 0 where
+  pub had : IfShown old bytes
+  pub has : IfShown new after
+  pub split : bytes ≡ taken ++ after
+
+-- the response to a bad rest of a stream, which it closes
+pub record IsRestText (bytes : List ℕ) (kind : BadRest) (text : List ℕ) : Type 0 where
+  pub asks_head : Bool
+  pub is_head : IsTrue asks_head ↔ AsksHead bytes
+  pub is : text ≡ refusal_text (refused_rest kind) true asks_head
+
+-- the last text was written in part, and those before it in full
+pub record CutsText (old new : Option (List ℕ)) (answers : List Answered) : Type 0 where
+  pub front : List Answered
+  pub last : Answered
+  pub are : answers ≡ front ++ last ∷ []
+  pub count : ℕ
+  pub part : count < length last.text
+  pub written : Appends old new (texts front ++ take count last.text)
+
+-- all texts were written, and the response to a bad rest in part
+pub record CutsEnd (old new : Option (List ℕ)) (answers : List Answered) (bytes : List ℕ) (kind : BadRest) : Type 0
+  where
+    pub text : List ℕ
+    pub due : IsRestText bytes kind text
+    pub count : ℕ
+    pub part : count < length text
+    pub written : Appends old new (texts answers ++ take count text)
+
+-- the end of a stream of these bytes, of which these were taken, up to a rest behind the answered requests
+module _ (limit : ℕ) (old new : Scene) (bytes taken : List ℕ) (answers : List Answered) (rest after : List ℕ) where
+  -- all requests were answered, which are fewer than the limit, and the stream ends so
+  abbrev pub AnswersAll : End → Type 0
+  AnswersAll end = IsCut bytes (requests answers) (rest ++ after) end × (length answers < limit)
+
+  -- all texts were written
+  abbrev pub WritesAll : Type 0
+  WritesAll = Appends old.written new.written (texts answers)
+
+  -- all texts were written, and then the response to a bad rest
+  abbrev pub EndsBadly : BadRest → Type 0
+  EndsBadly kind = AnswersAll (bad kind) × ((text : List ℕ) × IsRestText (rest ++ after) kind text
+      × Appends old.written new.written (texts answers ++ text))
+
+  -- a text was written in part: the last response to a request, or the response to a bad rest
+  abbrev pub CutsWriting : Type 0
+  CutsWriting = (CutsText old.written new.written answers × (length answers ≤ limit))
+      ⊎ ((kind : BadRest) × AnswersAll (bad kind) × CutsEnd old.written new.written answers (rest ++ after) kind)
+
+  abbrev pub EndsStream : Ended → Type 0
+  EndsStream ended.Clean = AnswersAll clean × WritesAll
+  EndsStream ended.Limit = (length answers ≡ limit) × (length rest < 65536) × WritesAll
+  EndsStream ended.BadHead = EndsBadly bad_rest.BadHead
+  EndsStream ended.Chunked = EndsBadly bad_rest.Chunked
+  EndsStream ended.BodyLong = EndsBadly bad_rest.BodyLong
+  EndsStream (ended.Truncated count) = AnswersAll (truncated count) × WritesAll
+  EndsStream ended.ReadFault =
+      ((end : End) × IsCut taken (requests answers) rest end) × (length answers < limit) × WritesAll
+      × Rose old.read_faults new.read_faults
+  EndsStream ended.WriteFault = CutsWriting × Rose old.write_faults new.write_faults
+  EndsStream ended.NoMemory = (length answers < limit) × WritesAll
+
+-- what serving a stream leaves that ends so
+pub record Streams (limit : ℕ) (old new : Scene) (end : Ended) : Type 0 where
+  pub bytes : List ℕ
+  pub after : List ℕ
+  pub taken : List ℕ
+  pub answers : List Answered
+  pub rest : List ℕ
+  pub left : Left old.left new.left taken bytes after
+  pub progress : Progress limit old new taken answers rest
+  pub later : Later old new
+  pub ends : EndsStream limit old new bytes taken answers rest after end
+
+-- ---- steady devices
+
+-- all texts, and then the response to a bad rest
+abbrev pub EndsWithRest : List Answered → List ℕ → List ℕ → Type 0
+EndsWithRest answers rest text =
+    (kind : BadRest) × (due : List ℕ) × IsBadRest rest kind × IsRestText rest kind due × (text ≡ texts answers ++ due)
+
+-- a text that may be due of a stream: the responses to requests at its front, and maybe the one to its bad rest
+pub record MayBeDue (limit : ℕ) (old : Scene) (text : List ℕ) : Type 0 where
+  pub bytes : List ℕ
+  pub had : IfShown old.left bytes
+  pub answers : List Answered
+  pub rest : List ℕ
+  pub begins : Begins bytes (requests answers) rest
+  pub served : Served limit 0 old.tables answers
+  pub is : (text ≡ texts answers) ⊎ EndsWithRest answers rest text
+
+-- a sink that takes so many bytes takes whatever text may be due
+abbrev pub TakesText : (ℕ → Type 0) → ℕ → Scene → Type 0
+TakesText takes limit old = (text : List ℕ) → MayBeDue limit old text → takes (length text)
+
+-- what serving a stream leaves, over a source that is read without fail, a sink that takes so many bytes, and a keeper
+-- that keeps without fail, where they promise it: no end is a fault, and no answer says that the keeper failed
+pub record Serves (reads : Type 0) (takes : ℕ → Type 0) (keeps : Type 0) (limit : ℕ) (old new : Scene) (end : Ended)
+    : Type 0 where
+  pub streams : Streams limit old new end
+  pub read : reads → end ≢ ended.ReadFault
+  pub written : end ≡ ended.WriteFault → (text : List ℕ) × MayBeDue limit old text × ¬ (takes (length text))
+  pub available : keeps → failures streams.answers ≡ 0
+
+-- no end is a fault, and no answer says that the keeper failed
+pub record IsFaultless (limit : ℕ) (old new : Scene) (end : Ended) : Type 0 where
+  pub streams : Streams limit old new end
+  pub available : failures streams.answers ≡ 0
+  pub read : end ≢ ended.ReadFault
+  pub written : end ≢ ended.WriteFault
+
+-- ---- ends
+
+-- the stream ended with its bytes or at the limit, and not for a fault or want of memory
+abbrev pub IsOwnEnd : Ended → Type 0
+IsOwnEnd ended.Clean = ⊤
+IsOwnEnd ended.Limit = ⊤
+IsOwnEnd ended.BadHead = ⊤
+IsOwnEnd ended.Chunked = ⊤
+IsOwnEnd ended.BodyLong = ⊤
+IsOwnEnd (ended.Truncated count) = ⊤
+IsOwnEnd ended.ReadFault = ⊥
+IsOwnEnd ended.WriteFault = ⊥
+IsOwnEnd ended.NoMemory = ⊥
+
+-- the bytes behind the last request, of which none may become bad, say how the stream ends
+abbrev pub IsEndOf : List ℕ → Ended → Type 0
+IsEndOf rest ended.Clean = rest ≡ []
+IsEndOf rest (ended.Truncated count) = (rest ≢ []) × (count ≡ length rest)
+IsEndOf rest _ = ⊥
+
+-- how a stream ends with a bad rest
+abbrev pub bad_end : BadRest → Ended
+bad_end bad_rest.BadHead = ended.BadHead
+bad_end bad_rest.Chunked = ended.Chunked
+bad_end bad_rest.BodyLong = ended.BodyLong
+
+-- how a stream ends of which no more could be taken
+abbrev pub fault_end : IntakeFault → Ended
+fault_end intake.Failed = ended.ReadFault
+fault_end intake.NoMemory = ended.NoMemory
+
+-- the response to a bad rest ends the stream: it was written, or a part of it where the sink failed, which had no room
+-- for all of it
+pub record RefusesRest (takes : ℕ → Type 0) (old new : Option (List ℕ)) (faults now : ℕ) (kind : BadRest)
+    (text : List ℕ) (end : Ended) : Type 0 where
+  pub later : faults ≤ now
+  pub ends : ((end ≡ bad_end kind) × Appends old new text)
+      ⊎ ((end ≡ ended.WriteFault) × AppendsPart old new text × Rose faults now × ¬ (takes (length text)))

@@ -1,0 +1,49 @@
+//! The command that a whole request is.
+ghost use Rattle.std.specs.Prelude.{IfOk};
+ghost use Rattle.httparse.specs.Grammar.{RequestHead};
+ghost use Rattle.httparse.specs.Spans.{span_bytes};
+ghost use Rattle.http_cut.specs.Looks.{ShowsRequest};
+ghost use Rattle.machine_core.specs.Ticket.{IsNumbered};
+ghost use Rattle.http_desk.specs.Checked.{Finds};
+ghost use Rattle.http_desk.specs.Commands.{command_at, command_for};
+
+use crate::asking::asked;
+use crate::declined::Declined;
+use crate::digest::digest_of;
+use crate::parameters::route_in;
+use desk_json::command_of;
+use desk_words::{Command, Digest};
+use http_cut::{Request, RouteMatch, Routes};
+use std::alloc::Global;
+
+/// The command that a whole request is, or the first test before the machine that it fails.
+pub fn command_for(
+    alloc: Global,
+    routes: &Routes,
+    bytes: &[u8],
+    request: &Request,
+) -> Result<Command, Declined>
+    requires { (head : RequestHead) × ShowsRequest bytes.now request.now head }
+    ensures command { (head : RequestHead) → ShowsRequest bytes.now request.now head
+        → Finds result (command_for (head, span_bytes bytes.now request.now.body)) }
+    ensures numbered { IfOk result (λ command. IsNumbered command) }
+{
+    let found = asked(routes, bytes, request)?;
+    let target = request.target.of(bytes);
+    let body = request.body.of(bytes);
+    command_at(alloc, &found, digest_of(target, body), body)
+}
+
+/// The command of a target that matched a pattern.
+fn command_at(
+    alloc: Global,
+    found: &RouteMatch<'_, '_>,
+    digest: Digest,
+    body: &[u8],
+) -> Result<Command, Declined>
+    ensures command { Finds result (command_at found.now digest body.now) }
+    ensures numbered { IfOk result (λ command. IsNumbered command) }
+{
+    let route = route_in(alloc, found)?;
+    Ok(command_of(alloc, &route, digest, body)?)
+}

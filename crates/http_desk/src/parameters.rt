@@ -1,0 +1,141 @@
+//! The parameters of a target, and its route with them.
+ghost use Rattle.std.specs.Prelude.{◌≤◌, ◌<◌, ◌^◌, IfOk};
+ghost use Rattle.http_desk.specs.Checked.{Finds};
+ghost use Rattle.http_desk.specs.Parameters.{number_at, route_in, text_at, write_in};
+
+use crate::declined::Declined;
+use crate::refusal::Refused;
+use desk_base::Str;
+use desk_json::Route;
+use http_cut::{Route as Target, RouteMatch, positive};
+use std::alloc::Global;
+
+/// The most digits of the number of a write.
+const WRITE_DIGITS: usize = 12;
+
+/// The most digits of a version, and of the number of a session.
+const NUMBER_DIGITS: usize = 9;
+
+/// The route that a target asks for, with its parameters.
+pub fn route_in(alloc: Global, found: &RouteMatch<'_, '_>) -> Result<Route, Declined>
+    ensures { Finds result (route_in found.now.0 found.now.1) }
+{
+    match found.route() {
+        Target::AddClerk => Ok(Route::AddClerk {
+            n: write_in(found)?,
+        }),
+        Target::AddSchema => Ok(Route::AddSchema {
+            n: write_in(found)?,
+        }),
+        Target::AddMaster => Ok(Route::AddMaster {
+            n: write_in(found)?,
+            name: text_at(alloc, found, "name")?,
+        }),
+        Target::AddRulebook => Ok(Route::AddRulebook {
+            n: write_in(found)?,
+            name: text_at(alloc, found, "name")?,
+            schema: text_at(alloc, found, "schema")?,
+            version: number_at(found, "version")?,
+        }),
+        Target::AddEdition => Ok(Route::AddEdition {
+            n: write_in(found)?,
+            name: text_at(alloc, found, "name")?,
+        }),
+        Target::AddRegion => Ok(Route::AddRegion {
+            n: write_in(found)?,
+            edition: text_at(alloc, found, "edition")?,
+            version: number_at(found, "version")?,
+        }),
+        Target::Enter => Ok(Route::Enter {
+            clerk: text_at(alloc, found, "clerk")?,
+            n: write_in(found)?,
+            edition: text_at(alloc, found, "edition")?,
+        }),
+        Target::Confirm => Ok(Route::Confirm {
+            clerk: text_at(alloc, found, "clerk")?,
+            n: write_in(found)?,
+            session: number_at(found, "session")?,
+        }),
+        Target::Withdraw => Ok(Route::Withdraw {
+            clerk: text_at(alloc, found, "clerk")?,
+            n: write_in(found)?,
+            session: number_at(found, "session")?,
+        }),
+        Target::Commit => Ok(Route::Commit {
+            clerk: text_at(alloc, found, "clerk")?,
+            n: write_in(found)?,
+            session: number_at(found, "session")?,
+        }),
+        Target::Abandon => Ok(Route::Abandon {
+            clerk: text_at(alloc, found, "clerk")?,
+            n: write_in(found)?,
+            session: number_at(found, "session")?,
+        }),
+        Target::Batch => Ok(Route::Batch {
+            clerk: text_at(alloc, found, "clerk")?,
+            n: write_in(found)?,
+            edition: text_at(alloc, found, "edition")?,
+        }),
+        Target::View => Ok(Route::View {
+            clerk: text_at(alloc, found, "clerk")?,
+            session: number_at(found, "session")?,
+        }),
+        Target::Suggest => Ok(Route::Suggest {
+            clerk: text_at(alloc, found, "clerk")?,
+            session: number_at(found, "session")?,
+        }),
+        Target::Preview => Ok(Route::Preview {
+            clerk: text_at(alloc, found, "clerk")?,
+            session: number_at(found, "session")?,
+        }),
+        Target::Report => Ok(Route::Report {
+            clerk: text_at(alloc, found, "clerk")?,
+        }),
+        Target::Records => Ok(Route::Records {
+            clerk: text_at(alloc, found, "clerk")?,
+            edition: text_at(alloc, found, "edition")?,
+            version: number_at(found, "version")?,
+        }),
+        Target::DeskReport => Ok(Route::DeskReport),
+    }
+}
+
+/// The text at a parameter.
+fn text_at(alloc: Global, found: &RouteMatch<'_, '_>, name: &str) -> Result<Str, Declined>
+    ensures { Finds result (text_at name.now found.now.1) }
+{
+    match found.text(name) {
+        Some(text) => Ok(Str::new(alloc, text)?),
+        None => Err(Declined::Refused(Refused::NoRoute)),
+    }
+}
+
+/// The number of a write among its caller's.
+fn write_in(found: &RouteMatch<'_, '_>) -> Result<u64, Declined>
+    ensures { Finds result (write_in found.now.1) }
+{
+    digits_at(found, "n", WRITE_DIGITS)
+}
+
+/// The version or the number of a session at a parameter.
+fn number_at(found: &RouteMatch<'_, '_>, name: &str) -> Result<u32, Declined>
+    ensures { Finds result (number_at 9 name.now found.now.1) }
+{
+    let number = digits_at(found, name, NUMBER_DIGITS)?;
+    Ok(number as u32)
+}
+
+/// The number of at most so many digits at a parameter.
+fn digits_at(found: &RouteMatch<'_, '_>, name: &str, most: usize) -> Result<u64, Declined>
+    requires { most ≤ 19 }
+    ensures number { Finds result (number_at most name.now found.now.1) }
+    ensures few { IfOk result (λ number. number < 10 ^ most) }
+{
+    let Some(text) = found.text(name) else {
+        return Err(Declined::Refused(Refused::NoRoute));
+    };
+    match positive(text.as_bytes(), most) {
+        Some(number) => Ok(number),
+        None => Err(Declined::Refused(Refused::NoRoute)),
+    }
+}

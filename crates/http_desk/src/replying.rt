@@ -1,0 +1,137 @@
+//! The responses to the machine's replies, and to what is declined before it.
+ghost use Rattle.std.specs.Prelude.{◌≡◌, ◌≢◌, ◌⊎◌, IfOk};
+ghost use Rattle.serde_json.specs.Written.{compact_text};
+ghost use Rattle.desk_words.specs.declared.refusal.Refusal.TheVariants as refusal;
+ghost use Rattle.desk_words.specs.declared.reply.Reply.TheVariants as reply_variants;
+ghost use Rattle.desk_words.specs.declared.report.RecordSheet.{RecordSheet};
+ghost use Rattle.desk_sheets.specs.Records.{IsFull};
+ghost use Rattle.http_desk.specs.declared.refusal.Refused.TheVariants as refused;
+ghost use Rattle.http_desk.specs.Answered.{text_bytes};
+ghost use Rattle.http_desk.specs.Refusals.{refusal_text};
+ghost use Rattle.http_desk.specs.Replies.{declined_text, refusal_status, reply_body, reply_status, reply_text};
+ghost use Rattle.http_desk.specs.Replies.{reply_type};
+
+use crate::declined::Declined;
+use crate::refusal::Refused;
+use crate::responses::response;
+use crate::status::{ContentType, Status};
+use crate::text::Text;
+use desk_base::{List, NoMemory};
+use desk_json::{JsonFault, fault_text, text_of};
+use desk_sheets::{records_text, report_text};
+use desk_words::{Refusal, Reply};
+use std::alloc::Global;
+
+/// The response to a request that the machine replies to. A reply that there was no memory is want of memory here.
+pub fn reply_text(
+    alloc: Global,
+    reply: &Reply,
+    closing: bool,
+    asks_head: bool,
+) -> Result<Vec<u8>, NoMemory>
+    requires { (sheet : RecordSheet) → reply.now ≡ reply_variants.Records sheet → IsFull sheet }
+    ensures text { IfOk result (λ text. text.items ≡ reply_text reply.now closing asks_head) }
+    ensures weighed { IfOk result (λ _. reply.now ≢ reply_variants.Refused refusal.NoMemory) }
+{
+    if let Reply::Refused(Refusal::NoMemory) = reply {
+        return Err(NoMemory);
+    }
+    let body = reply_body(alloc, reply)?;
+    response(
+        alloc,
+        reply_status(reply),
+        reply_type(reply),
+        body.as_slice(),
+        closing,
+        asks_head,
+    )
+}
+
+/// The body of a reply.
+fn reply_body(alloc: Global, reply: &Reply) -> Result<List<u8>, NoMemory>
+    requires { (sheet : RecordSheet) → reply.now ≡ reply_variants.Records sheet → IsFull sheet }
+    ensures { IfOk result (λ text. text ≡ reply_body reply.now) }
+{
+    match reply {
+        Reply::Report(sheet) => report_text(alloc, sheet),
+        Reply::Records(sheet) => records_text(alloc, sheet),
+        _ => text_of(alloc, reply),
+    }
+}
+
+fn reply_type(reply: &Reply) -> ContentType
+    ensures { result ≡ reply_type reply.now }
+{
+    match reply {
+        Reply::Report(_) => ContentType::Text,
+        Reply::Records(_) => ContentType::Csv,
+        _ => ContentType::Json,
+    }
+}
+
+fn reply_status(reply: &Reply) -> Status
+    ensures { result ≡ reply_status reply.now }
+{
+    match reply {
+        Reply::View(_) | Reply::Suggested(_) | Reply::Report(_) | Reply::Records(_) => Status::Ok,
+        Reply::Made(_) | Reply::Opened(_) | Reply::Batched(_) => Status::Created,
+        Reply::Committed { .. } => Status::Created,
+        Reply::Refused(refusal) => refusal_status(refusal),
+    }
+}
+
+fn refusal_status(refusal: &Refusal) -> Status
+    ensures { result ≡ refusal_status refusal.now }
+{
+    match refusal {
+        Refusal::NoClerk | Refusal::NoSuch(_) => Status::NotFound,
+        Refusal::Stale(_) | Refusal::Gap(_) | Refusal::Reused(_) => Status::Conflict,
+        Refusal::Closed(_) | Refusal::Taken(_) => Status::Conflict,
+        Refusal::UnknownAttr(_) | Refusal::ValueLong(_) | Refusal::NotConfirmed(_) => {
+            Status::UnprocessableContent
+        }
+        Refusal::NotCertain(_) | Refusal::InConflict | Refusal::RowWidth(_) => {
+            Status::UnprocessableContent
+        }
+        Refusal::BadText(_, _, _, _) | Refusal::Twice(_) | Refusal::BadName(_) => {
+            Status::UnprocessableContent
+        }
+        Refusal::Limit(_, _) => Status::ContentTooLarge,
+        Refusal::Unavailable => Status::ServiceUnavailable,
+        Refusal::NoMemory => Status::InsufficientStorage,
+    }
+}
+
+/// The response to a request that the machine is not asked about, or to one for which there was no memory.
+pub fn declined_text(alloc: Global, why: &Declined, closing: bool, asks_head: bool) -> Text
+    ensures { (text_bytes result ≡ declined_text why.now closing asks_head)
+        ⊎ (text_bytes result ≡ refusal_text refused.NoMemory closing asks_head) }
+{
+    match why {
+        Declined::Refused(refusal) => Text::Fixed(refusal.text(closing, asks_head)),
+        Declined::BadBody(fault) => match bad_body_text(alloc, fault, closing, asks_head) {
+            Ok(text) => Text::Made(text),
+            Err(NoMemory) => Text::Fixed(Refused::NoMemory.text(closing, asks_head)),
+        },
+    }
+}
+
+/// The response to a body that is not what its route wants.
+fn bad_body_text(
+    alloc: Global,
+    fault: &JsonFault,
+    closing: bool,
+    asks_head: bool,
+) -> Result<Vec<u8>, NoMemory>
+    ensures { IfOk result (λ text. text.items ≡ declined_text (Declined.BadBody fault.now) closing asks_head) }
+{
+    let body = fault_text(alloc, fault)?;
+    response(
+        alloc,
+        Status::BadRequest,
+        ContentType::Json,
+        body.as_slice(),
+        closing,
+        asks_head,
+    )
+}

@@ -1,0 +1,172 @@
+//! Serving a stream of requests.
+ghost use Rattle.std.specs.Prelude.{◌≡◌, ◌≤◌, true, length};
+ghost use Rattle.keeper_core.specs.Keeping.{IfTold};
+ghost use Rattle.http_desk.specs.Refusals.{refused_rest, refusal_text};
+ghost use Rattle.http_desk.specs.Scenes.{scene};
+ghost use Rattle.http_desk.specs.Streams.{IsEndOf, IsFaultless, RefusesRest, Serves, Streams, TakesText, bad_end};
+ghost use Rattle.http_desk.specs.Streams.{fault_end};
+
+use crate::answering::respond;
+use crate::refusal::Refused;
+use desk_base::{Both, Failed, NoMemory, Sink, Source, write_all};
+use http_cut::{BadRest, IntakeFault, PIECE, Routes, Step, Window, next_step};
+use keeper_core::Keeper;
+use machine_core::Machine;
+use std::alloc::Global;
+
+/// How a stream ended.
+#[derive(Clone, Copy, Debug, PartialEq, Eq)]
+pub enum Ended {
+    /// Behind a whole request, or at once.
+    Clean,
+    /// As many requests were answered as may be.
+    Limit,
+    /// With a bad head.
+    BadHead,
+    /// With a head that says chunks.
+    Chunked,
+    /// With a head that says too long a body.
+    BodyLong,
+    /// So many bytes behind the last whole request.
+    Truncated(u64),
+    /// The source could not be read.
+    ReadFault,
+    /// The sink could not be written to.
+    WriteFault,
+    /// There was no memory.
+    NoMemory,
+}
+
+/// Answers the requests that a link has left, up to a limit, each before the next is read.
+pub fn serve_stream<M: Machine, K: Keeper, S: Source, W: Sink>(
+    alloc: Global,
+    machine: &mut M,
+    keeper: &mut K,
+    link: &mut Both<S, W>,
+    limit: u32,
+) -> Ended
+    requires limit { 1 ≤ limit }
+    requires told { IfTold (K.tables keeper.old) (M.rows machine.old) }
+
+    // The answered requests are the first of the stream's, and each reply and the tables after it are the machine's.
+    ensures streams { let scene = scene S.left S.read_faults W.written W.write_faults M.rows K.tables K.faults in
+        Streams limit (scene link.old.source link.old.sink machine.old keeper.old)
+        (scene link.new.source link.new.sink machine.new keeper.new) result }
+
+    // Over devices that do not fail no fault comes.
+    ensures complete { let scene = scene S.left S.read_faults W.written W.write_faults M.rows K.tables K.faults in
+        S.is_steady link.old.source → K.is_steady keeper.old
+        → TakesText (W.takes link.old.sink) limit (scene link.old.source link.old.sink machine.old keeper.old)
+        → IsFaultless limit (scene link.old.source link.old.sink machine.old keeper.old)
+        (scene link.new.source link.new.sink machine.new keeper.new) result }
+{
+    let routes = match Routes::new(alloc) {
+        Ok(routes) => routes,
+        Err(NoMemory) => return Ended::NoMemory,
+    };
+    match vec![in alloc; 0u8; PIECE] {
+        Ok(mut piece) => serve(
+            alloc,
+            &routes,
+            machine,
+            keeper,
+            &mut link.source,
+            &mut link.sink,
+            piece.as_mut_slice(),
+            limit,
+        ),
+        Err(_) => Ended::NoMemory,
+    }
+}
+
+/// Answers the requests of a source in a sink, with the table of routes and room for what is read.
+fn serve<M: Machine, K: Keeper, S: Source, W: Sink>(
+    alloc: Global,
+    routes: &Routes,
+    machine: &mut M,
+    keeper: &mut K,
+    source: &mut S,
+    sink: &mut W,
+    piece: &mut [u8],
+    limit: u32,
+) -> Ended
+    requires limit { 1 ≤ limit }
+    requires piece { length piece.old ≡ 65536 }
+    requires told { IfTold (K.tables keeper.old) (M.rows machine.old) }
+    ensures { let scene = scene S.left S.read_faults W.written W.write_faults M.rows K.tables K.faults in
+        Serves (S.is_steady source.old) (W.takes sink.old) (K.is_steady keeper.old) limit
+        (scene source.old sink.old machine.old keeper.old) (scene source.new sink.new machine.new keeper.new) result }
+{
+    let mut window = Window::new(alloc);
+    let mut answered: u32 = 0;
+    'requests: while answered < limit {
+        let step = match next_step(routes, &mut window, source, piece) {
+            Ok(step) => step,
+            Err(fault) => return fault_end(fault),
+        };
+        let request = match step {
+            Step::Whole(request) => request,
+            Step::NeedMore(_) => return end_of(window.bytes()),
+            Step::Bad(kind, asks_head) => return refuse(sink, kind, asks_head),
+        };
+        answered += 1;
+        let closing = answered == limit;
+        match respond(
+            alloc,
+            routes,
+            machine,
+            keeper,
+            sink,
+            window.bytes(),
+            &request,
+            closing,
+        ) {
+            Ok(()) => window.skip(request.body.end),
+            Err(Failed) => return Ended::WriteFault,
+        }
+    }
+    Ended::Limit
+}
+
+/// How a stream ends, of which no more could be taken.
+fn fault_end(fault: IntakeFault) -> Ended
+    ensures { result ≡ fault_end fault }
+{
+    match fault {
+        IntakeFault::Failed => Ended::ReadFault,
+        IntakeFault::NoMemory => Ended::NoMemory,
+    }
+}
+
+/// How a stream ends, with these bytes behind its last request.
+fn end_of(rest: &[u8]) -> Ended
+    ensures { IsEndOf rest.now result }
+{
+    if rest.is_empty() {
+        Ended::Clean
+    } else {
+        Ended::Truncated(rest.len() as u64)
+    }
+}
+
+/// Writes the response to a bad rest, which ends the stream.
+fn refuse<W: Sink>(sink: &mut W, kind: BadRest, asks_head: bool) -> Ended
+    ensures { RefusesRest (W.takes sink.old) (W.written sink.old) (W.written sink.new) (W.write_faults sink.old)
+        (W.write_faults sink.new) kind (refusal_text (refused_rest kind) true asks_head) result }
+{
+    let text = Refused::of_rest(kind).text(true, asks_head);
+    match write_all(sink, text.as_bytes()) {
+        Ok(()) => bad_end(kind),
+        Err(Failed) => Ended::WriteFault,
+    }
+}
+
+fn bad_end(kind: BadRest) -> Ended
+    ensures { result ≡ bad_end kind }
+{
+    match kind {
+        BadRest::BadHead => Ended::BadHead,
+        BadRest::Chunked => Ended::Chunked,
+        BadRest::BodyLong => Ended::BodyLong,
+    }
+}
