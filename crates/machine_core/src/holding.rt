@@ -1,5 +1,5 @@
 //! The book of an edition, from the shelf, or built where it is not there.
-ghost use Rattle.std.specs.Prelude.{◌≡◌, ◌<◌, ◌≤◌, length, nat_eq, Some, IfOk, OnErr, OnOk, IsSome};
+ghost use Rattle.std.specs.Prelude.{◌≡◌, ◌<◌, ◌≤◌, length, nat_eq, None, Some, IfOk, OnErr, OnOk, IsSome};
 ghost use Rattle.std.specs.Map.{lookup};
 ghost use Rattle.desk_base.specs.declared.limits.TheConstants.{MAX_ENTRIES};
 ghost use Rattle.desk_words.specs.Tables.{Published, published_of, rows_of};
@@ -8,6 +8,8 @@ ghost use Rattle.fix_model.specs.Entries.{entries};
 ghost use Rattle.fix_model.specs.Valid.{IsValid};
 ghost use Rattle.desk_valid.specs.Bindings.{bound_at};
 ghost use Rattle.machine_core.specs.Shelves.{AreHeld, IsFirst, bound_on};
+ghost use Rattle.master_index.specs.Held.{brought_first, put_first};
+ghost use Rattle.master_index.specs.declared.shelf.Shelved.{Shelved as ShelvedBook};
 
 use desk_base::NoMemory;
 use desk_valid::kit_of;
@@ -17,13 +19,17 @@ use master_index::{BuildFault, Shelf, Shelved, SortedBook};
 use std::alloc::Global;
 
 /// Has the book of an edition stand first on the shelf. Where it is held nothing is built and no memory is taken, so it
-/// succeeds; else it is built, and where there is no memory the shelf is as before.
+/// succeeds; else it is built and put in front, where four others are held in place of the one that was used longest
+/// ago. Where there is no memory the shelf is as before.
 pub fn hold(alloc: Global, tables: &Tables, shelf: &mut Shelf, edition: u32) -> Result<(), NoMemory>
     requires valid { AreValid (rows_of tables.now) }
     requires edition { edition < length tables.now.editions.items }
     requires held { AreHeld (published_of (rows_of tables.now)) shelf.old }
     ensures held { AreHeld (published_of (rows_of tables.now)) shelf.new }
     ensures first { OnOk result (IsFirst edition shelf.new) }
+    ensures brought { IsSome (lookup (nat_eq edition) shelf.old) → shelf.new ≡ brought_first edition shelf.old }
+    ensures put { lookup (nat_eq edition) shelf.old ≡ None
+        → OnOk result ((shelved : ShelvedBook) × (shelf.new ≡ put_first edition shelved shelf.old)) }
     ensures unchanged { OnErr result (shelf.new ≡ shelf.old) }
     ensures succeeds { IsSome (lookup (nat_eq edition) shelf.old) → OnErr result ⊥ }
 {
