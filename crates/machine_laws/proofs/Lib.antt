@@ -27,3 +27,14 @@ pub mod StewardWhy
 pub mod Refusing
 pub mod Totals
 pub mod RowByRow
+pub mod Decisions
+pub mod LeastRuns
+pub mod Answering
+pub mod Hoping
+pub mod Advising
+pub mod Suggesting
+pub mod Outcomes
+pub mod OwnOutcomes
+pub mod DeedOutcomes
+pub mod MadeOutcomes
+pub mod EveryStep

@@ -23,7 +23,7 @@ use Rattle.machine_laws.proofs.Numbers.{HasUsed, accepted-some, has_changes-none
 use Rattle.machine_laws.proofs.Staying.{place_of-begins, step-kept, step-longer, step-ticketed}
 
 -- tables stay valid
-next-valid : (rows : Rows) (event : Event) → AreValid rows → IsNumbered event.command
+pub next-valid : (rows : Rows) (event : Event) → AreValid rows → IsNumbered event.command
     → IsStep rows event.command event.answer event.changes → AreValid (changed_all rows event.changes)
 next-valid rows event valid numbered step = (step-valid rows event.command event.answer event.changes valid numbered step).1
 

@@ -88,7 +88,8 @@ are_more one other schemas masters rulebooks editions regions = record {
   regions = regions;
 }
 
-AreMore-changed : (rows : Rows) (one : Change) → AreMore (published_of rows) (published_of (changed rows one))
+-- and begins what is published where a table changes
+pub AreMore-changed : (rows : Rows) (one : Change) → AreMore (published_of rows) (published_of (changed rows one))
 AreMore-changed rows (change.Clerk place row) = AreMore-same (published_of rows)
 AreMore-changed rows (change.Schema row) = are_more (published_of rows) (published_of (changed rows (change.Schema row)))
     (Begins-push rows.schemas row) (Begins-same rows.masters) (Begins-same rows.rulebooks) (Begins-same rows.editions)

@@ -245,7 +245,8 @@ own-flags rows valid clerk index past inside =
     (valid.sessions clerk index (get_or (list_at rows.sessions clerk) index past)
     (slice_get-get_or (list_at rows.sessions clerk) index past inside)).confirmed
 
-all-flat : {A : Type 0} (P : A → Type 0) (lists : List (List A)) → All (All P) lists → All P (flat_map (λ list. list) lists)
+-- what holds in each list holds in all of them
+pub all-flat : {A : Type 0} (P : A → Type 0) (lists : List (List A)) → All (All P) lists → All P (flat_map (λ list. list) lists)
 all-flat P [] all = All-nil P
 all-flat P (first ∷ lists) all = All-append P first (flat_map (λ list. list) lists) (All-head (All P) first lists all)
     (all-flat P lists (All-tail (All P) first lists all))

@@ -4,6 +4,7 @@
 pub mod batches;
 pub mod causes;
 pub mod isolation;
+pub mod questions;
 pub mod repeats;
 pub mod reports;
 pub mod steps;

@@ -1,0 +1,168 @@
+-- Over valid tables each request has a step.
+use Rattle.std.proofs.Common.{◌≡◌, ℕ, ◌+◌, ◌<◌, ◌≤◌, Bool, true, false, List, [], length, None, refl, sym, subst, arith}
+use Rattle.std.specs.Prelude.{◌==◌, All, Ok, flat_map, nat_lt}
+use Rattle.std.proofs.lemmas.Bool.Decides.{nat_tests}
+use Rattle.std.proofs.lemmas.List.{get_or_default}
+use Rattle.desk_words.specs.declared.change.Change.{Change}
+use Rattle.desk_words.specs.declared.clerk_work.ClerkWork.{ClerkWork}
+use Rattle.desk_words.specs.declared.command.Command.{Command}
+use Rattle.desk_words.specs.declared.command.Command.TheVariants.{Steward, Clerk, Look, DeskReport}
+use Rattle.desk_words.specs.declared.command.Ticket.{Ticket}
+use Rattle.desk_words.specs.declared.refusal.Refusal.TheVariants.{Gap, Stale}
+use Rattle.desk_words.specs.declared.reply.Reply.{Reply}
+use Rattle.desk_words.specs.declared.rows.act.Act.{Act}
+use Rattle.desk_words.specs.declared.rows.act.Act.TheVariants as act
+use Rattle.desk_words.specs.declared.rows.clerk.ClerkRow.{ClerkRow}
+use Rattle.desk_words.specs.declared.steward_work.StewardWork.{StewardWork}
+use Rattle.desk_words.specs.Changes.{changed}
+use Rattle.desk_words.specs.Tables.{Rows, new_clerk, published_of}
+use Rattle.desk_valid.specs.Rows.Clerk.{IsClerkRow}
+use Rattle.desk_valid.specs.Valid.{AreValid}
+use Rattle.machine_core.specs.Checked.{Gives}
+use Rattle.machine_core.specs.Machine.{IsStep, answered, clerk_of, clerk_write, clerk_write_at, machine, steward_write}
+use Rattle.machine_core.specs.Own.{after, own_of}
+use Rattle.machine_core.specs.OwnRows.{HasOwnTarget}
+use Rattle.machine_core.specs.Sessions.{IsSessionOf}
+use Rattle.machine_core.specs.declared.ticket.Use.{Use}
+use Rattle.machine_core.specs.declared.ticket.Use.TheVariants.{Fresh, Repeated}
+use Rattle.machine_core.specs.Ticket.{IsNumbered, use_of}
+use Rattle.machine_core.proofs.Chains.{done-value}
+use Rattle.machine_laws.proofs.Accepted.{deed-sound, making-sound}
+use Rattle.machine_laws.proofs.Again.{use_at}
+use Rattle.machine_laws.proofs.Callers.{IsDone}
+use Rattle.machine_laws.proofs.DeedOutcomes.{outcome-deed, outcome-look}
+use Rattle.machine_laws.proofs.Lists.{slice_get-read, slice_get-there}
+use Rattle.machine_laws.proofs.MadeOutcomes.{outcome-made, outcome-making}
+use Rattle.machine_laws.proofs.Outcomes.{HasOutcome, outcome-bind, outcome-done, outcome-refused, plain_tests}
+use Rattle.machine_laws.proofs.OwnOutcomes.{outcome-kept, outcome-report, sessions-of}
+use Rattle.machine_laws.proofs.Totals.{all-flat}
+use Rattle.machine_laws.proofs.Valid.{own-rows}
+use Rattle.machine_laws.proofs.Writes.{IsPlaceOf, clerk_of-ok}
+
+-- the number of a request is tested
+outcome-use_at : (stale gap same : Bool) (row : ClerkRow) (ticket : Ticket)
+    → HasOutcome (use_at stale gap same row ticket)
+outcome-use_at true gap same row ticket = outcome-refused (Stale row.last)
+outcome-use_at false true same row ticket = outcome-refused (Gap row.last)
+outcome-use_at false false true row ticket = search plain_tests
+outcome-use_at false false false row ticket = outcome-done Fresh
+
+-- so it is a new one, the last one again, or refused
+outcome-use : (row : ClerkRow) (ticket : Ticket) → HasOutcome (use_of row ticket)
+outcome-use row ticket = outcome-use_at (nat_lt ticket.number row.last) (nat_lt (row.last + 1) ticket.number)
+    (ticket.number == row.last) row ticket
+
+-- where it is the last one again, it is the last
+repeated-test : (stale gap same : Bool) (row : ClerkRow) (ticket : Ticket)
+    → Gives (use_at stale gap same row ticket) (Ok Repeated) → same ≡ true
+repeated-test true gap same row ticket gives = absurd (cc)
+repeated-test false true same row ticket gives = absurd (cc)
+repeated-test false false true row ticket gives = refl
+repeated-test false false false row ticket gives = absurd (let same = done-value Fresh Repeated gives in cc)
+
+-- a repeat has the last number
+pub use-repeated : (row : ClerkRow) (ticket : Ticket) → Gives (use_of row ticket) (Ok Repeated) → ticket.number ≡ row.last
+use-repeated row ticket gives =
+    let told = repeated-test (nat_lt ticket.number row.last) (nat_lt (row.last + 1) ticket.number)
+    (ticket.number == row.last) row ticket gives in
+    grind (arith, nat_tests, told)
+
+-- a clerk is found, or there is none
+outcome-place : (clerks : List ClerkRow) (name : List ℕ) → HasOutcome (clerk_of clerks name)
+outcome-place clerks name = search plain_tests
+
+module _ (rows : Rows) (valid : AreValid rows) where
+  -- a caller's row is good
+  good-row : (place : ℕ) → place < length rows.clerks → IsClerkRow rows place (own_of rows place).row
+  good-row place within =
+      let row = slice_get-there rows.clerks place within in
+      let is : (own_of rows place).row ≡ row.0 = slice_get-read rows.clerks place row.0 (new_clerk []) row.1 in
+      subst (IsClerkRow rows place) (sym is) (valid.clerks place row.0 row.1)
+
+  -- what a repeat repeats is done
+  done-again : (place : ℕ) (ticket : Ticket) → place < length rows.clerks → 1 ≤ ticket.number
+      → Gives (use_of (own_of rows place).row ticket) (Ok Repeated)
+      → IsDone rows place (own_of rows place).row.act (own_of rows place).row.target
+  done-again place ticket within some gives =
+      let row : ClerkRow = (own_of rows place).row in
+      let good = good-row place within in
+      record {
+        some = λ nothing. omega (arith, some, use-repeated row ticket gives, good.started.1 nothing);
+        steward = good.steward;
+        clerk = good.clerk;
+        stands = good.target;
+      }
+
+  -- and of a clerk it stands among the clerk's own rows
+  own-target : (place : ℕ) → 0 < place → (what : Act) (target : ℕ) → IsDone rows place what target
+      → HasOwnTarget (own_of rows place) what target
+  own-target place behind act.Opened target is = is.stands
+  own-target place behind act.Changed target is = is.stands
+  own-target place behind act.Committed target is = is.stands
+  own-target place behind act.Batched target is = is.stands
+  own-target place behind act.Nothing target is = is.some refl
+  own-target place behind act.Clerk target is = is.clerk behind
+  own-target place behind act.Schema target is = is.clerk behind
+  own-target place behind act.Master target is = is.clerk behind
+  own-target place behind act.Rulebook target is = is.clerk behind
+  own-target place behind act.Edition target is = is.clerk behind
+  own-target place behind act.Region target is = is.clerk behind
+
+  -- a clerk's write
+  outcome-clerk : (name : List ℕ) (place : ℕ) (ticket : Ticket) (work : ClerkWork) → IsPlaceOf rows.clerks name place
+      → 1 ≤ ticket.number → HasOutcome (clerk_write (published_of rows) (own_of rows place) ticket work)
+  outcome-clerk name place ticket work there some = outcome-bind (outcome-use (own_of rows place).row ticket) at_turn
+    where
+      at_turn : (turn : Use) → Gives (use_of (own_of rows place).row ticket) (Ok turn)
+          → HasOutcome (clerk_write_at (published_of rows) (own_of rows place) work turn)
+      at_turn Repeated again = outcome-bind (outcome-kept rows valid (own_of rows place) (own-rows rows valid place)
+          (own_of rows place).row.act (own_of rows place).row.target (own-target place there.behind
+          (own_of rows place).row.act (own_of rows place).row.target (done-again place ticket there.within some again)))
+          (λ answer ok. outcome-done _)
+      at_turn Fresh new =
+          outcome-bind (outcome-deed rows valid (own_of rows place) (own-rows rows valid place) work) (λ deed does.
+          let sound = deed-sound rows place work deed valid there.within does in
+          outcome-bind (outcome-kept rows valid (after (own_of rows place) deed) sound.rows deed.act deed.target
+          sound.target) (λ answer ok. outcome-done _))
+
+  -- a write of the steward
+  outcome-steward : (ticket : Ticket) (work : StewardWork) → 1 ≤ ticket.number
+      → HasOutcome (machine rows (Steward ticket work))
+  outcome-steward ticket work some = outcome-bind (outcome-use (own_of rows 0).row ticket) at_turn
+    where
+      at_turn : (turn : Use) → Gives (use_of (own_of rows 0).row ticket) (Ok turn)
+          → HasOutcome (steward_write rows ticket work turn)
+      at_turn Repeated again = outcome-bind (outcome-made rows valid (own_of rows 0).row.act (own_of rows 0).row.target
+          (done-again 0 ticket valid.tables.steward some again)) (λ made ok. outcome-done _)
+      at_turn Fresh new = outcome-bind (outcome-making rows valid work) (λ making makes.
+          let sound = making-sound rows work making valid makes in
+          outcome-bind (outcome-made (changed rows making.change) sound.valid making.act making.target sound.is_done)
+          (λ made ok. outcome-done _))
+
+  -- the sessions of all clerks stand
+  all-sessions : All (IsSessionOf (published_of rows)) (flat_map (λ sessions. sessions) rows.sessions)
+  all-sessions = all-flat (IsSessionOf (published_of rows)) rows.sessions (λ clerk past inside.
+      subst (All (IsSessionOf (published_of rows))) (get_or_default rows.sessions clerk [] past inside)
+      (sessions-of rows valid (own_of rows clerk) (own-rows rows valid clerk)))
+
+  -- each request
+  outcome-machine : (command : Command) → IsNumbered command → HasOutcome (machine rows command)
+  outcome-machine (Steward ticket work) numbered = outcome-steward ticket work numbered.0
+  outcome-machine (Clerk name ticket work) numbered = outcome-bind (outcome-place rows.clerks name) (λ place found.
+      outcome-bind (outcome-clerk name place ticket work (clerk_of-ok rows.clerks name place found) numbered.0)
+      (λ both ok. outcome-done _))
+  outcome-machine (Look name look) numbered = outcome-bind (outcome-place rows.clerks name) (λ place found.
+      outcome-bind (outcome-look rows valid (own_of rows place) (own-rows rows valid place) look)
+      (λ answer ok. outcome-done _))
+  outcome-machine DeskReport numbered = outcome-bind (outcome-report rows valid None
+      (flat_map (λ sessions. sessions) rows.sessions) all-sessions) (λ sheet ok. outcome-done _)
+
+-- a request over valid tables has a reply and changes
+pub some-step : (rows : Rows) (command : Command) → AreValid rows → IsNumbered command
+    → (answer : Reply) × (changes : List Change) × IsStep rows command answer changes
+some-step rows command valid numbered =
+    let has = outcome-machine rows valid command numbered in (
+      (answered has.outcome).0,
+      (answered has.outcome).1,
+      record { outcome = has.outcome; gives = has.gives; answers = refl },
+    )

@@ -1,0 +1,122 @@
+-- A chain of tests comes to a result where its parts do.
+use Rattle.std.proofs.Common.{◌≡◌, ◌++◌, ℕ, Bool, true, false, List, [], ◌∷◌, Option, Some, None, refl, sym, subst}
+use Rattle.std.specs.Prelude.{All, IsSomeAnd, Result, Ok, Err, nat_le}
+use Rattle.std.proofs.lemmas.List.Elements.{All-head, All-tail}
+use Rattle.fix_model.specs.declared.kit.Kit.{Kit}
+use Rattle.fix_model.specs.declared.region.Region.{Region}
+use Rattle.fix_model.specs.declared.state.State.{State}
+use Rattle.fix_model.specs.States.{Fits}
+use Rattle.fix_model.specs.Valid.{IsValid}
+use Rattle.desk_words.specs.declared.limit.Which.{Which}
+use Rattle.desk_words.specs.declared.refusal.Refusal.{Refusal}
+use Rattle.desk_words.specs.declared.refusal.Refusal.TheVariants.{Limit}
+use Rattle.machine_core.specs.Checked.{Checked, done, ◌>>=◌, advice_for, answer_for, certainly, each, each_behind, refused, some_or, unless, value_or, Gives}
+use Rattle.machine_core.specs.Limits.{limit_of, within}
+use Rattle.machine_core.proofs.Chains.{Gives-bind, Gives-bind_refused}
+use Rattle.machine_core.proofs.Tested.{certainly-some}
+use Rattle.machine_laws.proofs.Answering.{some-answer}
+use Rattle.machine_laws.proofs.Suggesting.{some-suggestion}
+
+-- there is a result to which the chain comes
+pub record HasOutcome {A : Type 0} (checked : Checked A) : Type 0 where
+  pub outcome : Result A Refusal
+  pub gives : Gives checked outcome
+
+-- what is done
+pub outcome-done : {A : Type 0} (value : A) → HasOutcome (done value)
+outcome-done value = record { outcome = Ok value; gives = refl }
+
+-- what is refused
+pub outcome-refused : {A : Type 0} (refusal : Refusal) → HasOutcome {A = A} (refused refusal)
+outcome-refused refusal = record { outcome = Err refusal; gives = refl }
+
+-- a chain, where its first part has one, and the rest has one behind each value of it
+pub outcome-bind : {A B : Type 0} {checked : Checked A} {next : A → Checked B} → HasOutcome checked
+    → ((found : A) → Gives checked (Ok found) → HasOutcome (next found)) → HasOutcome (checked >>= next)
+outcome-bind {A} {B} {checked} {next} first rest = by_outcome first.outcome first.gives
+  where
+    by_outcome : (outcome : Result A Refusal) → Gives checked outcome → HasOutcome (checked >>= next)
+    by_outcome (Ok found) gives =
+        let more = rest found gives in
+        record { outcome = more.outcome; gives = Gives-bind checked next found more.outcome gives more.gives }
+    by_outcome (Err refusal) gives =
+        record { outcome = Err refusal; gives = Gives-bind_refused checked next refusal gives }
+
+-- a test that passes or fails
+pub outcome-unless : (test : Bool) (refusal : Refusal) → HasOutcome (unless test refusal)
+outcome-unless true refusal = outcome-done tt
+outcome-unless false refusal = outcome-refused refusal
+
+-- where there is one, or there is none
+pub outcome-some_or : {A : Type 0} (option : Option A) (refusal : Refusal) → HasOutcome (some_or option refusal)
+outcome-some_or None refusal = outcome-refused refusal
+outcome-some_or (Some found) refusal = outcome-done found
+
+-- where there is a fault, or none
+pub outcome-value_or : {A E : Type 0} (result : Result A E) (refusal_of : E → Refusal)
+    → HasOutcome (value_or result refusal_of)
+outcome-value_or (Ok value) refusal_of = outcome-done value
+outcome-value_or (Err fault) refusal_of = outcome-refused (refusal_of fault)
+
+-- no more than may stand, or more
+pub outcome-within : (which : Which) (count : ℕ) → HasOutcome (within which count)
+outcome-within which count = outcome-unless (nat_le count (limit_of which)) (Limit which (limit_of which))
+
+-- chains of such tests
+pub ruleset plain_tests = (
+  outcome-bind,
+  outcome-unless,
+  outcome-some_or,
+  outcome-value_or,
+  outcome-within,
+  outcome-done,
+)
+
+-- what is known to be there
+pub outcome-certainly : {A : Type 0} (option : Option A) (found : A) → option ≡ Some found
+    → HasOutcome (certainly option)
+outcome-certainly option found is = subst HasOutcome (sym (certainly-some option found is)) (outcome-done found)
+
+-- a list, where each item has one
+pub outcome-each : {A B : Type 0} (Q : A → Type 0) (find : A → Checked B) (items : List A) → All Q items
+    → ((item : A) → Q item → HasOutcome (find item)) → HasOutcome (each find items)
+outcome-each Q find [] all has = outcome-done []
+outcome-each Q find (first ∷ others) all has =
+    outcome-bind (has first (All-head Q first others all)) (λ found ok.
+    outcome-bind (outcome-each Q find others (All-tail Q first others all) has) (λ more done_too.
+    outcome-done (found ∷ more)))
+
+-- where every item has one
+pub outcome-all : {A B : Type 0} (find : A → Checked B) (items : List A) → ((item : A) → HasOutcome (find item))
+    → HasOutcome (each find items)
+outcome-all find [] has = outcome-done []
+outcome-all find (first ∷ others) has =
+    outcome-bind (has first) (λ found ok.
+    outcome-bind (outcome-all find others has) (λ more done_too. outcome-done (found ∷ more)))
+
+-- also where it is tested behind those before it
+pub outcome-behind : {A B : Type 0} (before : List B) (find : List B → A → Checked B) (items : List A)
+    → ((sofar : List B) (item : A) → HasOutcome (find sofar item)) → HasOutcome (each_behind before find items)
+outcome-behind before find [] has = outcome-done before
+outcome-behind before find (first ∷ others) has =
+    outcome-bind (has before first) (λ found ok.
+    outcome-behind (before ++ found ∷ []) find others has)
+
+-- a question to the engine about a state of a valid kit
+pub outcome-answer : (kit : Kit) (state : State) → IsValid kit → Fits kit state → HasOutcome (answer_for kit state)
+outcome-answer kit state valid fits =
+    let answer = some-answer kit state valid fits in
+    record { outcome = Ok answer.0; gives = (answer.0, answer.1, refl) }
+
+-- and what is suggested for it
+pub outcome-advice : (kit : Kit) (state : State) (regions : List Region) → IsValid kit → Fits kit state
+    → HasOutcome (advice_for kit state regions)
+outcome-advice kit state regions valid fits =
+    let suggestion = some-suggestion kit state regions valid fits in
+    record { outcome = Ok suggestion.0; gives = (suggestion.0, suggestion.1, refl) }
+
+-- what holds of a value that is there
+pub there-and : {T : Type 0} (found : Option T) (P : T → Type 0) → IsSomeAnd found P
+    → (one : T) × (found ≡ Some one) × P one
+there-and None P has = absurd has
+there-and (Some one) P has = (one, refl, has)

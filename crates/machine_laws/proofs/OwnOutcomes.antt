@@ -1,0 +1,144 @@
+-- What a clerk asks over valid tables comes to a result.
+use Rattle.std.proofs.Common.{◌≡◌, ◌∙◌, ℕ, ◌+◌, ◌-◌, ◌<◌, Bool, List, length, Option, get_or, take, drop, Some, refl, sym, subst}
+use Rattle.std.specs.Prelude.{◌==◌, All, IfSome, Ok, filter, slice_get}
+use Rattle.std.specs.List.{range_with_len}
+use Rattle.std.proofs.lemmas.List.Elements.{All-drop, All-filter, All-take}
+use Rattle.std.proofs.lemmas.Option.{slice_get-get_or}
+use Rattle.desk_words.specs.declared.refusal.Kind.TheVariants as kind
+use Rattle.desk_words.specs.declared.refusal.Refusal.TheVariants.{NoSuch}
+use Rattle.desk_words.specs.declared.rows.act.Act.{Act}
+use Rattle.desk_words.specs.declared.rows.act.Act.TheVariants as act
+use Rattle.desk_words.specs.declared.rows.session.SessionRow.{SessionRow}
+use Rattle.desk_words.specs.Tables.{Rows, published_of}
+use Rattle.desk_valid.specs.declared.bound.Bound.{Bound}
+use Rattle.desk_valid.specs.Bindings.{IsNamedKit, bound_at}
+use Rattle.desk_valid.specs.Valid.{AreValid}
+use Rattle.desk_valid.proofs.Kits.{edition-kit}
+use Rattle.fix_model.specs.declared.region.Region.{Region}
+use Rattle.fix_model.specs.States.{Fits}
+use Rattle.fix_model.specs.Valid.{IsValid}
+use Rattle.fix_model.proofs.States.{Fits-confirmed}
+use Rattle.machine_core.specs.Answers.{bound_for, state_of}
+use Rattle.machine_core.specs.Checked.{advice_for, answer_for, certainly, Gives}
+use Rattle.machine_core.specs.Finding.{session_at}
+use Rattle.machine_core.specs.Kept.{kept_reply}
+use Rattle.machine_core.specs.Look.Report.{assessment_of, report_line, report_of}
+use Rattle.machine_core.specs.Look.View.{view_at}
+use Rattle.machine_core.specs.Own.{Own}
+use Rattle.machine_core.specs.OwnRows.{AreOwnRows, HasOwnTarget}
+use Rattle.machine_core.specs.Sessions.{IsSessionOf}
+use Rattle.machine_core.specs.Views.{view_of}
+use Rattle.machine_core.proofs.Tested.{certainly-ok, some_or-ok}
+use Rattle.machine_core.proofs.Widths.{kit-width, named-kit, width-bound}
+use Rattle.machine_laws.proofs.Lists.{slice_get-there}
+use Rattle.machine_laws.proofs.Outcomes.{HasOutcome, outcome-advice, outcome-answer, outcome-bind, outcome-certainly, outcome-done, outcome-each, outcome-all, outcome-some_or, there-and}
+use Rattle.machine_laws.proofs.Sessions.{session_at-found}
+
+module _ (rows : Rows) (valid : AreValid rows) where
+  -- an edition that stands has a kit
+  pub outcome-bound : (edition : ℕ) → edition < length rows.editions
+      → HasOutcome (certainly (bound_at (published_of rows) edition))
+  outcome-bound edition within =
+      let there = there-and (bound_at (published_of rows) edition) IsNamedKit (edition-kit rows edition valid within) in
+      outcome-certainly (bound_at (published_of rows) edition) there.0 there.1
+
+  -- which is valid
+  session-kit : (session : SessionRow) (bound : Bound) → Gives (bound_for (published_of rows) session) (Ok bound)
+      → IsValid bound.kit
+  session-kit session bound gives = (named-kit rows session.edition bound valid
+      (certainly-ok (bound_at (published_of rows) session.edition) bound gives)).valid
+
+  -- a session on it is a state of the kit
+  session-fits : (session : SessionRow) (bound : Bound) → IsSessionOf (published_of rows) session
+      → Gives (bound_for (published_of rows) session) (Ok bound) → Fits bound.kit (state_of session)
+  session-fits session bound is gives =
+      let binds = certainly-ok (bound_at (published_of rows) session.edition) bound gives in
+      let wide = width-bound (published_of rows) session.edition bound binds in
+      let typed : length session.typed ≡ length bound.names.attributes =
+      subst (λ found. IfSome found (λ width. length session.typed ≡ width)) wide is.typed in
+      let flags : length session.confirmed ≡ length bound.names.attributes =
+      subst (λ found. IfSome found (λ width. length session.confirmed ≡ width)) wide is.confirmed in
+      Fits-confirmed bound.kit (state_of session) session.confirmed (typed ∙ sym flags) refl
+      (typed ∙ kit-width rows session.edition bound valid binds)
+
+  -- so its questions are answered
+  pub session-answered : (session : SessionRow) (bound : Bound) → IsSessionOf (published_of rows) session
+      → Gives (bound_for (published_of rows) session) (Ok bound) → HasOutcome (answer_for bound.kit (state_of session))
+  session-answered session bound is gives = outcome-answer bound.kit (state_of session)
+      (session-kit session bound gives)
+      (session-fits session bound is gives)
+
+  -- also what is suggested for it
+  pub session-advised : (session : SessionRow) (bound : Bound) (regions : List Region)
+      → IsSessionOf (published_of rows) session → Gives (bound_for (published_of rows) session) (Ok bound)
+      → HasOutcome (advice_for bound.kit (state_of session) regions)
+  session-advised session bound regions is gives = outcome-advice bound.kit (state_of session) regions
+      (session-kit session bound gives)
+      (session-fits session bound is gives)
+
+  -- it is shown
+  pub outcome-view : (number : ℕ) (session : SessionRow) → IsSessionOf (published_of rows) session
+      → HasOutcome (view_of (published_of rows) number session)
+  outcome-view number session is = outcome-bind (outcome-bound session.edition is.edition) (λ bound binds.
+      outcome-bind (session-answered session bound is binds) (λ answer ok. outcome-done _))
+
+  -- and judged
+  pub outcome-assessment : (session : SessionRow) → IsSessionOf (published_of rows) session
+      → HasOutcome (assessment_of (published_of rows) session)
+  outcome-assessment session is = outcome-bind (outcome-bound session.edition is.edition) (λ bound binds.
+      outcome-bind (session-answered session bound is binds) (λ answer ok. outcome-done _))
+
+  -- a report on sessions that stand
+  pub outcome-report : (clerk : Option (List ℕ)) (sessions : List SessionRow)
+      → All (IsSessionOf (published_of rows)) sessions → HasOutcome (report_of (published_of rows) clerk sessions)
+  outcome-report clerk sessions all =
+      let line : (edition : ℕ) → HasOutcome (report_line (published_of rows) sessions edition) = λ edition.
+      let on : SessionRow → Bool = λ session. session.edition == edition in
+      outcome-bind (outcome-each (IsSessionOf (published_of rows)) (assessment_of (published_of rows))
+      (filter on sessions) (All-filter on (IsSessionOf (published_of rows)) sessions all) outcome-assessment)
+      (λ found ok. outcome-done _) in
+      outcome-bind (outcome-all (report_line (published_of rows) sessions)
+      (range_with_len 0 (length rows.editions)) line) (λ lines ok. outcome-done _)
+
+  module _ (own : Own) (are : AreOwnRows (published_of rows) own.sessions own.records own.batches) where
+    -- the clerk's own sessions stand
+    pub session-of : (place : ℕ) (session : SessionRow) → slice_get own.sessions place ≡ Some session
+        → IsSessionOf (published_of rows) session
+    session-of place session stands =
+        let is = are.sessions_valid place session stands in
+        record { edition = is.edition; typed = is.typed; confirmed = is.confirmed }
+
+    -- all of them
+    pub sessions-of : All (IsSessionOf (published_of rows)) own.sessions
+    sessions-of place past inside =
+        session-of place (get_or own.sessions place past) (slice_get-get_or own.sessions place past inside)
+
+    -- a session by its number
+    pub outcome-view_at : (number : ℕ) → HasOutcome (view_at (published_of rows) own number)
+    outcome-view_at number = outcome-bind (outcome-some_or _ _) (λ session found. outcome-view number session
+        (session-of (number - 1) session (session_at-found own.sessions number session
+        (some_or-ok (session_at own.sessions number) (NoSuch kind.Session) session found)).1))
+
+    -- the kept reply, whose target stands
+    pub outcome-kept : (what : Act) (target : ℕ) → HasOwnTarget own what target
+        → HasOutcome (kept_reply (published_of rows) own what target)
+    outcome-kept act.Opened target has = outcome-bind (outcome-view_at (target + 1)) (λ view ok. outcome-done _)
+    outcome-kept act.Changed target has = outcome-bind (outcome-view_at (target + 1)) (λ view ok. outcome-done _)
+    outcome-kept act.Committed target has =
+        let row = slice_get-there own.records target has in
+        outcome-bind (outcome-certainly (slice_get own.records target) row.0 row.1) (λ one ok. outcome-done _)
+    outcome-kept act.Batched target has =
+        let row = slice_get-there own.batches target has in
+        let Stands : SessionRow → Type 0 = IsSessionOf (published_of rows) in
+        outcome-bind (outcome-certainly (slice_get own.batches target) row.0 row.1) (λ one ok. outcome-bind
+        (outcome-each Stands (assessment_of (published_of rows)) (take one.count (drop (one.first - 1) own.sessions))
+        (All-take Stands one.count (drop (one.first - 1) own.sessions)
+        (All-drop Stands (one.first - 1) own.sessions sessions-of)) outcome-assessment)
+        (λ found all_ok. outcome-done _))
+    outcome-kept act.Nothing target has = absurd has
+    outcome-kept act.Clerk target has = absurd has
+    outcome-kept act.Schema target has = absurd has
+    outcome-kept act.Master target has = absurd has
+    outcome-kept act.Rulebook target has = absurd has
+    outcome-kept act.Edition target has = absurd has
+    outcome-kept act.Region target has = absurd has
