@@ -1,5 +1,6 @@
 -- What a suggestion names.
-use Rattle.std.proofs.Common.{◌≡◌, ℕ, ◌^◌, ◌<◌, Bool, List, length, get_or, map, Option, Some, Ok, inl, inr, refl, sym, ap, subst, eqb-true, arith}
+use Rattle.std.proofs.Common.{◌≡◌, ℕ, ◌^◌, ◌<◌, Bool, List, length, get_or, map, Option, Some, Ok, inl, inr, refl}
+use Rattle.std.proofs.Common.{sym, ap, subst, eqb-true, arith}
 use Rattle.std.specs.Prelude.{◌==◌, All, IfSome, not, filter}
 use Rattle.std.specs.List.{range_with_len}
 use Rattle.std.proofs.lemmas.List.{get_or_default, get_or-map, length-map}

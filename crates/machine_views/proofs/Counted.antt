@@ -1,5 +1,6 @@
 -- Counts of what is found of one item after another.
-use Rattle.std.proofs.Common.{◌≡◌, ◌∙◌, ℕ, ◌+◌, ◌<◌, Bool, true, false, cond, List, [], ◌∷◌, ◌++◌, length, get_or, take, refl, sym, ap, add-zero, arith}
+use Rattle.std.proofs.Common.{◌≡◌, ◌∙◌, ℕ, ◌+◌, ◌<◌, Bool, true, false, cond, List, [], ◌∷◌, ◌++◌, length, get_or}
+use Rattle.std.proofs.Common.{take, refl, sym, ap, add-zero, arith}
 use Rattle.std.specs.Prelude.{Ok, count_by}
 use Rattle.std.proofs.lemmas.List.{take_more}
 use Rattle.std.proofs.lemmas.List.Sums.{sum_by_push}
@@ -28,7 +29,7 @@ each-push {A} {B} find (first ∷ others) found item value gives is =
     (λ more. done (here.0 ∷ more)) (rest.0 ++ value ∷ []) (Ok (here.0 ∷ (rest.0 ++ value ∷ []))) behind refl))
 
 -- one more is counted where it passes
-count-push : {A : Type 0} (passes : A → Bool) (items : List A) (item : A)
+pub count-push : {A : Type 0} (passes : A → Bool) (items : List A) (item : A)
     → count_by passes (items ++ item ∷ []) ≡ count_by passes items + cond (passes item) 1 0
 count-push passes items item = sum_by_push (λ one. cond (passes one) 1 0) items item
 

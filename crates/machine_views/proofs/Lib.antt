@@ -5,3 +5,5 @@ pub mod Keeping
 pub mod Advising
 pub mod Making
 pub mod Recording
+pub mod Reporting
+pub mod Few

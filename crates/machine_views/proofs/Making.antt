@@ -50,7 +50,8 @@ region-kept rows place row told stands gives = rw stands gives
 
 -- a region by its number, with the verdicts on its rows
 pub region-given : (published : Published) (place : ℕ) (row : RegionRow) (bound : Bound) (verdicts : Verdicts)
-    (count : ℕ) → bound_at published row.edition ≡ Some bound → AreRowVerdicts bound.kit row.region.attrs row.region.rows verdicts
+    (count : ℕ) → bound_at published row.edition ≡ Some bound
+    → AreRowVerdicts bound.kit row.region.attrs row.region.rows verdicts
     → count ≡ region_count (take place published.regions) row.edition
     → Gives (region_made published place row)
     (Ok (made.Region (count + 1) verdicts.certain verdicts.partial verdicts.conflict))

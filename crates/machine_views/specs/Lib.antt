@@ -2,3 +2,4 @@ pub mod Answered
 pub mod Counts
 pub mod Doing
 pub mod Looking
+pub mod Reporting

@@ -1,5 +1,6 @@
 //! Sessions with what the rules make of them, counted.
-ghost use Rattle.std.specs.Prelude.{◌≡◌, ◌+◌, ◌-◌, ◌^◌, ℕ, IfOk};
+ghost use Rattle.std.specs.Prelude.{◌≡◌, ◌+◌, ◌-◌, ◌≤◌, ◌^◌, ℕ, IfOk, length};
+ghost use Rattle.desk_base.specs.declared.limits.TheConstants.{MAX_ATTRIBUTES};
 ghost use Rattle.desk_words.specs.Tables.{published_of, rows_of};
 ghost use Rattle.desk_valid.specs.Valid.{AreValid};
 ghost use Rattle.machine_core.specs.Checked.{Gives};
@@ -30,6 +31,7 @@ pub fn assess(
     requires session { IsSessionOf (published_of (rows_of tables.now)) session.now }
     ensures assessment { IfOk result (λ answered. Gives
         (assessment_of (published_of (rows_of tables.now)) session.now) (Ok (assessed session.now answered))) }
+    ensures narrow { IfOk result (λ answered. length answered.shown.cells ≤ MAX_ATTRIBUTES) }
     ensures held { AreHeld (published_of (rows_of tables.now)) shelf.new }
     ensures room { IsFullRoom work.new }
 {

@@ -9,6 +9,7 @@ ghost use Rattle.machine_core.specs.Own.{IsOwn, after};
 ghost use Rattle.machine_core.specs.OwnRows.{HasOwnTarget, IsSoundDeed};
 ghost use Rattle.machine_core.specs.Shelves.{AreHeld, IsFirst, IsFullRoom};
 ghost use Rattle.machine_views.specs.Doing.{DoesAsTold, PutsBatch, PutsOne, StandsFirst};
+ghost use Rattle.machine_views.specs.Looking.{IsSessionFirst, IsTargetFirst};
 
 use crate::batches::{batched, put_verdicts, session_verdicts, sessions_in};
 use crate::views::view_of;
@@ -19,7 +20,8 @@ use machine_core::{Deed, Own};
 use master_index::Shelf;
 use std::alloc::Global;
 
-/// The reply of a clerk's act, whose target is a place counted from 0: what is replied to its repeat.
+/// The reply of a clerk's act, whose target is a place counted from 0: what is replied to its repeat. The edition of a
+/// session that is shown comes first on the shelf.
 pub fn kept_reply(
     alloc: Global,
     tables: &Tables,
@@ -36,6 +38,7 @@ pub fn kept_reply(
     requires target { HasOwnTarget own.now act target }
     ensures reply { IfOk result
         (λ reply. Gives (kept_reply (published_of (rows_of tables.now)) own.now act target) (Ok reply)) }
+    ensures first { OnOk result (IsTargetFirst own.now.sessions act target shelf.new) }
     ensures held { AreHeld (published_of (rows_of tables.now)) shelf.new }
     ensures room { IsFullRoom work.new }
 {
@@ -49,7 +52,7 @@ pub fn kept_reply(
     }
 }
 
-/// The session at a place, counted from 0, as it stands.
+/// The session at a place, counted from 0, as it stands. Its edition comes first on the shelf.
 fn view_kept(
     alloc: Global,
     tables: &Tables,
@@ -65,6 +68,7 @@ fn view_kept(
     requires place { place < length own.now.sessions }
     ensures view { IfOk result
         (λ view. Gives (view_at (published_of (rows_of tables.now)) own.now (place + 1)) (Ok view)) }
+    ensures first { OnOk result (IsSessionFirst own.now.sessions (place + 1) shelf.new) }
     ensures held { AreHeld (published_of (rows_of tables.now)) shelf.new }
     ensures room { IsFullRoom work.new }
 {

@@ -1,8 +1,11 @@
-//! What a clerk looks at, one look a file.
+//! What a caller looks at, one look a file.
+mod counts;
 mod records;
+mod report;
 mod suggest;
 mod view;
 
 pub use records::records_of;
+pub use report::{clerk_report, desk_report};
 pub use suggest::suggestion_of;
 pub use view::view_at;

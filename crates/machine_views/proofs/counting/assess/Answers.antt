@@ -1,4 +1,4 @@
-use Rattle.std.proofs.Common.{Ok}
+use Rattle.std.proofs.Common.{◌≤◌, Ok, arith, length}
 use Rattle.std.proofs.lemmas.Result.{IfOk-weaker}
 use Rattle.desk_words.specs.Tables.{published_of, rows_of}
 use Rattle.machine_core.specs.Checked.{Gives}
@@ -24,3 +24,12 @@ returns-clause-assessment c =
     (λ answered. Gives (assessment_of published session) (Ok (assessed session answered)))
     (λ answered is. assessment-given published session shelved c.answer_to.new.work answered book.bound is)
     c.answer_to.ensures.answered
+
+pub returns-clause-narrow : goal.returns-clause-narrow
+returns-clause-narrow c =
+    let shelved = c.book_for-shelved.result.now in
+    let book = c.book_for-shelved.ensures (rows_of c.args.tables.now) c.requires.valid c.in_ok-hold.ensures.held
+    c.requires.session in
+    IfOk-weaker c.answer_to.result (IsAnswered shelved c.args.session.now c.answer_to.new.work)
+    (λ answered. length answered.shown.cells ≤ 48)
+    (λ answered is. omega (arith, is.fits.cells, book.suits.book.named.valid.narrow)) c.answer_to.ensures.answered

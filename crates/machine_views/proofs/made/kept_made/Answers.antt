@@ -8,7 +8,8 @@ use Rattle.desk_valid.specs.Rows.Clerk.{HasTarget}
 use Rattle.machine_core.specs.Checked.{Gives}
 use Rattle.machine_core.specs.Kept.{kept_made, region_made}
 use Rattle.machine_views.proofs.Keeping.{stands-read}
-use Rattle.machine_views.proofs.Making.{clerk-given, edition-given, master-given, region-kept, rulebook-given, schema-given}
+use Rattle.machine_views.proofs.Making.{clerk-given, edition-given, master-given, region-kept, rulebook-given}
+use Rattle.machine_views.proofs.Making.{schema-given}
 use Rattle.machine_views.proofs.made.kept_made.Goals as goal
 
 pub returns-in_ok-copy-in-Clerk-clause-made : goal.returns-in_ok-copy-in-Clerk-clause-made

@@ -17,7 +17,8 @@ rows-preserved c =
     let find = λ (texts : List (List ℕ)). answer_for book (row_state book.width region.attrs texts) in
     let item = rw c.as_slice-texts-items.ensures at c.texts-item.is in
     record {
-      counted = AreCounted-next find (λ one. one.verdict) region.rows place c.texts-item.result answer c.rows.verdicts c.with-verdicts.result within item
+      counted = AreCounted-next find (λ one. one.verdict) region.rows place c.texts-item.result answer c.rows.verdicts
+          c.with-verdicts.result within item
           c.rows.invariant.counted (answer, is, refl) c.with-verdicts.ensures.more;
       few = c.with-verdicts.ensures.most place c.rows.invariant.few;
       room = record {

@@ -1,0 +1,218 @@
+//! Report: a line for each edition, over a clerk's sessions or over all.
+ghost use Rattle.std.specs.Prelude.{◌≡◌, ◌+◌, ◌<◌, ◌^◌, ◌++◌, ℕ, All, IfOk, IfSome, List, None, Some, length};
+ghost use Rattle.std.specs.Prelude.{option_map, sum_by};
+ghost use Rattle.std.specs.List.{flat_map};
+ghost use Rattle.desk_words.specs.declared.rows.session.SessionRow.{SessionRow as RowOf};
+ghost use Rattle.desk_words.specs.Tables.{published_of, rows_of};
+ghost use Rattle.desk_valid.specs.Valid.{AreValid};
+ghost use Rattle.machine_core.specs.Checked.{Gives};
+ghost use Rattle.machine_core.specs.Look.Report.{report_of};
+ghost use Rattle.machine_core.specs.Own.{IsOwn};
+ghost use Rattle.machine_core.specs.Sessions.{IsSessionOf};
+ghost use Rattle.machine_core.specs.Shelves.{AreHeld, IsFullRoom};
+ghost use Rattle.machine_views.specs.Reporting.{AreCountsOn, AreFew, AreLinesOver, all_sessions, line_of, sessions_of};
+
+use crate::counting::assess;
+use crate::looks::counts::Counts;
+use desk_base::{Duplicate, List, NoMemory, Text};
+use desk_valid::own_list;
+use desk_words::{EditionRow, ReportLine, ReportSheet, SessionRow, Tables};
+use fix_engine::Work;
+use machine_core::Own;
+use master_index::Shelf;
+use std::alloc::Global;
+
+/// A clerk's report: a line for each edition, over the clerk's sessions.
+pub fn clerk_report(
+    alloc: Global,
+    tables: &Tables,
+    shelf: &mut Shelf,
+    work: &mut Work,
+    own: &Own,
+) -> Result<ReportSheet, NoMemory>
+    requires valid { AreValid (rows_of tables.now) }
+    requires held { AreHeld (published_of (rows_of tables.now)) shelf.old }
+    requires room { IsFullRoom work.old }
+    requires own { IsOwn (rows_of tables.now) own.now }
+    ensures report { IfOk result (λ sheet. Gives
+        (report_of (published_of (rows_of tables.now)) (Some own.now.row.name) own.now.sessions) (Ok sheet)) }
+    ensures held { AreHeld (published_of (rows_of tables.now)) shelf.new }
+    ensures room { IsFullRoom work.new }
+{
+    let clerk = own.row().name.copy()?;
+    let lines = lines_over(alloc, tables, shelf, work, Some(own.sessions()))?;
+    Ok(sheet(Some(clerk), lines))
+}
+
+/// The desk's report: a line for each edition, over the sessions of all clerks.
+pub fn desk_report(
+    alloc: Global,
+    tables: &Tables,
+    shelf: &mut Shelf,
+    work: &mut Work,
+) -> Result<ReportSheet, NoMemory>
+    requires valid { AreValid (rows_of tables.now) }
+    requires held { AreHeld (published_of (rows_of tables.now)) shelf.old }
+    requires room { IsFullRoom work.old }
+    ensures report { IfOk result (λ sheet. Gives (report_of (published_of (rows_of tables.now)) None
+        (flat_map (λ sessions. sessions) (rows_of tables.now).sessions)) (Ok sheet)) }
+    ensures held { AreHeld (published_of (rows_of tables.now)) shelf.new }
+    ensures room { IsFullRoom work.new }
+{
+    let lines = lines_over(alloc, tables, shelf, work, None)?;
+    Ok(sheet(None, lines))
+}
+
+/// A sheet of lines, with the sum of their sessions.
+fn sheet(clerk: Option<Text>, lines: List<ReportLine>) -> ReportSheet
+    requires { sum_by (λ line. line.sessions) lines < 2 ^ 64 }
+    ensures { result ≡ record { clerk = clerk; lines = lines; total = sum_by (λ line. line.sessions) lines } }
+{
+    let total = lines.as_slice().iter().map(|line| line.sessions).sum();
+    ReportSheet {
+        clerk,
+        lines,
+        total,
+    }
+}
+
+/// A line for each edition in their order, over a clerk's own sessions, or where none are named over all.
+fn lines_over(
+    alloc: Global,
+    tables: &Tables,
+    shelf: &mut Shelf,
+    work: &mut Work,
+    own: Option<&[SessionRow]>,
+) -> Result<List<ReportLine>, NoMemory>
+    requires valid { AreValid (rows_of tables.now) }
+    requires held { AreHeld (published_of (rows_of tables.now)) shelf.old }
+    requires room { IsFullRoom work.old }
+    requires sessions { IfSome own (λ sessions. All (IsSessionOf (published_of (rows_of tables.now))) sessions.now) }
+    requires short { IfSome own (λ sessions. length sessions.now < 2 ^ 31) }
+    ensures lines { IfOk result (AreLinesOver (published_of (rows_of tables.now))
+        (sessions_of (rows_of tables.now) (option_map (λ sessions. sessions.now) own.entry))
+        (length tables.now.editions.items)) }
+    ensures few { IfOk result (λ lines. sum_by (λ line. line.sessions) lines < 2 ^ 64) }
+    ensures held { AreHeld (published_of (rows_of tables.now)) shelf.new }
+    ensures room { IsFullRoom work.new }
+{
+    let mut lines = List::new(alloc);
+    'editions: for edition in 0..tables.editions.len() {
+        let counts = counts_on(alloc, tables, shelf, work, own, edition as u32)?;
+        lines.push(report_line(&tables.editions.as_slice()[edition], counts)?)?;
+    }
+    Ok(lines)
+}
+
+/// The line of an edition with these counts.
+fn report_line(edition: &EditionRow, counts: Counts) -> Result<ReportLine, NoMemory>
+    ensures { IfOk result (λ line. line ≡ line_of edition.now counts) }
+{
+    Ok(ReportLine {
+        edition: edition.name.copy()?,
+        version: edition.version,
+        sessions: counts.sessions,
+        active: counts.stages.active,
+        committed: counts.stages.committed,
+        abandoned: counts.stages.abandoned,
+        certain: counts.verdicts.certain,
+        partial: counts.verdicts.partial,
+        conflict: counts.verdicts.conflict,
+        confirmed: counts.cells.confirmed,
+        fixed: counts.cells.fixed,
+        uncovered: counts.cells.uncovered,
+    })
+}
+
+/// The sessions on an edition, counted: a clerk's own, or where none are named those of all.
+fn counts_on(
+    alloc: Global,
+    tables: &Tables,
+    shelf: &mut Shelf,
+    work: &mut Work,
+    own: Option<&[SessionRow]>,
+    edition: u32,
+) -> Result<Counts, NoMemory>
+    requires valid { AreValid (rows_of tables.now) }
+    requires held { AreHeld (published_of (rows_of tables.now)) shelf.old }
+    requires room { IsFullRoom work.old }
+    requires sessions { IfSome own (λ sessions. All (IsSessionOf (published_of (rows_of tables.now))) sessions.now) }
+    requires short { IfSome own (λ sessions. length sessions.now < 2 ^ 31) }
+    ensures counts { IfOk result (AreCountsOn (published_of (rows_of tables.now)) edition
+        (sessions_of (rows_of tables.now) (option_map (λ sessions. sessions.now) own.entry))) }
+    ensures few { IfOk result (AreFew (2 ^ 40)) }
+    ensures held { AreHeld (published_of (rows_of tables.now)) shelf.new }
+    ensures room { IsFullRoom work.new }
+{
+    match own {
+        Some(sessions) => counted(
+            alloc,
+            tables,
+            shelf,
+            work,
+            sessions,
+            edition,
+            Counts::none(),
+        ),
+        None => all_counted(alloc, tables, shelf, work, edition),
+    }
+}
+
+/// The sessions of all clerks on an edition, counted.
+fn all_counted(
+    alloc: Global,
+    tables: &Tables,
+    shelf: &mut Shelf,
+    work: &mut Work,
+    edition: u32,
+) -> Result<Counts, NoMemory>
+    requires valid { AreValid (rows_of tables.now) }
+    requires held { AreHeld (published_of (rows_of tables.now)) shelf.old }
+    requires room { IsFullRoom work.old }
+    ensures counts { IfOk result
+        (AreCountsOn (published_of (rows_of tables.now)) edition (all_sessions (rows_of tables.now))) }
+    ensures few { IfOk result (AreFew (2 ^ 40)) }
+    ensures held { AreHeld (published_of (rows_of tables.now)) shelf.new }
+    ensures room { IsFullRoom work.new }
+{
+    let mut counts = Counts::none();
+    'clerks: for clerk in 0..tables.sessions.len() {
+        let sessions = own_list(&tables.sessions, clerk);
+        counts = counted(alloc, tables, shelf, work, sessions, edition, counts)?;
+    }
+    Ok(counts)
+}
+
+/// The sessions on an edition among these, counted with those before.
+fn counted(
+    alloc: Global,
+    tables: &Tables,
+    shelf: &mut Shelf,
+    work: &mut Work,
+    sessions: &[SessionRow],
+    edition: u32,
+    before: Counts,
+) -> Result<Counts, NoMemory>
+    requires valid { AreValid (rows_of tables.now) }
+    requires held { AreHeld (published_of (rows_of tables.now)) shelf.old }
+    requires room { IsFullRoom work.old }
+    requires sessions { All (IsSessionOf (published_of (rows_of tables.now))) sessions.now }
+    requires short { length sessions.now < 2 ^ 31 }
+    requires few { AreFew (2 ^ 40) before }
+    ensures counts { IfOk result (λ counts. (earlier : List RowOf)
+        → AreCountsOn (published_of (rows_of tables.now)) edition earlier before
+        → AreCountsOn (published_of (rows_of tables.now)) edition (earlier ++ sessions.now) counts) }
+    ensures most { IfOk result
+        (λ counts. (most : ℕ) → AreFew most before → AreFew (most + length sessions.now) counts) }
+    ensures held { AreHeld (published_of (rows_of tables.now)) shelf.new }
+    ensures room { IsFullRoom work.new }
+{
+    let mut counts = before;
+    'sessions: for session in sessions {
+        if session.edition == edition {
+            let answered = assess(alloc, tables, shelf, work, session)?;
+            counts = counts.with(session, &answered);
+        }
+    }
+    Ok(counts)
+}
