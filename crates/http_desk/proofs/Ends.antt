@@ -1,5 +1,5 @@
 -- How a stream ends.
-use Rattle.std.proofs.Common.{◌≡◌, inl, inr, ◌∙◌, ℕ, ◌+◌, ◌-◌, ◌<◌, ◌≤◌, ◌==◌, Bool, true, List, [], ◌∷◌, ◌++◌, length}
+use Rattle.std.proofs.Common.{◌≡◌, inl, inr, ◌∙◌, ℕ, ◌+◌, ◌<◌, ◌≤◌, ◌==◌, Bool, true, List, [], ◌∷◌, ◌++◌, length}
 use Rattle.std.proofs.Common.{take, refl, sym, subst, arith, length-append, append-nil, Err}
 use Rattle.std.specs.Prelude.{◌↔◌, IsTrue}
 use Rattle.std.specs.Io.KnownBytes.{Appends, IsAtEnd}
@@ -19,17 +19,16 @@ use Rattle.http_cut.proofs.Cuts.{IsBadRest-append}
 use Rattle.http_cut.proofs.Waiting.{Consumes-none}
 use Rattle.http_desk.specs.declared.serving.Ended.{Ended}
 use Rattle.http_desk.specs.declared.serving.Ended.TheVariants as ended
-use Rattle.http_desk.specs.Answered.{Answered, IsAnswered, asks_head, requests, texts}
+use Rattle.http_desk.specs.Answered.{Answered, HasNoRoom, IsAnswered, asks_head, requests, texts}
 use Rattle.http_desk.specs.Commands.{command_for}
 use Rattle.http_desk.specs.Refusals.{refused_rest, refusal_text}
 use Rattle.http_desk.specs.Scenes.{Scene, Later}
 use Rattle.http_desk.specs.Streams.{Progress, Serves, IsRestText, IsEndOf, RefusesRest, AnswersAll}
-use Rattle.http_desk.specs.Streams.{EndsStream, bad_end}
-use Rattle.http_desk.specs.Streams.{IsFaultless, TakesText, fault_end}
+use Rattle.http_desk.specs.Streams.{CutsEnd, CutsText, EndsStream, IsFaultless, bad_end, fault_end}
 use Rattle.http_desk.proofs.Cutting.{Begins-more, AsksHead-append, open_end}
 use Rattle.http_desk.proofs.Progress.{Progress-takes, failures-push, texts-push}
 use Rattle.http_desk.proofs.Underway.{Serving, Serving-none, Serving-takes, Serving-weighs, answered}
-use Rattle.http_desk.proofs.Taking.{some_left, none_left}
+use Rattle.http_desk.proofs.Taking.{HasNoRoom-behind, some_left, none_left}
 
 -- no count fell twice
 pub Later-then : (old mid new : Scene) → Later old mid → Later mid new → Later old new
@@ -200,17 +199,6 @@ ends_intake reads takes taking keeps limit old mid new count window now intake.N
     ends_no_memory reads takes taking keeps limit old mid new count window s below fetched later written tables told
     faults
 
--- a sink that has room for all texts and one more has room for that one behind them
-room_left : (keeps : Type 0) (takes taking : ℕ → Type 0) (limit : ℕ) (old mid : Scene) (count : ℕ)
-    (window text : List ℕ)
-    (s : Serving keeps takes taking limit old mid count window) → takes (length (texts s.answers ++ text))
-    → taking (length text)
-room_left keeps takes taking limit old mid count window text s room =
-    let size = length-append (texts s.answers) text in
-    let rest = s.room (length (texts s.answers ++ text)) room (omega arith) in
-    let same : length (texts s.answers ++ text) - length (texts s.answers) ≡ length text = omega arith in
-    subst taking same rest
-
 -- ---- a bad rest
 
 -- the bytes go on behind a bad rest
@@ -266,7 +254,7 @@ ends_refused reads takes taking keeps limit old mid new count window kind asks e
     read_faults tables told faults =
     let text : List ℕ = refusal_text (refused_rest kind) true asks in
     let left = some_left old.left mid.left s.taken s.progress.took in
-    let cut = bad_cut keeps takes taking limit old mid new count window left.0 left.1 kind s below wrong left.2.split in
+    let all = bad_cut keeps takes taking limit old mid new count window left.0 left.1 kind s below wrong left.2.split in
     let due = rest_text window left.1 kind asks wrong is in
     let later : Later old new = record {
       read_faults = rw read_faults s.later.read_faults;
@@ -282,7 +270,7 @@ ends_refused reads takes taking keeps limit old mid new count window kind asks e
       failed = rw faults s.progress.failed;
     } in
     elim refuses.ends [
-      | inl all ↦
+      | inl full ↦
           let apart = no_fault kind in
           record {
             streams = record {
@@ -294,16 +282,23 @@ ends_refused reads takes taking keeps limit old mid new count window kind asks e
               left = rw same left.2;
               progress = progress;
               later = later;
-              ends = rw all.0 (ends_badly limit old new left.0 s.taken s.answers window left.1 kind text cut due
-                  (Appends-then old.written mid.written new.written (texts s.answers) text s.written all.1));
+              ends = rw full.0 (ends_badly limit old new left.0 s.taken s.answers window left.1 kind text all due
+                  (Appends-then old.written mid.written new.written (texts s.answers) text s.written full.1));
             };
-            read = λ _ e. apart.0 (sym all.0 ∙ e);
-            written = λ e. absurd (apart.1 (sym all.0 ∙ e));
+            read = λ _ e. apart.0 (sym full.0 ∙ e);
+            written = λ e. absurd (apart.1 (sym full.0 ∙ e));
             available = s.settled;
           }
       | inr part ↦
           let front : Appends old.written new.written (texts s.answers ++ take part.1.0 text) =
           Appends-then old.written mid.written new.written (texts s.answers) (take part.1.0 text) s.written part.1.2 in
+          let cut : CutsEnd old.written new.written s.answers (window ++ left.1) kind = record {
+            text = text;
+            due = due;
+            count = part.1.0;
+            part = part.1.1;
+            written = front;
+          } in
           let before = s.later.write_faults in
           let rose = part.2 in
           record {
@@ -316,52 +311,28 @@ ends_refused reads takes taking keeps limit old mid new count window kind asks e
               left = rw same left.2;
               progress = progress;
               later = later;
-              ends = rw part.0 (
-                inr (
-                  kind,
-                  cut,
-                  record {
-                    text = text;
-                    due = due;
-                    count = part.1.0;
-                    part = part.1.1;
-                    written = front;
-                  },
-                ),
-                omega arith,
-              );
+              ends = rw part.0 (inr (kind, all, cut), omega arith);
             };
             read = λ _ e. let apart = sym part.0 ∙ e in cc;
-            written = λ _. (
-              texts s.answers ++ text,
-              record {
-                bytes = left.0;
-                had = left.2.had;
-                answers = s.answers;
-                rest = window ++ left.1;
-                begins = cut.0.begins;
-                served = s.progress.served;
-                is = inr (kind, text, cut.0.ends, due, refl);
-              },
-              λ room. part.3 (room_left keeps takes taking limit old mid count window text s room),
-            );
+            written = λ _.
+                inr (kind, cut, all.0.ends, HasNoRoom-behind takes taking (texts s.answers) text s.room part.3);
             available = s.settled;
           }
     ]
 
 -- ---- a response in part
 
-pub ends_write_fault : (reads : Type 0) (takes taking took : ℕ → Type 0) (keeps keeping : Type 0) (limit : ℕ)
+pub ends_write_fault : (reads : Type 0) (takes taking : ℕ → Type 0) (keeps keeping : Type 0) (limit : ℕ)
     (old mid new : Scene) (count : ℕ) (window : List ℕ) (request : WholeRequest) (behind text : List ℕ)
     → Serving keeps takes taking limit old mid count window → count < limit
     → BeginsRequest window request.0 request.1 behind
     → IsAnswered keeping mid.tables (command_for request) ((count + 1) == limit) (asks_head request) new.tables text
     mid.faults new.faults
     → IfTold new.told new.tables → new.left ≡ mid.left → AppendsPart mid.written new.written text
-    → Rose mid.write_faults new.write_faults → ¬ (taking (length text)) → (keeps → keeping)
+    → Rose mid.write_faults new.write_faults → HasNoRoom taking text → (keeps → keeping)
     → new.read_faults ≡ mid.read_faults → mid.write_faults ≤ new.write_faults
     → Serves reads takes keeps limit old new ended.WriteFault
-ends_write_fault reads takes taking took keeps keeping limit old mid new count window request behind text s below whole
+ends_write_fault reads takes taking keeps keeping limit old mid new count window request behind text s below whole
     h told same written rose full keeping_it read_faults write_faults =
     let last : Answered = answered request h in
     let answers : List Answered = s.answers ++ last ∷ [] in
@@ -370,8 +341,15 @@ ends_write_fault reads takes taking took keeps keeping limit old mid new count w
     let left = some_left old.left new.left s.taken progress.took in
     let before = s.later.write_faults in
     let size : length answers ≤ limit = omega (arith, s.counted, length-append s.answers (last ∷ [])) in
-    let all : Begins left.0 (requests answers) (behind ++ left.1) =
-    rw left.2.split (Begins-more s.taken (requests answers) behind left.1 progress.begins) in
+    let cut : CutsText old.written new.written answers = record {
+      front = s.answers;
+      last = last;
+      are = refl;
+      count = written.0;
+      part = written.1;
+      written = Appends-then old.written mid.written new.written (texts s.answers) (take written.0 text) s.written
+          written.2;
+    } in
     record {
       streams = record {
         bytes = left.0;
@@ -386,49 +364,26 @@ ends_write_fault reads takes taking took keeps keeping limit old mid new count w
           write_faults = omega arith;
           faults = omega (arith, s.later.faults, h.later);
         };
-        ends = (
-          inl (
-            record {
-              front = s.answers;
-              last = last;
-              are = refl;
-              count = written.0;
-              part = written.1;
-              written = Appends-then old.written mid.written new.written (texts s.answers) (take written.0 text)
-                  s.written written.2;
-            },
-            size,
-          ),
-          omega arith,
-        );
+        ends = (inl (cut, size), omega arith);
       };
       read = λ _ e. cc;
-      written = λ _. (
-        texts answers,
-        record {
-          bytes = left.0;
-          had = left.2.had;
-          answers = answers;
-          rest = behind ++ left.1;
-          begins = all;
-          served = progress.served;
-          is = inl refl;
-        },
-        λ room. full (room_left keeps takes taking limit old mid count window text s
-            (subst (λ (t : List ℕ). takes (length t)) (texts-push s.answers last) room)),
-      );
+      written = λ _.
+          inl (
+            cut,
+            subst (λ (t : List ℕ). HasNoRoom takes t) (sym (texts-push s.answers last))
+                (HasNoRoom-behind takes taking (texts s.answers) text s.room full),
+          );
       available = λ is. rw (failures-push s.answers last, s.settled is, h.settled (keeping_it is)) refl;
     }
 
 -- ---- steady devices
 
--- over devices that do not fail no fault comes
+-- over devices that do not fail no fault comes, but for want of room
 pub faultless : (reads : Type 0) (takes : ℕ → Type 0) (keeps : Type 0) (limit : ℕ) (old new : Scene) (end : Ended)
-    → Serves reads takes keeps limit old new end → reads → keeps → TakesText takes limit old
-    → IsFaultless limit old new end
-faultless reads takes keeps limit old new end s steady settled room = record {
+    → Serves reads takes keeps limit old new end → reads → keeps → IsFaultless takes limit old new end
+faultless reads takes keeps limit old new end s steady settled = record {
   streams = s.streams;
   available = s.available settled;
   read = s.read steady;
-  written = λ e. let full = s.written e in full.2 (room full.0 full.1);
+  written = s.written;
 }

@@ -1,8 +1,10 @@
 -- Known bytes that are taken of a source, and what a sink has room for.
 use Rattle.std.proofs.Common.{◌≡◌, ◌∙◌, ◌+◌, ◌-◌, ◌++◌, ap, sym, refl, subst, arith, List, [], ℕ, append-nil}
+use Rattle.std.proofs.Common.{length, length-append}
+use Rattle.std.proofs.Math.Nat.{lt_of_not-le}
 use Rattle.std.specs.Prelude.{Option, Some, None}
 use Rattle.std.specs.Io.KnownBytes.{Appends, Consumes, IsAtEnd}
-use Rattle.http_desk.specs.Answered.{TakesRest}
+use Rattle.http_desk.specs.Answered.{HasNoRoom, TakesRest}
 use Rattle.http_desk.specs.Streams.{Left}
 
 -- what was taken stood before what is left, whether the source tells it or not
@@ -38,3 +40,12 @@ TakesRest-then old mid new first second h k room has enough =
     let rest = k (room - first) (h room has (omega arith)) (omega arith) in
     let same : room - first - second ≡ room - (first + second) = omega arith in
     subst new same rest
+
+-- a sink that took a front, and then has no room for a text, had none for both
+pub HasNoRoom-behind : (old new : ℕ → Type 0) (front text : List ℕ) → TakesRest old new (length front)
+    → HasNoRoom new text → HasNoRoom old (front ++ text)
+HasNoRoom-behind old new front text rest full room has =
+    let size = length-append front text in
+    lt_of_not-le (λ enough.
+    let less = full (room - length front) (rest room has (omega (arith, size, enough))) in
+    omega (arith, size, enough, less))

@@ -1,5 +1,5 @@
 -- Requests that were answered, one after another: what became of each, and what was written.
-use Rattle.std.specs.Prelude.{◌≡◌, ◌≢◌, ℕ, ◌+◌, ◌-◌, ◌^◌, ◌≤◌, ◌==◌, min, Bool, List, [], ◌∷◌, map, codes, Option}
+use Rattle.std.specs.Prelude.{◌≡◌, ◌≢◌, ℕ, ◌+◌, ◌-◌, ◌^◌, ◌<◌, ◌≤◌, ◌==◌, min, Bool, List, [], ◌∷◌, map, codes, Option}
 use Rattle.std.specs.Prelude.{Result, Ok, Err, OnOk, OnErr, length, ⊤}
 use Rattle.std.specs.Io.KnownBytes.{Appends}
 use Rattle.std.specs.List.{flat_map, sum_by}
@@ -85,6 +85,10 @@ text_bytes (Fixed text) = text.now
 abbrev pub TakesRest : (ℕ → Type 0) → (ℕ → Type 0) → ℕ → Type 0
 TakesRest old new count = (room : ℕ) → old room → count ≤ room → new (room - count)
 
+-- a text is longer than whatever room a sink has for sure
+abbrev pub HasNoRoom : (ℕ → Type 0) → List ℕ → Type 0
+HasNoRoom takes text = (room : ℕ) → takes room → room < length text
+
 -- a request was answered and its text written, or a part of it where the sink failed, which had no room for all of it
 pub record Responds (steady : Type 0) (takes taking : ℕ → Type 0) (before : Rows) (closing : Bool)
     (request : WholeRequest) (after : Rows) (faults now : ℕ) (old new : Option (List ℕ))
@@ -93,7 +97,7 @@ pub record Responds (steady : Type 0) (takes taking : ℕ → Type 0) (before : 
   pub answered : IsAnswered steady before (command_for request) closing (asks_head request) after text faults now
   pub written : OnOk result (Appends old new text)
   pub part : OnErr result (AppendsPart old new text)
-  pub full : OnErr result (¬ (takes (length text)))
+  pub full : OnErr result (HasNoRoom takes text)
   pub room : OnOk result (TakesRest takes taking (length text))
 
 -- ---- many requests

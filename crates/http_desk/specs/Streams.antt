@@ -12,7 +12,7 @@ use Rattle.http_cut.specs.Cut.{Begins, End, clean, bad, truncated, IsBadRest, Is
 use Rattle.http_cut.specs.Head.{AsksHead}
 use Rattle.http_desk.specs.declared.serving.Ended.{Ended}
 use Rattle.http_desk.specs.declared.serving.Ended.TheVariants as ended
-use Rattle.http_desk.specs.Answered.{Answered, Served, requests, texts, last_tables, failures, RoseBy}
+use Rattle.http_desk.specs.Answered.{Answered, HasNoRoom, Served, requests, texts, last_tables, failures, RoseBy}
 use Rattle.http_desk.specs.Refusals.{refused_rest, refusal_text}
 use Rattle.http_desk.specs.Scenes.{Scene, Later}
 
@@ -108,40 +108,31 @@ pub record Streams (limit : ℕ) (old new : Scene) (end : Ended) : Type 0 where
 
 -- ---- steady devices
 
--- all texts, and then the response to a bad rest
-abbrev pub EndsWithRest : List Answered → List ℕ → List ℕ → Type 0
-EndsWithRest answers rest text =
-    (kind : BadRest) × (due : List ℕ) × IsBadRest rest kind × IsRestText rest kind due × (text ≡ texts answers ++ due)
-
--- a text that may be due of a stream: the responses to requests at its front, and maybe the one to its bad rest
-pub record MayBeDue (limit : ℕ) (old : Scene) (text : List ℕ) : Type 0 where
-  pub bytes : List ℕ
-  pub had : IfShown old.left bytes
-  pub answers : List Answered
-  pub rest : List ℕ
-  pub begins : Begins bytes (requests answers) rest
-  pub served : Served limit 0 old.tables answers
-  pub is : (text ≡ texts answers) ⊎ EndsWithRest answers rest text
-
--- a sink that takes so many bytes takes whatever text may be due
-abbrev pub TakesText : (ℕ → Type 0) → ℕ → Scene → Type 0
-TakesText takes limit old = (text : List ℕ) → MayBeDue limit old text → takes (length text)
+-- the sink ran out of room: it had none for the texts of all answers, the last of which it took in part, or none for
+-- these and then the response to the bad rest, which it took in part
+abbrev pub RunsOut : (ℕ → Type 0) → Option (List ℕ) → Option (List ℕ) → List Answered → List ℕ → Type 0
+RunsOut takes old new answers rest = (CutsText old new answers × HasNoRoom takes (texts answers))
+    ⊎ ((kind : BadRest) × (cut : CutsEnd old new answers rest kind) × IsBadRest rest kind
+    × HasNoRoom takes (texts answers ++ cut.text))
 
 -- what serving a stream leaves, over a source that is read without fail, a sink that takes so many bytes, and a keeper
--- that keeps without fail, where they promise it: no end is a fault, and no answer says that the keeper failed
+-- that keeps without fail, where they promise it: no read fails, a write only for want of room for what is due, and no
+-- answer says that the keeper failed
 pub record Serves (reads : Type 0) (takes : ℕ → Type 0) (keeps : Type 0) (limit : ℕ) (old new : Scene) (end : Ended)
     : Type 0 where
   pub streams : Streams limit old new end
   pub read : reads → end ≢ ended.ReadFault
-  pub written : end ≡ ended.WriteFault → (text : List ℕ) × MayBeDue limit old text × ¬ (takes (length text))
+  pub written : end ≡ ended.WriteFault
+      → RunsOut takes old.written new.written streams.answers (streams.rest ++ streams.after)
   pub available : keeps → failures streams.answers ≡ 0
 
--- no end is a fault, and no answer says that the keeper failed
-pub record IsFaultless (limit : ℕ) (old new : Scene) (end : Ended) : Type 0 where
+-- no read failed, no answer says that the keeper did, and a write failed only for want of room for what was due
+pub record IsFaultless (takes : ℕ → Type 0) (limit : ℕ) (old new : Scene) (end : Ended) : Type 0 where
   pub streams : Streams limit old new end
   pub available : failures streams.answers ≡ 0
   pub read : end ≢ ended.ReadFault
-  pub written : end ≢ ended.WriteFault
+  pub written : end ≡ ended.WriteFault
+      → RunsOut takes old.written new.written streams.answers (streams.rest ++ streams.after)
 
 -- ---- ends
 
@@ -180,4 +171,4 @@ pub record RefusesRest (takes : ℕ → Type 0) (old new : Option (List ℕ)) (f
     (text : List ℕ) (end : Ended) : Type 0 where
   pub later : faults ≤ now
   pub ends : ((end ≡ bad_end kind) × Appends old new text)
-      ⊎ ((end ≡ ended.WriteFault) × AppendsPart old new text × Rose faults now × ¬ (takes (length text)))
+      ⊎ ((end ≡ ended.WriteFault) × AppendsPart old new text × Rose faults now × HasNoRoom takes text)

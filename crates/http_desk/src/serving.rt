@@ -3,7 +3,7 @@ ghost use Rattle.std.specs.Prelude.{◌≡◌, ◌≤◌, true, length};
 ghost use Rattle.keeper_core.specs.Keeping.{IfTold};
 ghost use Rattle.http_desk.specs.Refusals.{refused_rest, refusal_text};
 ghost use Rattle.http_desk.specs.Scenes.{scene};
-ghost use Rattle.http_desk.specs.Streams.{IsEndOf, IsFaultless, RefusesRest, Serves, Streams, TakesText, bad_end};
+ghost use Rattle.http_desk.specs.Streams.{IsEndOf, IsFaultless, RefusesRest, Serves, Streams, bad_end};
 ghost use Rattle.http_desk.specs.Streams.{fault_end};
 
 use crate::answering::respond;
@@ -53,11 +53,10 @@ pub fn serve_stream<M: Machine, K: Keeper, S: Source, W: Sink>(
         Streams limit (scene link.old.source link.old.sink machine.old keeper.old)
         (scene link.new.source link.new.sink machine.new keeper.new) result }
 
-    // Over devices that do not fail no fault comes.
+    // Over a source and a keeper that do not fail no fault comes, but for want of room for what is due of this stream.
     ensures complete { let scene = scene S.left S.read_faults W.written W.write_faults M.rows K.tables K.faults in
         S.is_steady link.old.source → K.is_steady keeper.old
-        → TakesText (W.takes link.old.sink) limit (scene link.old.source link.old.sink machine.old keeper.old)
-        → IsFaultless limit (scene link.old.source link.old.sink machine.old keeper.old)
+        → IsFaultless (W.takes link.old.sink) limit (scene link.old.source link.old.sink machine.old keeper.old)
         (scene link.new.source link.new.sink machine.new keeper.new) result }
 {
     let routes = match Routes::new(alloc) {

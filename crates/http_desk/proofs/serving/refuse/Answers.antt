@@ -1,7 +1,9 @@
-use Rattle.std.proofs.Common.{◌≡◌, ◌∙◌, ap, arith, inl, inr, length, List, refl, subst, sym, true, ℕ}
+use Rattle.std.proofs.Common.{◌≡◌, ◌∙◌, ap, inl, inr, List, refl, subst, true, ℕ}
+use Rattle.std.proofs.Math.Nat.{lt_of_not-le}
 use Rattle.std.specs.Io.KnownBytes.{Appends}
 use Rattle.desk_base.specs.Faults.{AppendsPart}
 use Rattle.http_desk.specs.declared.refusal.Refused.{Refused}
+use Rattle.http_desk.specs.Answered.{HasNoRoom}
 use Rattle.http_desk.specs.Refusals.{refused_rest, refusal_text}
 use Rattle.http_desk.proofs.serving.refuse.Goals as goal
 
@@ -34,9 +36,7 @@ returns-in-Err g c =
         subst (λ (t : List ℕ). AppendsPart (g.W.Sink.written c.args.sink.now) (g.W.Sink.written c.write_all.new.sink) t)
             same c.in-Err.ensures.part,
         c.in-Err.ensures.cause.failed,
-        λ room.
-            let takes = subst (λ (t : List ℕ). g.W.Sink.takes c.args.sink.now (length t)) (sym same) room in
-            let no = (c.in-Err.ensures.takes (length c.as_bytes.result.now) takes (omega arith)).0 in
-            cc,
+        subst (λ (t : List ℕ). HasNoRoom (g.W.Sink.takes c.args.sink.now) t) same
+            (λ room has. lt_of_not-le (λ enough. let no = (c.in-Err.ensures.takes room has enough).0 in cc)),
       );
     }

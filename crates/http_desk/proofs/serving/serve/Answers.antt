@@ -106,7 +106,7 @@ returns-in-Err-respond g c =
     let responds : Responds keeping taking taken mid.tables ((c.requests.answered + 1) == c.args.limit) request
     now.tables
     mid.faults now.faults mid.written now.written (Err c.in-Err-respond.field-0) = answered stands.0 stands.1 in
-    ends_write_fault reads took taking taken keeps keeping c.args.limit old read now c.requests.answered window request
+    ends_write_fault reads took taking keeps keeping c.args.limit old read now c.requests.answered window request
     behind responds.text serving c.requests-test.true stands.2 responds.answered c.respond.ensures.told refl
     responds.part
     c.in-Err-respond.ensures.cause.failed responds.full c.requests.invariant.keeps refl c.respond.ensures.cause.later
