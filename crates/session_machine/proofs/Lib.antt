@@ -1,0 +1,9 @@
+pub mod ClerkDeeds
+pub mod ClerkOwn
+pub mod ClerkWrites
+pub mod ClerkLooks
+pub mod ClerkBooks
+pub mod MakingTold
+pub mod Stewards
+pub mod Held
+pub mod Weighed

@@ -1,0 +1,165 @@
+-- What a write of the steward makes, with its reply, by the row that is found.
+use Rattle.std.proofs.Common.{◌≡◌, ◌∙◌, ℕ, ◌<◌, List, [], ◌∷◌, ◌++◌, length, take, Some, refl, sym, ap, subst, arith}
+use Rattle.std.specs.Prelude.{Result, Ok, slice_get}
+use Rattle.std.proofs.lemmas.List.{take_all, take_at}
+use Rattle.desk_words.specs.declared.change.Change.{Change}
+use Rattle.desk_words.specs.declared.change.Change.TheVariants as change
+use Rattle.desk_words.specs.declared.made.Made.{Made}
+use Rattle.desk_words.specs.declared.made.Made.TheVariants as made
+use Rattle.desk_words.specs.declared.refusal.Kind.TheVariants as kind
+use Rattle.desk_words.specs.declared.refusal.Refusal.TheVariants.{NoSuch}
+use Rattle.desk_words.specs.declared.rows.act.Act.{Act}
+use Rattle.desk_words.specs.declared.rows.act.Act.TheVariants as act
+use Rattle.desk_words.specs.declared.rows.clerk.ClerkRow.{ClerkRow}
+use Rattle.desk_words.specs.declared.rows.master.MasterRow.{MasterRow}
+use Rattle.desk_words.specs.declared.rows.region.RegionRow.{RegionRow}
+use Rattle.desk_words.specs.declared.rows.schema.SchemaRow.{SchemaRow}
+use Rattle.desk_words.specs.declared.steward_work.StewardWork.{StewardWork}
+use Rattle.desk_words.specs.declared.steward_work.StewardWork.TheVariants.{AddClerk, AddSchema, AddMaster, AddRegion}
+use Rattle.desk_words.specs.Changes.{changed, put}
+use Rattle.desk_words.specs.Tables.{Rows, published_of}
+use Rattle.desk_valid.specs.declared.bound.Bound.{Bound}
+use Rattle.desk_valid.specs.Bindings.{bound_at}
+use Rattle.desk_valid.specs.Rows.Region.{IsRegionRow}
+use Rattle.desk_valid.specs.Valid.{AreValid}
+use Rattle.machine_core.specs.declared.making.Making.{Making}
+use Rattle.machine_core.specs.declared.stop.Stop.{Stop}
+use Rattle.machine_core.specs.Checked.{Checked, ◌>>=◌, certainly, done, some_or, Gives}
+use Rattle.machine_core.specs.Finding.{edition_named}
+use Rattle.machine_core.specs.Kept.{kept_made, region_made}
+use Rattle.machine_core.specs.Machine.{making_of}
+use Rattle.machine_core.specs.Outcomes.{Answers, Finds}
+use Rattle.machine_core.specs.Steward.AddClerk.{clerk_row}
+use Rattle.machine_core.specs.Steward.AddMaster.{master_row}
+use Rattle.machine_core.specs.Steward.AddRegion.{region_count, region_on, region_row}
+use Rattle.machine_core.specs.Steward.AddSchema.{schema_row}
+use Rattle.machine_core.proofs.Chains.{Gives-bind}
+use Rattle.machine_views.proofs.Making.{clerk-given, master-given, region-kept, schema-given}
+use Rattle.machine_laws.proofs.Accepted.{making-sound}
+use Rattle.machine_laws.proofs.Deeds.{put-end}
+use Rattle.session_machine.specs.Made.{made_by}
+
+-- an item behind others stands at their number
+slice_get-push : {T : Type 0} (items : List T) (item : T) → slice_get (items ++ item ∷ []) (length items) ≡ Some item
+slice_get-push [] item = refl
+slice_get-push (first ∷ items) item = slice_get-push items item
+
+-- what is answered of the rows and of the work is answered of equal ones
+pub Answers-made : {rows other : Rows} {work same : StewardWork} (result : Result (Made × Making) Stop) → rows ≡ other
+    → work ≡ same → Answers result (made_by rows same) → Answers result (made_by other work)
+Answers-made {rows} {other} {work} {same} result are is answers =
+    subst (λ (one : Rows). Answers result (made_by one work)) are
+    (subst (λ (one : StewardWork). Answers result (made_by rows one)) (sym is) answers)
+
+-- what is made is told by its kept reply over the rows after it
+made-told : (rows : Rows) (work : StewardWork) (making : Making) (told : Made) → making_of rows work ≡ done making
+    → Gives (kept_made (changed rows making.change) making.act making.target) (Ok told)
+    → Gives (made_by rows work) (Ok (told, making))
+made-told rows work making told makes kept =
+    let kept_by : Making → Checked Made = λ one. kept_made (changed rows one.change) one.act one.target in
+    let makes_it : Gives (making_of rows work) (Ok making) = subst (λ one. Gives one (Ok making)) (sym makes) refl in
+    Gives-bind (making_of rows work) (λ one. kept_by one >>= (λ made. done (made, one))) making (Ok (told, making))
+    makes_it (Gives-bind (kept_by making) (λ made. done (made, making)) told (Ok (told, making)) kept refl)
+
+-- a row of the steward's act, put at a place
+abbrev put_so : Change → Act → ℕ → Making
+put_so change act target = record { change = change; act = act; target = target }
+
+module _ (rows : Rows) (place : ℕ) (told : List ℕ) where
+  -- a new clerk
+  pub clerk-made : (name : List ℕ) (row : ClerkRow) → clerk_row rows.clerks name ≡ done row → told ≡ row.name
+      → place ≡ length rows.clerks
+      → Gives (made_by rows (AddClerk name)) (Ok (made.Clerk told, put_so (change.Clerk place row) act.Clerk place))
+  clerk-made name row found named last =
+      let Makes : ℕ → Type 0 = λ there.
+      Gives (made_by rows (AddClerk name)) (Ok (made.Clerk told, put_so (change.Clerk there row) act.Clerk there)) in
+      let end : ℕ = length rows.clerks in
+      let making : Making = put_so (change.Clerk end row) act.Clerk end in
+      let stands : slice_get (put rows.clerks end row) end ≡ Some row =
+      ap (λ list. slice_get list end) (put-end rows.clerks row) ∙ slice_get-push rows.clerks row in
+      subst Makes (sym last) (made-told rows (AddClerk name) making (made.Clerk told) (rw found refl)
+      (clerk-given (changed rows making.change) end told row stands named))
+
+  -- a new version of a schema's name
+  pub schema-made : (body : List ℕ) (row : SchemaRow) → schema_row rows.schemas body ≡ done row → told ≡ row.name
+      → place ≡ length rows.schemas
+      → Gives (made_by rows (AddSchema body))
+      (Ok (made.Schema told row.version, put_so (change.Schema row) act.Schema place))
+  schema-made body row found named last =
+      let making : ℕ → Making = λ there. put_so (change.Schema row) act.Schema there in
+      let end : ℕ = length rows.schemas in
+      subst (λ there. Gives (made_by rows (AddSchema body)) (Ok (made.Schema told row.version, making there)))
+      (sym last) (made-told rows (AddSchema body) (making end) (made.Schema told row.version) (rw found refl)
+      (schema-given (changed rows (change.Schema row)) end told row (slice_get-push rows.schemas row) named))
+
+  -- and of a master's
+  pub master-made : (name body : List ℕ) (row : MasterRow) → master_row rows.masters name body ≡ done row
+      → told ≡ row.name → place ≡ length rows.masters
+      → Gives (made_by rows (AddMaster name body))
+      (Ok (made.Master told row.version, put_so (change.Master row) act.Master place))
+  master-made name body row found named last =
+      let making : ℕ → Making = λ there. put_so (change.Master row) act.Master there in
+      let end : ℕ = length rows.masters in
+      subst (λ there. Gives (made_by rows (AddMaster name body)) (Ok (made.Master told row.version, making there)))
+      (sym last) (made-told rows (AddMaster name body) (making end) (made.Master told row.version) (rw found refl)
+      (master-given (changed rows (change.Master row)) end told row (slice_get-push rows.masters row) named))
+
+-- the row of a region on the edition that is named is found over that edition's attributes
+pub region-found : (rows : Rows) (name : List ℕ) (version : ℕ) (words : List (List ℕ))
+    (texts : List (List (List ℕ))) (place : ℕ) (bound : Bound) (regions : List RegionRow) (attributes : List (List ℕ))
+    (result : Result RegionRow Stop)
+    → some_or (edition_named rows.editions name version) (NoSuch kind.Edition) ≡ done place
+    → bound_at (published_of rows) place ≡ Some bound → regions ≡ rows.regions → attributes ≡ bound.names.attributes
+    → Finds result (region_on regions place attributes words texts)
+    → Finds result (region_row (published_of rows) name version words texts)
+region-found rows name version words texts place bound regions attributes result named is all wide finds =
+    let over : ℕ → Checked RegionRow = λ edition. certainly (bound_at (published_of rows) edition)
+    >>= (λ one. region_on rows.regions edition one.names.attributes words texts) in
+    let same : region_row (published_of rows) name version words texts
+    ≡ region_on rows.regions place bound.names.attributes words texts =
+    ap (λ (one : Checked ℕ). one >>= over) named
+    ∙ ap (λ one. certainly one >>= (λ found. region_on rows.regions place found.names.attributes words texts)) is in
+    subst (λ (one : Checked RegionRow). Finds result one) (sym same)
+    (subst (λ list. Finds result (region_on rows.regions place list words texts)) wide
+    (subst (λ list. Finds result (region_on list place attributes words texts)) all finds))
+
+-- the regions before a new one are all that there are
+before-new : (regions : List RegionRow) (row : RegionRow)
+    → take (length regions) (regions ++ row ∷ []) ≡ take (length regions) regions
+before-new regions row =
+    take_at regions (row ∷ []) (length regions) refl ∙ sym (take_all (length regions) regions (omega arith))
+
+module _ (rows : Rows) (name : List ℕ) (version : ℕ) (words : List (List ℕ)) (texts : List (List (List ℕ)))
+    (row : RegionRow) (found : region_row (published_of rows) name version words texts ≡ done row) where
+  -- a new region's row is good where it is put
+  pub region-good : AreValid rows → IsRegionRow (published_of rows) (length rows.regions) row
+  region-good valid =
+      let end : ℕ = length rows.regions in
+      let making : Making = put_so (change.Region row) act.Region end in
+      let sound = making-sound rows (AddRegion name version words texts) making valid (rw found refl) in
+      let good = sound.valid.regions end row (slice_get-push rows.regions row) in
+      record {
+        edition = good.edition;
+        few = subst (λ before. region_count before row.edition < 8) (before-new rows.regions row) good.few;
+        distinct = good.distinct;
+        within = good.within;
+        few_rows = good.few_rows;
+        whole = good.whole;
+      }
+
+  -- a new region
+  pub region-made : (place : ℕ) (told : Made) → place ≡ length rows.regions
+      → Gives (region_made (published_of rows) place row) (Ok told)
+      → Gives (made_by rows (AddRegion name version words texts))
+      (Ok (told, put_so (change.Region row) act.Region place))
+  region-made place told last gives =
+      let work : StewardWork = AddRegion name version words texts in
+      let making : ℕ → Making = λ there. put_so (change.Region row) act.Region there in
+      let end : ℕ = length rows.regions in
+      let next : Rows = changed rows (change.Region row) in
+      let here : Gives (region_made (published_of rows) end row) (Ok told) =
+      subst (λ there. Gives (region_made (published_of rows) there row) (Ok told)) last gives in
+      let after : Gives (region_made (published_of next) end row) (Ok told) = rw (before-new rows.regions row) here in
+      subst (λ there. Gives (made_by rows work) (Ok (told, making there))) (sym last)
+      (made-told rows work (making end) told (rw found refl)
+      (region-kept next end row told (slice_get-push rows.regions row) after))

@@ -1,0 +1,89 @@
+use Rattle.std.proofs.Common.{ℕ, List, Ok, Err, Some, subst, sym}
+use Rattle.desk_words.specs.declared.look.Look.{Look as LookOf}
+use Rattle.desk_words.specs.declared.reply.Reply.TheVariants as reply
+use Rattle.desk_words.specs.declared.view.View.{View}
+use Rattle.desk_words.specs.Tables.{published_of, rows_of}
+use Rattle.machine_core.specs.Checked.{Gives, done}
+use Rattle.machine_core.specs.Look.Preview.{preview}
+use Rattle.machine_core.specs.Look.Records.{records_of}
+use Rattle.machine_core.specs.Look.Report.{report_of}
+use Rattle.machine_core.specs.Look.Suggest.{suggestion_of}
+use Rattle.machine_core.specs.Look.View.{view_at}
+use Rattle.machine_core.specs.Machine.{look_reply}
+use Rattle.machine_core.specs.Outcomes.{Answers}
+use Rattle.machine_clerk.proofs.Answering.{Answers-stopped}
+use Rattle.session_machine.proofs.ClerkLooks.{reply-gives}
+use Rattle.session_machine.proofs.clerk.looking.look_reply.Goals as goal
+
+pub returns-in_err-view_at-in-View-clause-answers : goal.returns-in_err-view_at-in-View-clause-answers
+returns-in_err-view_at-in-View-clause-answers c =
+    let published = published_of (rows_of c.args.tables.now) in
+    let own = c.args.own.now in
+    let result = c.from_residual.result in
+    let Shown : LookOf → Type 0 = λ look. Answers result (look_reply published own look) in
+    subst Shown (sym c.in-View.is) (Answers-stopped (view_at published own c.in-View.session)
+    (λ one. done (reply.View one)) c.in_err-view_at-in-View.field-0.0 result c.from_residual.ensures.1
+    c.in_err-view_at-in-View.ensures.view)
+
+pub returns-in_err-suggested-in-Suggest-clause-answers : goal.returns-in_err-suggested-in-Suggest-clause-answers
+returns-in_err-suggested-in-Suggest-clause-answers c =
+    let published = published_of (rows_of c.args.tables.now) in
+    let own = c.args.own.now in
+    let result = c.from_residual-in_err-suggested-in-Suggest.result in
+    let Shown : LookOf → Type 0 = λ look. Answers result (look_reply published own look) in
+    subst Shown (sym c.in-Suggest.is) (Answers-stopped (suggestion_of published own c.in-Suggest.session)
+    (λ one. done (reply.Suggested one)) c.in_err-suggested-in-Suggest.field-0.0 result
+    c.from_residual-in_err-suggested-in-Suggest.ensures.1 c.in_err-suggested-in-Suggest.ensures.suggestion)
+
+pub returns-in_ok-preview-in-Preview-clause-answers : goal.returns-in_ok-preview-in-Preview-clause-answers
+returns-in_ok-preview-in-Preview-clause-answers c =
+    let published = published_of (rows_of c.args.tables.now) in
+    let own = c.args.own.now in
+    let number = c.in-Preview.session in
+    let found = c.in_ok-preview-in-Preview.field-0 in
+    let Typed : List (List ℕ × List ℕ) → Type 0 = λ cells. Gives (preview published own number cells) (Ok found) in
+    let Shown : LookOf → Type 0 = λ look. Gives (look_reply published own look) (Ok (reply.View found)) in
+    subst Shown (sym c.in-Preview.is) (reply-gives (preview published own number c.in-Preview.cells) reply.View found
+    (subst Typed c.as_slice-cells.ensures c.in_ok-preview-in-Preview.ensures.answers))
+
+pub returns-in_err-preview-in-Preview-clause-answers : goal.returns-in_err-preview-in-Preview-clause-answers
+returns-in_err-preview-in-Preview-clause-answers c =
+    let published = published_of (rows_of c.args.tables.now) in
+    let own = c.args.own.now in
+    let number = c.in-Preview.session in
+    let stop = c.in_err-preview-in-Preview.field-0.0 in
+    let result = c.from_residual-in_err-preview-in-Preview.result in
+    let Typed : List (List ℕ × List ℕ) → Type 0 = λ cells. Answers {A = View} (Err stop) (preview published own number
+    cells) in
+    let Shown : LookOf → Type 0 = λ look. Answers result (look_reply published own look) in
+    subst Shown (sym c.in-Preview.is) (Answers-stopped (preview published own number c.in-Preview.cells)
+    (λ one. done (reply.View one)) stop result c.from_residual-in_err-preview-in-Preview.ensures.1
+    (subst Typed c.as_slice-cells.ensures c.in_err-preview-in-Preview.ensures.answers))
+
+pub returns-in_ok-clerk_report-in-Report-clause-answers : goal.returns-in_ok-clerk_report-in-Report-clause-answers
+returns-in_ok-clerk_report-in-Report-clause-answers c =
+    let published = published_of (rows_of c.args.tables.now) in
+    let own = c.args.own.now in
+    let found = c.in_ok-clerk_report-in-Report.field-0 in
+    let Shown : LookOf → Type 0 = λ look. Gives (look_reply published own look) (Ok (reply.Report found)) in
+    subst Shown (sym c.in-Report.is) (reply-gives (report_of published (Some own.row.name) own.sessions) reply.Report
+    found c.in_ok-clerk_report-in-Report.ensures.report)
+
+pub returns-in_ok-sheet-in-Records-clause-answers : goal.returns-in_ok-sheet-in-Records-clause-answers
+returns-in_ok-sheet-in-Records-clause-answers c =
+    let published = published_of (rows_of c.args.tables.now) in
+    let own = c.args.own.now in
+    let found = c.in_ok-sheet-in-Records.sheet in
+    let Shown : LookOf → Type 0 = λ look. Gives (look_reply published own look) (Ok (reply.Records found)) in
+    subst Shown (sym c.in-Records.is) (reply-gives (records_of published own c.in-Records.edition c.in-Records.version)
+    reply.Records found c.in_ok-sheet-in-Records.ensures.records)
+
+pub returns-in_err-sheet-in-Records-clause-answers : goal.returns-in_err-sheet-in-Records-clause-answers
+returns-in_err-sheet-in-Records-clause-answers c =
+    let published = published_of (rows_of c.args.tables.now) in
+    let own = c.args.own.now in
+    let result = c.from_residual-in_err-sheet-in-Records.result in
+    let Shown : LookOf → Type 0 = λ look. Answers result (look_reply published own look) in
+    subst Shown (sym c.in-Records.is) (Answers-stopped (records_of published own c.in-Records.edition
+    c.in-Records.version) (λ one. done (reply.Records one)) c.in_err-sheet-in-Records.field-0.0 result
+    c.from_residual-in_err-sheet-in-Records.ensures.1 c.in_err-sheet-in-Records.ensures.records)

@@ -1,0 +1,17 @@
+use Rattle.std.proofs.Common.{◌≡◌, ap, subst, sym}
+use Rattle.desk_words.specs.Changes.{changed_all}
+use Rattle.desk_words.specs.Tables.{Rows}
+use Rattle.desk_valid.specs.Valid.{AreValid}
+use Rattle.session_machine.specs.Seats.{Seat}
+use Rattle.session_machine.proofs.Held.{IsSeated-settled}
+use Rattle.session_machine.proofs.desk.DeskMachine.settle.Goals as goal
+
+pub invariant_of-self : goal.invariant_of-self
+invariant_of-self g c =
+    let rows : Rows = c.self.inside.totalled in
+    let changes = c.args.weighed.changes in
+    let same : c.args.self.now.rows ≡ rows = sym (ap (λ (seat : Seat). seat.rows) c.self.view_is) in
+    let valid : AreValid (changed_all rows changes) =
+    subst (λ one. AreValid (changed_all one changes)) same c.requires.settleable.valid in
+    IsSeated-settled rows c.settle.new.self changes c.self.inside.shelf c.self.inside.room c.settle.result
+    c.self.invariant valid c.settle.ensures.settled c.settle.ensures.unchanged

@@ -1,0 +1,36 @@
+use Rattle.std.proofs.Common.{◌∙◌, sym}
+use Rattle.desk_words.specs.declared.steward_work.StewardWork.TheVariants.{AddEdition, AddRegion}
+use Rattle.session_machine.proofs.MakingTold.{Answers-made}
+use Rattle.session_machine.proofs.steward.making.made_by.Goals as goal
+
+pub returns-in-AddClerk-clause-answers : goal.returns-in-AddClerk-clause-answers
+returns-in-AddClerk-clause-answers c =
+    Answers-made c.add_clerk.result c.tables-tables.ensures.tables c.in-AddClerk.is c.add_clerk.ensures
+
+pub returns-in-AddSchema-clause-answers : goal.returns-in-AddSchema-clause-answers
+returns-in-AddSchema-clause-answers c =
+    Answers-made c.add_schema.result c.tables-tables.ensures.tables c.in-AddSchema.is c.add_schema.ensures
+
+pub returns-in-AddMaster-clause-answers : goal.returns-in-AddMaster-clause-answers
+returns-in-AddMaster-clause-answers c =
+    Answers-made c.add_master.result c.tables-tables.ensures.tables c.in-AddMaster.is c.add_master.ensures
+
+pub returns-in-AddRulebook-clause-answers : goal.returns-in-AddRulebook-clause-answers
+returns-in-AddRulebook-clause-answers c =
+    Answers-made c.add_rulebook.result c.tables-tables.ensures.tables c.in-AddRulebook.is c.add_rulebook.ensures
+
+pub returns-in-AddEdition-clause-answers : goal.returns-in-AddEdition-clause-answers
+returns-in-AddEdition-clause-answers c =
+    let masters = sym c.as_slice.ensures in
+    let folded = sym c.as_slice-in-AddEdition.ensures in
+    let work = c.in-AddEdition.is
+    ∙ (λ i. AddEdition c.in-AddEdition.name c.in-AddEdition.rulebook (masters i) (folded i)) in
+    Answers-made c.add_edition.result c.tables-tables.ensures.tables work c.add_edition.ensures
+
+pub returns-in-AddRegion-clause-answers : goal.returns-in-AddRegion-clause-answers
+returns-in-AddRegion-clause-answers c =
+    let words = sym c.as_slice-in-AddRegion.ensures in
+    let texts = sym c.as_slice-in-AddRegion-2.ensures in
+    let work = c.in-AddRegion.is
+    ∙ (λ i. AddRegion c.in-AddRegion.edition c.in-AddRegion.version (words i) (texts i)) in
+    Answers-made c.add_region.result c.tables-tables.ensures.tables work c.add_region.ensures.answers

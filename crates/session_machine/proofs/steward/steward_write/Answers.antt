@@ -1,0 +1,77 @@
+use Rattle.std.proofs.Common.{◌≡◌, ◌∙◌, Err, ap, arith, subst, sym}
+use Rattle.std.specs.Prelude.{IfOk}
+use Rattle.desk_words.specs.declared.command.Command.TheVariants.{Steward}
+use Rattle.desk_words.specs.declared.rows.clerk.ClerkRow.{ClerkRow}
+use Rattle.desk_words.specs.Tables.{Rows, rows_of}
+use Rattle.machine_core.specs.Checked.{done}
+use Rattle.machine_core.specs.Machine.{machine}
+use Rattle.machine_core.specs.Outcomes.{Answers, Finds}
+use Rattle.machine_core.specs.Own.{own_of}
+use Rattle.machine_core.specs.Ticket.{use_of}
+use Rattle.machine_core.specs.declared.ticket.Use.{Use}
+use Rattle.machine_core.specs.declared.ticket.Use.TheVariants.{Fresh, Repeated}
+use Rattle.session_machine.specs.Booked.{IsBooked}
+use Rattle.session_machine.proofs.Stewards.{steward-row, use-again, write-timely, write-untimely}
+use Rattle.session_machine.proofs.steward.steward_write.Goals as goal
+
+pub use_of-requires : goal.use_of-requires
+use_of-requires c =
+    let rows : Rows = c.args.totalled.now in
+    let row : c.steward_of.result.now ≡ (own_of rows 0).row =
+    c.steward_of.ensures ∙ ap (λ (one : Rows). (own_of one 0).row) c.tables-tables.ensures.tables in
+    omega (arith, ap (λ (one : ClerkRow). one.last) row, (steward-row rows c.requires.valid).number)
+
+pub repeated-requires-clause-started : goal.repeated-requires-clause-started
+repeated-requires-clause-started c =
+    let turn : use_of c.steward_of.result.now c.args.ticket.now ≡ done Repeated =
+    c.in_ok-use_of.ensures ∙ ap (λ (used : Use). done used) c.in-Repeated.is in
+    omega (
+      arith,
+      use-again c.steward_of.result.now c.args.ticket.now turn,
+      ap (λ (row : ClerkRow). row.last) c.steward_of.ensures,
+      c.requires.numbered,
+    )
+
+pub returns-in_err-use_of-clause-answers : goal.returns-in_err-use_of-clause-answers
+returns-in_err-use_of-clause-answers c =
+    let rows : Rows = c.args.totalled.now in
+    let stop = c.in_err-use_of.field-0.0 in
+    let row : c.steward_of.result.now ≡ (own_of rows 0).row =
+    c.steward_of.ensures ∙ ap (λ (one : Rows). (own_of one 0).row) c.tables-tables.ensures.tables in
+    let Stops : ClerkRow → Type 0 = λ one. Finds {A = Use} (Err stop) (use_of one c.args.ticket.now) in
+    write-untimely rows c.args.ticket.now c.args.work.now stop c.from_residual.result c.from_residual.ensures.1
+    (subst Stops row c.in_err-use_of.ensures)
+
+pub returns-in-Repeated-clause-answers : goal.returns-in-Repeated-clause-answers
+returns-in-Repeated-clause-answers c =
+    let result = c.repeated.result in
+    let rows : Rows = rows_of c.tables-tables.result.now in
+    let row : (own_of rows 0).row ≡ c.steward_of.result.now = sym c.steward_of.ensures in
+    let turn : use_of (own_of rows 0).row c.args.ticket.now ≡ done Repeated =
+    ap (λ (one : ClerkRow). use_of one c.args.ticket.now) row ∙ c.in_ok-use_of.ensures
+    ∙ ap (λ (used : Use). done used) c.in-Repeated.is in
+    let Told : Rows → Type 0 = λ one. Answers result (machine one (Steward c.args.ticket.now c.args.work.now)) in
+    subst Told c.tables-tables.ensures.tables (subst (Answers result)
+    (sym (write-timely rows c.args.ticket.now c.args.work.now Repeated turn))
+    (c.repeated.ensures.answers c.args.ticket.now c.args.work.now))
+
+pub returns-in-Repeated-clause-booked : goal.returns-in-Repeated-clause-booked
+returns-in-Repeated-clause-booked c =
+    let command = Steward c.args.ticket.now c.args.work.now in
+    let Booked : Rows → Type 0 = λ rows.
+    IfOk c.repeated.result (λ made. IsBooked rows command made.0 c.repeated.new.shelf) in
+    subst Booked c.tables-tables.ensures.tables (c.repeated.ensures.booked command)
+
+pub returns-in-Fresh-clause-answers : goal.returns-in-Fresh-clause-answers
+returns-in-Fresh-clause-answers c =
+    let rows : Rows = c.args.totalled.now in
+    let row : (own_of rows 0).row ≡ c.steward_of.result.now =
+    sym (c.steward_of.ensures ∙ ap (λ (one : Rows). (own_of one 0).row) c.tables-tables.ensures.tables) in
+    let turn : use_of (own_of rows 0).row c.args.ticket.now ≡ done Fresh =
+    ap (λ (one : ClerkRow). use_of one c.args.ticket.now) row ∙ c.in_ok-use_of.ensures
+    ∙ ap (λ (used : Use). done used) c.in-Fresh.is in
+    subst (Answers c.fresh.result) (sym (write-timely rows c.args.ticket.now c.args.work.now Fresh turn))
+    c.fresh.ensures.answers
+
+pub returns-in-Fresh-clause-booked : goal.returns-in-Fresh-clause-booked
+returns-in-Fresh-clause-booked c = c.fresh.ensures.booked (Steward c.args.ticket.now c.args.work.now)

@@ -1,0 +1,81 @@
+//! What a clerk looks at, one look a case.
+ghost use Rattle.std.specs.Prelude.{OnOk};
+ghost use Rattle.desk_words.specs.Tables.{published_of, rows_of};
+ghost use Rattle.desk_valid.specs.Valid.{AreValid};
+ghost use Rattle.machine_core.specs.Look.Preview.{preview};
+ghost use Rattle.machine_core.specs.Machine.{look_reply};
+ghost use Rattle.machine_core.specs.Outcomes.{Answers};
+ghost use Rattle.machine_core.specs.Own.{IsOwn};
+ghost use Rattle.machine_core.specs.Shelves.{AreHeld, IsFullRoom};
+ghost use Rattle.machine_views.specs.Looking.{IsSessionFirst};
+ghost use Rattle.session_machine.specs.Looked.{IsLookFirst};
+
+use desk_base::Str;
+use desk_words::{Look, Reply, Tables, View};
+use fix_engine::Work;
+use machine_clerk::confirm_row;
+use machine_core::{Own, Stop};
+use machine_views::{clerk_report, records_of, suggestion_of, view_at, view_of};
+use master_index::Shelf;
+use std::alloc::Global;
+
+/// The reply to a clerk's look. The edition of the session that it names comes first on the shelf.
+pub fn look_reply(
+    alloc: Global,
+    tables: &Tables,
+    shelf: &mut Shelf,
+    room: &mut Work,
+    own: &Own,
+    look: &Look,
+) -> Result<Reply, Stop>
+    requires valid { AreValid (rows_of tables.now) }
+    requires held { AreHeld (published_of (rows_of tables.now)) shelf.old }
+    requires room { IsFullRoom room.old }
+    requires own { IsOwn (rows_of tables.now) own.now }
+    ensures answers { Answers result (look_reply (published_of (rows_of tables.now)) own.now look.now) }
+    ensures first { OnOk result (IsLookFirst own.now.sessions look.now shelf.new) }
+    ensures held { AreHeld (published_of (rows_of tables.now)) shelf.new }
+    ensures room { IsFullRoom room.new }
+{
+    match look {
+        Look::View { session } => {
+            Ok(Reply::View(view_at(alloc, tables, shelf, room, own, *session)?))
+        }
+        Look::Suggest { session } => {
+            let suggested = suggestion_of(alloc, tables, shelf, room, own, *session)?;
+            Ok(Reply::Suggested(suggested))
+        }
+        Look::Preview { session, cells } => {
+            let cells = cells.as_slice();
+            Ok(Reply::View(preview(alloc, tables, shelf, room, own, *session, cells)?))
+        }
+        Look::Report => Ok(Reply::Report(clerk_report(alloc, tables, shelf, room, own)?)),
+        Look::Records { edition, version } => {
+            let sheet = records_of(alloc, tables, shelf, own, edition, *version)?;
+            Ok(Reply::Records(sheet))
+        }
+    }
+}
+
+/// The view that a Confirm of these cells would give. Nothing is kept. The session's edition comes first on the shelf.
+fn preview(
+    alloc: Global,
+    tables: &Tables,
+    shelf: &mut Shelf,
+    room: &mut Work,
+    own: &Own,
+    number: u32,
+    cells: &[(Str, Str)],
+) -> Result<View, Stop>
+    requires valid { AreValid (rows_of tables.now) }
+    requires held { AreHeld (published_of (rows_of tables.now)) shelf.old }
+    requires room { IsFullRoom room.old }
+    requires own { IsOwn (rows_of tables.now) own.now }
+    ensures answers { Answers result (preview (published_of (rows_of tables.now)) own.now number cells.now) }
+    ensures first { OnOk result (IsSessionFirst own.now.sessions number shelf.new) }
+    ensures held { AreHeld (published_of (rows_of tables.now)) shelf.new }
+    ensures room { IsFullRoom room.new }
+{
+    let session = confirm_row(alloc, tables, shelf, own, number, cells)?;
+    Ok(view_of(alloc, tables, shelf, room, number, &session)?)
+}

@@ -1,0 +1,220 @@
+//! The desk. A clause sees the rows of its tables and the shelf of its books.
+ghost use Rattle.std.specs.Prelude.{◌≡◌, ◌≢◌, ◌<◌, ◌≤◌, [], length, nat_eq, None, IfErr, IfOk, IsSome, OnErr, OnOk};
+ghost use Rattle.std.specs.Map.{lookup};
+ghost use Rattle.desk_words.specs.Changes.{changed_all};
+ghost use Rattle.desk_words.specs.Tables.{published_of, rows_of};
+ghost use Rattle.desk_valid.specs.Valid.{AreValid};
+ghost use Rattle.keeper_core.specs.Keeping.{IfTold};
+ghost use Rattle.master_index.specs.Held.{brought_first, put_first};
+ghost use Rattle.master_index.specs.declared.shelf.Shelved.{Shelved as ShelvedBook};
+ghost use Rattle.machine_core.specs.Machine.{machine};
+ghost use Rattle.machine_core.specs.Outcomes.{Answers};
+ghost use Rattle.machine_core.specs.Shelves.{AreHeld, IsFirst};
+ghost use Rattle.machine_core.specs.Starting.{AreStarted, IsUnstarted, StartsAvailable};
+ghost use Rattle.machine_core.specs.Ticket.{IsNumbered, turn_of};
+ghost use Rattle.machine_core.specs.Weighing.{IsSettleable, IsWeighed, NeverUnavailable, UnavailableRises};
+ghost use Rattle.session_machine.specs.Acting.{IsAct};
+ghost use Rattle.session_machine.specs.Booked.{IsBooked};
+
+use crate::clerk::{clerk_look, clerk_write};
+use crate::steward::steward_write;
+use desk_base::{List, MAX_ATTRIBUTES, MAX_RULES, NoMemory};
+use desk_totals::Totalled;
+use desk_valid::{Bad, valid};
+use desk_words::{Change, Command, Refusal, Reply, Tables};
+use fix_engine::Work;
+use keeper_core::{KeepFail, Keeper};
+use machine_core::{Machine, SettleFail, StartFail, Stop, Weighed, hold};
+use machine_views::desk_report;
+use master_index::Shelf;
+use std::alloc::Global;
+use std::marker::Model;
+
+/// Valid tables in memory, over which requests are answered.
+#[derive(Drop)]
+pub struct Desk {
+    alloc: Global,
+    totalled: Totalled,
+    shelf: Shelf,
+    room: Work,
+}
+
+impl Model for Desk {
+    ghost use Rattle.session_machine.specs.Seats.{IsSeated, Seat};
+
+    ghost Value = { Seat };
+
+    ghost view = { λ d. record { rows = d.totalled; shelf = d.shelf } };
+
+    ghost invariant = { λ d. IsSeated d.totalled d.shelf d.room };
+}
+
+impl Desk {
+    /// The desk of these tables, with no book on its shelf.
+    fn over(alloc: Global, tables: Tables) -> Result<Desk, NoMemory>
+        requires { AreValid (rows_of tables) }
+        ensures rows { IfOk result (λ desk. desk.rows ≡ rows_of tables) }
+        ensures shelf { IfOk result (λ desk. desk.shelf ≡ []) }
+    {
+        let totalled = Totalled::new(alloc, tables)?;
+        let shelf = Shelf::new(alloc)?;
+        let room = Work::new(alloc, MAX_ATTRIBUTES as u16, MAX_RULES as u16)?;
+        Ok(Desk {
+            alloc,
+            totalled,
+            shelf,
+            room,
+        })
+    }
+
+    /// The tables, which are valid.
+    pub fn tables(&self) -> &Tables
+        ensures tables { rows_of result.now ≡ self.now.rows }
+        ensures valid { AreValid self.now.rows }
+    {
+        self.totalled.tables()
+    }
+
+    /// The numbers of all callers' last accepted requests, added up.
+    pub fn turn(&self) -> u64
+        ensures { result ≡ turn_of self.now.rows.clerks }
+    {
+        self.totalled.turn()
+    }
+
+    /// Has the book of an edition stand first on the shelf. Where it is held nothing is built and no memory is taken,
+    /// so it succeeds; else it is built and put in front, where four others are held in place of the one that was used
+    /// longest ago. Where there is no memory the shelf is as before.
+    pub fn book(&mut self, edition: u32) -> Result<(), NoMemory>
+        requires { edition < length self.old.rows.editions }
+        ensures first { OnOk result (IsFirst edition self.new.shelf) }
+        ensures held { AreHeld (published_of self.new.rows) self.new.shelf }
+        ensures rows { self.new.rows ≡ self.old.rows }
+        ensures brought { IsSome (lookup (nat_eq edition) self.old.shelf)
+            → self.new.shelf ≡ brought_first edition self.old.shelf }
+        ensures put { lookup (nat_eq edition) self.old.shelf ≡ None
+            → OnOk result ((shelved : ShelvedBook) × (self.new.shelf ≡ put_first edition shelved self.old.shelf)) }
+        ensures unchanged { OnErr result (self.new ≡ self.old) }
+        ensures succeeds { IsSome (lookup (nat_eq edition) self.old.shelf) → OnErr result ⊥ }
+    {
+        let tables = self.totalled.tables();
+        hold(self.alloc, tables, &mut self.shelf, edition)
+    }
+
+    /// What a request comes to: the step of the machine, or that there is no memory.
+    fn step(&mut self, command: &Command) -> Result<(Reply, List<Change>), Stop>
+        requires { IsNumbered command.now }
+        ensures answers { Answers result (machine self.old.rows command.now) }
+        ensures booked { IfOk result (λ made. IsBooked self.old.rows command.now made.0 self.new.shelf) }
+        ensures rows { self.new.rows ≡ self.old.rows }
+    {
+        let (totalled, shelf, room) = (&self.totalled, &mut self.shelf, &mut self.room);
+        match command {
+            Command::Steward(ticket, work) => {
+                steward_write(self.alloc, totalled, shelf, room, ticket, work)
+            }
+            Command::Clerk(name, ticket, work) => {
+                clerk_write(self.alloc, totalled, shelf, room, name, ticket, work)
+            }
+            Command::Look(name, look) => {
+                clerk_look(self.alloc, totalled, shelf, room, name, look)
+            }
+            Command::DeskReport => {
+                let sheet = desk_report(self.alloc, totalled.tables(), shelf, room)?;
+                Ok((Reply::Report(sheet), List::new(self.alloc)))
+            }
+        }
+    }
+
+    /// Weighs a request, settles what it changes with the keeper, and answers the reply. Where the keeper failed or
+    /// there was no memory, that is the reply, and nothing is changed.
+    pub fn act<K: Keeper>(&mut self, keeper: &mut K, command: &Command) -> Reply
+        requires numbered { IsNumbered command.now }
+        requires told { IfTold (K.tables keeper.old) self.old.rows }
+        ensures acts { IsAct self.old.rows self.new.rows command.now result (K.faults keeper.old)
+            (K.faults keeper.new) (keeper.new ≡ keeper.old) }
+        ensures booked { IsBooked self.old.rows command.now result self.new.shelf }
+        ensures told { IfTold (K.tables keeper.new) self.new.rows }
+        ensures later { K.faults keeper.old ≤ K.faults keeper.new }
+        ensures steady { K.is_steady keeper.old
+            → (result ≢ Reply.Refused Refusal.Unavailable) × K.is_steady keeper.new }
+    {
+        let weighed = self.weigh(command);
+        match self.settle(keeper, weighed) {
+            Ok(reply) => reply,
+            Err(SettleFail::Unavailable) => Reply::Refused(Refusal::Unavailable),
+            Err(SettleFail::NoMemory) => Reply::Refused(Refusal::NoMemory),
+        }
+    }
+}
+
+impl Machine for Desk {
+    ghost rows = { λ d. d.rows };
+
+    fn start<K: Keeper>(alloc: Global, keeper: &mut K) -> Result<Desk, StartFail>
+        ensures started { IfOk result
+            (λ desk. AreStarted (K.tables keeper.old) (K.tables keeper.new) desk.rows) }
+        ensures shelf { IfOk result (λ desk. desk.shelf ≡ []) }
+        ensures unstarted { IfErr result
+            (IsUnstarted (K.tables keeper.old) (K.tables keeper.new) (K.faults keeper.old) (K.faults keeper.new)) }
+        ensures later { K.faults keeper.old ≤ K.faults keeper.new }
+        ensures steady { K.is_steady keeper.old → StartsAvailable result × K.is_steady keeper.new }
+    {
+        let tables = match keeper.load() {
+            Ok(tables) => tables,
+            Err(KeepFail::Failed) => return Err(StartFail::Unavailable),
+            Err(KeepFail::NoMemory) => return Err(StartFail::NoMemory),
+        };
+        match valid(alloc, &tables) {
+            Ok(()) => {}
+            Err(Bad::Damaged(damage)) => return Err(StartFail::Damaged(damage)),
+            Err(Bad::NoMemory) => return Err(StartFail::NoMemory),
+        }
+        match Desk::over(alloc, tables) {
+            Ok(desk) => Ok(desk),
+            Err(NoMemory) => Err(StartFail::NoMemory),
+        }
+    }
+
+    fn weigh(&mut self, command: &Command) -> Weighed
+        requires { IsNumbered command.now }
+        ensures weighed { IsWeighed self.old.rows command.now result }
+        ensures booked { IsBooked self.old.rows command.now result.reply self.new.shelf }
+        ensures settleable { IsSettleable self.old.rows result }
+        ensures rows { self.new.rows ≡ self.old.rows }
+    {
+        let turn = self.turn();
+        let (reply, changes) = match self.step(command) {
+            Ok(made) => made,
+            Err(Stop::Refused(refusal)) => (Reply::Refused(refusal), List::new(self.alloc)),
+            Err(Stop::NoMemory) => (Reply::Refused(Refusal::NoMemory), List::new(self.alloc)),
+        };
+        Weighed {
+            reply,
+            turn,
+            changes,
+        }
+    }
+
+    fn settle<K: Keeper>(&mut self, keeper: &mut K, weighed: Weighed) -> Result<Reply, SettleFail>
+        requires told { IfTold (K.tables keeper.old) self.old.rows }
+        requires settleable { IsSettleable self.old.rows weighed }
+        ensures reply { IfOk result (λ reply. reply ≡ weighed.reply) }
+        ensures rows { OnOk result (self.new.rows ≡ changed_all self.old.rows weighed.changes) }
+        ensures unchanged { OnErr result (self.new.rows ≡ self.old.rows) }
+        ensures shelf { self.new.shelf ≡ self.old.shelf }
+        ensures told { IfTold (K.tables keeper.new) self.new.rows }
+        ensures idle { weighed.changes ≡ [] → keeper.new ≡ keeper.old }
+        ensures idle_too { weighed.changes ≡ [] → OnErr result ⊥ }
+        ensures later { K.faults keeper.old ≤ K.faults keeper.new }
+        ensures cause { UnavailableRises (K.faults keeper.old) (K.faults keeper.new) result }
+        ensures steady { K.is_steady keeper.old → NeverUnavailable result × K.is_steady keeper.new }
+    {
+        let Weighed { reply, changes, .. } = weighed;
+        match self.totalled.settle(self.alloc, keeper, changes) {
+            Ok(()) => Ok(reply),
+            Err(KeepFail::Failed) => Err(SettleFail::Unavailable),
+            Err(KeepFail::NoMemory) => Err(SettleFail::NoMemory),
+        }
+    }
+}

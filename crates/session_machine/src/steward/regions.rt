@@ -1,0 +1,78 @@
+//! A new region of a version of an edition, with its reply.
+ghost use Rattle.desk_words.specs.Tables.{published_of, rows_of};
+ghost use Rattle.desk_words.specs.declared.steward_work.StewardWork.{StewardWork};
+ghost use Rattle.desk_valid.specs.Valid.{AreValid};
+ghost use Rattle.machine_core.specs.Outcomes.{Answers, Finds};
+ghost use Rattle.machine_core.specs.Shelves.{AreHeld, IsFullRoom};
+ghost use Rattle.machine_core.specs.Steward.AddRegion.{region_row};
+ghost use Rattle.session_machine.specs.Made.{made_by};
+
+use desk_base::{List, Str};
+use desk_words::{Act, Change, Kind, Made, RegionRow, Tables};
+use fix_engine::Work;
+use machine_core::{Making, Stop, hold, named, region_on, shelved};
+use machine_views::region_made;
+use master_index::Shelf;
+use std::alloc::Global;
+
+/// A new region of the edition of this name and version.
+pub fn add_region(
+    alloc: Global,
+    tables: &Tables,
+    shelf: &mut Shelf,
+    room: &mut Work,
+    edition: &Str,
+    version: u32,
+    words: &[Str],
+    texts: &[List<Str>],
+) -> Result<(Made, Making), Stop>
+    requires valid { AreValid (rows_of tables.now) }
+    requires held { AreHeld (published_of (rows_of tables.now)) shelf.old }
+    requires room { IsFullRoom room.old }
+    ensures answers { Answers result (made_by (rows_of tables.now)
+        (StewardWork.AddRegion edition.now version words.now texts.now)) }
+    ensures held { AreHeld (published_of (rows_of tables.now)) shelf.new }
+    ensures room { IsFullRoom room.new }
+{
+    let row = region_row(alloc, tables, shelf, edition, version, words, texts)?;
+    let target = tables.regions.len() as u32;
+    let made = region_made(alloc, tables, shelf, room, target, &row)?;
+    let change = Change::Region(row);
+    Ok((
+        made,
+        Making {
+            change,
+            act: Act::Region,
+            target,
+        },
+    ))
+}
+
+/// The row of the region.
+fn region_row(
+    alloc: Global,
+    tables: &Tables,
+    shelf: &mut Shelf,
+    edition: &Str,
+    version: u32,
+    words: &[Str],
+    texts: &[List<Str>],
+) -> Result<RegionRow, Stop>
+    requires valid { AreValid (rows_of tables.now) }
+    requires held { AreHeld (published_of (rows_of tables.now)) shelf.old }
+    ensures finds { Finds result (region_row (published_of (rows_of tables.now)) edition.now version words.now
+        texts.now) }
+    ensures held { AreHeld (published_of (rows_of tables.now)) shelf.new }
+{
+    let place = named(tables.editions.as_slice(), edition, version, Kind::Edition)?;
+    hold(alloc, tables, shelf, place)?;
+    let attributes = shelved(shelf, place).names.attributes.as_slice();
+    region_on(
+        alloc,
+        tables.regions.as_slice(),
+        place,
+        attributes,
+        words,
+        texts,
+    )
+}

@@ -1,0 +1,12 @@
+use Rattle.stream_laws.proofs.Requests.{stream-answered, stream-leaves, stream-valid}
+use Rattle.stream_laws.proofs.laws.a_stream_is_requests_one_after_another.Goals as goal
+
+pub returns-clause-answered : goal.returns-clause-answered
+returns-clause-answered c = λ count before answers served. stream-answered c.args.limit count before answers served
+
+pub returns-clause-tables : goal.returns-clause-tables
+returns-clause-tables c = λ count before answers served. stream-leaves c.args.limit count before answers served
+
+pub returns-clause-valid : goal.returns-clause-valid
+returns-clause-valid c = λ count before answers served valid.
+    stream-valid c.args.limit count before answers served valid
