@@ -1,9 +1,12 @@
-//! The program `fixdesk`: its words and standard streams, handed to `fixdesk_run`.
+//! The program `fixdesk`: its words and standard streams, and tables in memory, handed to `fixdesk_run` with the desk.
 #![tactic(auto)]
 
-use desk_base::{Both, StdSink, StdSource};
+use desk_base::{Both, List, NoMemory, StdSink, StdSource};
+use desk_words::Tables;
 use fixdesk_run::{Status, run};
-use std::alloc::AllocError;
+use keeper_core::MemKeeper;
+use session_machine::Desk;
+use std::alloc::{AllocError, Global};
 use std::env;
 use std::io::ErrorKind;
 use std::process::ExitCode;
@@ -19,8 +22,15 @@ fn main(rt: HostRuntime) -> ExitCode {
         // Words that are not UTF-8 are no command, like no words at all.
         Err(_) => Ok(Vec::new(rt.alloc())),
     };
-    match words {
-        Ok(words) => ExitCode::from(run(rt.alloc(), &words, &mut link)),
-        Err(AllocError) => ExitCode::from(Status::NoMemory.code()),
+    match (words, keeper(rt.alloc())) {
+        (Ok(words), Ok(mut keeper)) => {
+            ExitCode::from(run::<Desk, _, _, _>(rt.alloc(), &words, &mut keeper, &mut link))
+        }
+        _ => ExitCode::from(Status::NoMemory.code()),
     }
+}
+
+/// What keeps the tables while the program runs: none stand at its beginning, and none are left behind it.
+fn keeper(alloc: Global) -> Result<MemKeeper, NoMemory> {
+    Ok(MemKeeper::new(Tables::empty(alloc)?, List::new(alloc)))
 }

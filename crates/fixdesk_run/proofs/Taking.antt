@@ -2,7 +2,7 @@
 use Rattle.std.proofs.Common.{◌∙◌, ◌++◌, ap, sym, List, ℕ}
 use Rattle.std.specs.Prelude.{Option, Some, None}
 use Rattle.std.proofs.lemmas.List.{append_assoc}
-use Rattle.std.specs.Io.KnownBytes.{Consumes, Keeps}
+use Rattle.std.specs.Io.KnownBytes.{Consumes}
 
 -- what was taken twice was taken together
 pub Consumes-then : (old mid new : Option (List ℕ)) (xs ys : List ℕ) → Consumes old mid xs → Consumes mid new ys
@@ -12,11 +12,3 @@ Consumes-then (Some a) None new xs ys first second = absurd first
 Consumes-then (Some a) (Some b) None xs ys first second = absurd second
 Consumes-then (Some a) (Some b) (Some c) xs ys first second = first ∙ ap (λ rest. xs ++ rest) second
     ∙ sym (append_assoc xs ys c)
-
--- what was taken before nothing more was taken
-pub Consumes-keeps : (old mid new : Option (List ℕ)) (xs : List ℕ) → Consumes old mid xs → Keeps mid new
-    → Consumes old new xs
-Consumes-keeps None mid new xs first same = tt
-Consumes-keeps (Some a) None new xs first same = absurd first
-Consumes-keeps (Some a) (Some b) None xs first same = absurd same
-Consumes-keeps (Some a) (Some b) (Some c) xs first same = first ∙ ap (λ rest. xs ++ rest) (sym same)

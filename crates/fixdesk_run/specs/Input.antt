@@ -1,11 +1,10 @@
 -- Taking the input of `once`.
-use Rattle.std.specs.Prelude.{ℕ, ◌+◌, ◌<◌, ◌≤◌, List, length, Option}
-use Rattle.desk_base.specs.declared.limits.TheConstants.{MAX_INPUT}
+use Rattle.std.specs.Prelude.{ℕ, ◌<◌, ◌≤◌, List, length, Option}
 use Rattle.std.specs.Io.KnownBytes.{Consumes, IsAtEnd}
 
--- the most bytes that are taken: one more than an input may have
+-- the most bytes that are taken: one more than an input may have, which is 1,048,576
 abbrev pub most : ℕ
-most = MAX_INPUT + 1
+most = 1048577
 
 -- the bytes were taken, until none was left or there were as many as are taken at most
 pub record Takes (old new : Option (List ℕ)) (bytes : List ℕ) : Type 0 where

@@ -9,8 +9,8 @@ use Rattle.fixdesk_run.specs.declared.reply.CaseReply.TheVariants.{Answered}
 use Rattle.fixdesk_run.specs.declared.reply.InputRefusal.{InputRefusal}
 use Rattle.fixdesk_run.specs.declared.reply.InputRefusal.TheVariants.{TooLong, NotJson, NotACase}
 use Rattle.fixdesk_run.specs.declared.status.Status.{Status}
-use Rattle.fixdesk_run.specs.declared.status.Status.TheVariants.{Done, NoCommand, ReadFault, WriteFault, NoMemory}
-use Rattle.fixdesk_run.specs.declared.status.Status.TheVariants.{Refused}
+use Rattle.fixdesk_run.specs.declared.status.Status.TheVariants.{Done, NoCommand, ReadFault, WriteFault, Unavailable}
+use Rattle.fixdesk_run.specs.declared.status.Status.TheVariants.{NoMemory, Damaged, Refused, Limit}
 use Rattle.desk_json.specs.Case.Answer.{IsAnswer}
 use Rattle.desk_json.specs.Shapes.{line}
 use Rattle.desk_json.specs.Case.Cases.{IsCaseIn, IsNoCase, IsNotJson}
@@ -87,5 +87,24 @@ EndsOnce old new Done = Tells IsAnswered old new
 EndsOnce old new NoCommand = ⊥
 EndsOnce old new ReadFault = IsUnanswered old new × Rose old.read_faults new.read_faults
 EndsOnce old new WriteFault = TellsPart old new
+EndsOnce old new Unavailable = ⊥
 EndsOnce old new NoMemory = IsUnanswered old new
+EndsOnce old new Damaged = ⊥
 EndsOnce old new Refused = Tells IsRefused old new
+EndsOnce old new Limit = ⊥
+
+-- ---- steady devices
+
+-- a text that may be due, where this is left to read
+abbrev pub MayBeTold : Option (List ℕ) → List ℕ → Type 0
+MayBeTold left text = (after : Option (List ℕ)) × IsDue IsTold left after text
+
+-- a sink that takes so many bytes takes whatever text may be due. One over memory does, where no call is to fail and
+-- there is room for the longest: a refusal's line has at most 11 bytes, and an answer shows at most 48 cells, each of a
+-- word, a text of at most 200 bytes and a step, and 96 steps. 65,536 bytes are enough
+abbrev pub TakesTold : (ℕ → Type 0) → Option (List ℕ) → Type 0
+TakesTold takes left = (text : List ℕ) → MayBeTold left text → takes (length text)
+
+-- the codes where no device fails
+abbrev pub IsOnceCode : ℕ → Type 0
+IsOnceCode code = (code ≡ 0) ⊎ (code ≡ 5) ⊎ (code ≡ 7)

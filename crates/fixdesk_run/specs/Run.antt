@@ -1,39 +1,57 @@
--- What a call of `run` leaves of the link, and when no fault comes.
-use Rattle.std.specs.Prelude.{◌≡◌, ◌⊎◌, ℕ, ◌≤◌, List, length, Option, Some, None}
+-- What a call of `run` leaves of the link and the keeper, and when no fault comes.
+use Rattle.std.specs.Prelude.{◌≡◌, ◌⊎◌, ℕ, List, length, Option, Some, None, ⊤}
 use Rattle.fixdesk_run.specs.declared.status.Status.{Status}
+use Rattle.fixdesk_run.specs.declared.status.Status.TheVariants.{NoMemory, Damaged}
 use Rattle.fixdesk_run.specs.declared.task.Task.{Task}
-use Rattle.fixdesk_run.specs.declared.task.Task.TheVariants.{Once}
-use Rattle.fixdesk_run.specs.Link.{Link}
-use Rattle.fixdesk_run.specs.Once.{EndsOnce, IsDue, IsTold}
+use Rattle.fixdesk_run.specs.declared.task.Task.TheVariants.{Once, Pipe, Report}
+use Rattle.fixdesk_run.specs.Once.{EndsOnce, IsOnceCode, MayBeTold}
+use Rattle.fixdesk_run.specs.Opening.{MayBeDamageLine, StaysShut}
+use Rattle.fixdesk_run.specs.Pipe.{EndsPipe, PipesFaultless}
+use Rattle.fixdesk_run.specs.Report.{EndsReport, MayBeReport}
 use Rattle.fixdesk_run.specs.Status.{status_code}
 use Rattle.fixdesk_run.specs.Task.{task_of}
 use Rattle.fixdesk_run.specs.Usage.{EndsUsage, usage_line}
+use Rattle.fixdesk_run.specs.World.{IsUncalled, Later, World}
 
 -- what is left by a task, or by words that are none, with this status
-abbrev pub Ends : Option Task → Link → Link → Status → Type 0
-Ends None = EndsUsage
-Ends (Some Once) = EndsOnce
+abbrev pub Ends : Option Task → World → World → Status → Type 0
+Ends None old new status = EndsUsage old.link new.link status × IsUncalled old new
+Ends (Some Once) old new status = EndsOnce old.link new.link status × IsUncalled old new
+Ends (Some (Pipe limit)) old new status = EndsPipe limit old new status
+Ends (Some Report) old new status = EndsReport old new status
 
 -- what a call with these words leaves, which answers this number: the code of the status that it ended with
-pub record Leaves (words : List (List ℕ)) (old new : Link) (code : ℕ) : Type 0 where
+pub record Leaves (words : List (List ℕ)) (old new : World) (code : ℕ) : Type 0 where
   pub status : Status
   pub answered : code ≡ status_code status
   pub ends : Ends (task_of words) old new status
-  pub read_faults : old.read_faults ≤ new.read_faults
-  pub write_faults : old.write_faults ≤ new.write_faults
+  pub later : Later old new
 
--- a text that may be due, where this is left to read
-abbrev pub MayBeDue : Option Task → Option (List ℕ) → List ℕ → Type 0
-MayBeDue None left text = text ≡ usage_line
-MayBeDue (Some Once) left text = (after : Option (List ℕ)) × IsDue IsTold left after text
+-- ---- steady devices
 
--- a sink that takes so many bytes takes whatever text may be due. One over memory does, where no call is to fail and
--- there is room for the longest: the lines of usage and refusal have at most 64 bytes, and an answer shows at most 48
--- cells, each of a word, a text of at most 200 bytes and a step, and 96 steps. 65,536 bytes are enough
-abbrev pub TakesText : (ℕ → Type 0) → Option Task → Option (List ℕ) → Type 0
-TakesText takes task left = (text : List ℕ) → MayBeDue task left text → takes (length text)
+-- the devices that a task uses do not fail, where these promise it
+abbrev pub AreSteady : Type 0 → Type 0 → Option Task → Type 0
+AreSteady reads keeps None = ⊤
+AreSteady reads keeps (Some Once) = reads
+AreSteady reads keeps (Some (Pipe limit)) = reads × keeps
+AreSteady reads keeps (Some Report) = keeps
 
--- the codes that come where no end of the link fails: 1 for words that are no command, and for no others
-abbrev pub IsFaultless : Option Task → ℕ → Type 0
-IsFaultless None code = code ≡ 1
-IsFaultless (Some Once) code = (code ≡ 0) ⊎ (code ≡ 5) ⊎ (code ≡ 7)
+-- a text that may be due, other than the responses to a stream
+abbrev pub MayBeDue : Option Task → World → List ℕ → Type 0
+MayBeDue None old text = text ≡ usage_line
+MayBeDue (Some Once) old text = MayBeTold old.link.left text
+MayBeDue (Some (Pipe limit)) old text = MayBeDamageLine old.told text
+MayBeDue (Some Report) old text = MayBeReport old.told text ⊎ MayBeDamageLine old.told text
+
+-- a sink that takes so many bytes takes whatever such text may be due
+abbrev pub TakesText : (ℕ → Type 0) → Option Task → World → Type 0
+TakesText takes task old = (text : List ℕ) → MayBeDue task old text → takes (length text)
+
+-- what is answered where no device fails: 1 for words that are no command, and for no others; 4 never, nor 2; and 3
+-- only where the sink has no room for what is due of a stream
+abbrev pub IsFaultless : (ℕ → Type 0) → Option Task → World → World → ℕ → Type 0
+IsFaultless takes None old new code = code ≡ 1
+IsFaultless takes (Some Once) old new code = IsOnceCode code
+IsFaultless takes (Some (Pipe limit)) old new code = PipesFaultless takes limit old new code
+    ⊎ (StaysShut old new NoMemory × (code ≡ 5)) ⊎ (StaysShut old new Damaged × (code ≡ 6))
+IsFaultless takes (Some Report) old new code = (code ≡ 0) ⊎ (code ≡ 5) ⊎ (code ≡ 6)

@@ -1,15 +1,13 @@
 //! The command `once`, which answers the case that it is given.
-ghost use Rattle.std.specs.Prelude.{◌≡◌, ◌≤◌, length, Some, IfOk};
+ghost use Rattle.std.specs.Prelude.{◌≡◌, ◌≤◌, length, IfOk};
 ghost use Rattle.fix_model.specs.States.{Fits};
 ghost use Rattle.fix_model.specs.Valid.{IsValid};
 ghost use Rattle.desk_json.specs.Case.Answer.{IsAnswer};
 ghost use Rattle.desk_json.specs.Case.Cases.{PartsFit};
 ghost use Rattle.fixdesk_run.specs.Input.{most};
 ghost use Rattle.fixdesk_run.specs.Link.{seen};
-ghost use Rattle.fixdesk_run.specs.Once.{IsReplyTo, EndsOnce};
-ghost use Rattle.fixdesk_run.specs.Run.{IsFaultless, TakesText};
+ghost use Rattle.fixdesk_run.specs.Once.{EndsOnce, IsOnceCode, IsReplyTo, TakesTold};
 ghost use Rattle.fixdesk_run.specs.Status.{status_code};
-ghost use Rattle.fixdesk_run.specs.declared.task.Task.TheVariants.{Once};
 
 use crate::input::{InputFault, MOST, input_of};
 use crate::reply::{CaseReply, InputRefusal};
@@ -76,8 +74,7 @@ pub fn once<S: Source, W: Sink>(alloc: Global, link: &mut Both<S, W>) -> Status
     ensures read_faults { S.read_faults link.old.source ≤ S.read_faults link.new.source }
     ensures write_faults { W.write_faults link.old.sink ≤ W.write_faults link.new.sink }
     ensures complete { S.is_steady link.old.source
-        → TakesText (W.takes link.old.sink) (Some Once) (S.left link.old.source)
-        → IsFaultless (Some Once) (status_code result) }
+        → TakesTold (W.takes link.old.sink) (S.left link.old.source) → IsOnceCode (status_code result) }
 {
     let bytes = match input_of(alloc, &mut link.source) {
         Ok(bytes) => bytes,

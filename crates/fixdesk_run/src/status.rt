@@ -13,10 +13,16 @@ pub enum Status {
     ReadFault,
     /// The link could not be written to.
     WriteFault,
+    /// The keeper failed before anything was read or written.
+    Unavailable,
     /// There was no memory.
     NoMemory,
-    /// The input was refused, and the line that says so was written.
+    /// The keeper's tables are damaged, and the line that names the first damaged row was written.
+    Damaged,
+    /// The input was refused, or ended otherwise than behind a whole request.
     Refused,
+    /// As many requests were answered as may be.
+    Limit,
 }
 
 impl Status {
@@ -29,8 +35,11 @@ impl Status {
             Status::NoCommand => 1,
             Status::ReadFault => 2,
             Status::WriteFault => 3,
+            Status::Unavailable => 4,
             Status::NoMemory => 5,
+            Status::Damaged => 6,
             Status::Refused => 7,
+            Status::Limit => 8,
         }
     }
 }

@@ -1,12 +1,27 @@
 //! What the words of the command line ask for.
-ghost use Rattle.std.specs.Prelude.{◌≡◌, map, string_bytes};
-ghost use Rattle.fixdesk_run.specs.Task.{once_of, task_of};
+ghost use Rattle.std.specs.Prelude.{◌≡◌, ◌≤◌, map, string_bytes, IfSome};
+ghost use Rattle.fixdesk_run.specs.Task.{alone, limited, pipe_of, task_of};
+
+use http_cut::positive;
+
+/// The most requests that `pipe` answers, where no word says how many.
+pub const USUAL_LIMIT: u32 = 100_000;
+
+/// The most requests that a word may say.
+pub const MAX_LIMIT: u32 = 1_000_000;
+
+/// The most digits of such a word.
+const LIMIT_DIGITS: usize = 7;
 
 /// A command of the program.
 #[derive(Clone, Copy, Debug, PartialEq, Eq)]
 pub enum Task {
     /// `once`: the case that is read is answered.
     Once,
+    /// `pipe`: the requests that are read are answered, up to this limit.
+    Pipe(u32),
+    /// `report`: the desk's report is written.
+    Report,
 }
 
 /// The task that the words ask for, which are without the program's name. None where they are no command.
@@ -17,16 +32,42 @@ pub fn task_of(words: &[String]) -> Option<Task>
         return None;
     };
     match word.as_str() {
-        "once" => once_of(others),
+        "once" => alone(Task::Once, others),
+        "pipe" => pipe_of(others),
+        "report" => alone(Task::Report, others),
         _ => None,
     }
 }
 
-fn once_of(others: &[String]) -> Option<Task>
-    ensures { result ≡ once_of (map string_bytes others.now) }
+/// The task, where no further word stands.
+fn alone(task: Task, others: &[String]) -> Option<Task>
+    ensures { result ≡ alone task (map string_bytes others.now) }
 {
     match others {
-        [] => Some(Task::Once),
+        [] => Some(task),
+        _ => None,
+    }
+}
+
+/// The task of the words behind `pipe`.
+fn pipe_of(others: &[String]) -> Option<Task>
+    ensures { result ≡ pipe_of (map string_bytes others.now) }
+{
+    match others {
+        [] => Some(Task::Pipe(USUAL_LIMIT)),
+        [option, digits] if option.as_str() == "--limit" => {
+            limited(positive(digits.as_str().as_bytes(), LIMIT_DIGITS))
+        }
+        _ => None,
+    }
+}
+
+/// The task with this limit, where it is not above the greatest.
+fn limited(limit: Option<u64>) -> Option<Task>
+    ensures { result ≡ limited limit }
+{
+    match limit {
+        Some(limit) if limit <= u64::from(MAX_LIMIT) => Some(Task::Pipe(limit as u32)),
         _ => None,
     }
 }

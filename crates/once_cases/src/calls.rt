@@ -2,7 +2,10 @@
 use crate::indexes::{line_over_map, line_over_sorted};
 use desk_base::{Both, List, MemSink, MemSource};
 use desk_cases::{Case, Part};
+use desk_words::Tables;
 use fixdesk_run::run;
+use keeper_core::MemKeeper;
+use session_machine::Desk;
 use std::alloc::Global;
 use std::test::Fail;
 
@@ -36,10 +39,16 @@ impl Call<'_> {
             source: MemSource::new(input, cut, numbers(alloc, self.read_fails)?),
             sink: MemSink::new(alloc, cut, ROOM, numbers(alloc, self.write_fails)?)?,
         };
-        let status = run(alloc, self.words.as_slice(), &mut link);
+        let mut keeper = keeper(alloc)?;
+        let status = run::<Desk, _, _, _>(alloc, self.words.as_slice(), &mut keeper, &mut link);
         let output = Vec::from_slice(alloc, link.sink.bytes())?;
         Ok(Told { status, output })
     }
+}
+
+/// A keeper of empty tables. No call of these cases asks for them.
+fn keeper(alloc: Global) -> Result<MemKeeper, Fail> {
+    Ok(MemKeeper::new(Tables::empty(alloc)?, List::new(alloc)))
 }
 
 fn numbers(alloc: Global, number: Option<u64>) -> Result<List<u64>, Fail> {

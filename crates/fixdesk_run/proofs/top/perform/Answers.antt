@@ -1,15 +1,15 @@
-use Rattle.std.proofs.Common.{◌≡◌, refl}
-use Rattle.fixdesk_run.specs.declared.task.Task.{Task}
-use Rattle.fixdesk_run.specs.declared.task.Task.TheVariants.{Once}
+use Rattle.std.proofs.Common.{refl}
 use Rattle.fixdesk_run.proofs.top.perform.Goals as goal
 
--- `once` is the only task
-only_once : (task : Task) → task ≡ Once
-only_once Once = refl
+pub returns-in-Some-Pipe-clause-complete : goal.returns-in-Some-Pipe-clause-complete
+returns-in-Some-Pipe-clause-complete g c =
+    let is = rw c.in-Some-Pipe.is at c.in-Some-Pipe.field-0-is in
+    rw (c.in-Some-Pipe.is, is) (λ steady. c.pipe.ensures.complete steady.0 steady.1)
 
-pub returns-in-Some-Once-clause-complete : goal.returns-in-Some-Once-clause-complete
-returns-in-Some-Once-clause-complete g c = rw (c.in-Some-Once.is, only_once c.in-Some-Once.field-0)
-    c.once.ensures.complete
+pub returns-in-Some-Report-clause-complete : goal.returns-in-Some-Report-clause-complete
+returns-in-Some-Report-clause-complete g c =
+    let is = rw c.in-Some-Report.is at c.in-Some-Report.field-0-is in
+    rw (c.in-Some-Report.is, is) c.report.ensures.complete
 
 -- the usage line is the one text that is due
 pub returns-in-None-clause-complete : goal.returns-in-None-clause-complete

@@ -1,0 +1,96 @@
+-- What is left where no machine begins.
+use Rattle.std.proofs.Common.{◌≡◌, ◌⊎◌, ◌∙◌, inl, inr, ℕ, List, length, Option, Some, None, refl, sym}
+use Rattle.std.specs.Prelude.{◌≢◌}
+use Rattle.desk_words.specs.Tables.{Rows}
+use Rattle.desk_valid.specs.declared.damage.Damage.{Damage}
+use Rattle.keeper_core.specs.Keeping.{IsLoaded}
+use Rattle.machine_core.specs.declared.machine.StartFail.{StartFail}
+use Rattle.machine_core.specs.declared.machine.StartFail.TheVariants as fail
+use Rattle.machine_core.specs.Starting.{IfStillTold, IsUnstarted}
+use Rattle.fixdesk_run.specs.declared.status.Status.{Status}
+use Rattle.fixdesk_run.specs.declared.status.Status.TheVariants.{Done, NoCommand, ReadFault, WriteFault, Unavailable}
+use Rattle.fixdesk_run.specs.declared.status.Status.TheVariants.{NoMemory, Damaged, Refused, Limit}
+use Rattle.fixdesk_run.specs.Link.{Link}
+use Rattle.fixdesk_run.specs.Opening.{IsDamageLine, MayBeDamageLine, StaysShut, TakesFail, TellsDamage, TellsFail}
+use Rattle.fixdesk_run.specs.Opening.{damage_line}
+use Rattle.fixdesk_run.specs.Status.{status_code}
+use Rattle.fixdesk_run.specs.World.{World}
+
+-- tables that were loaded are told still
+IfStillTold-loaded : (old new : Option Rows) (rows : Rows) → IsLoaded old new rows → IfStillTold old new
+IfStillTold-loaded None new rows loaded = tt
+IfStillTold-loaded (Some told) None rows loaded = tt
+IfStillTold-loaded (Some told) (Some now) rows loaded = loaded.1 ∙ sym loaded.0
+
+-- a line names the first damage
+named : (old new : World) (damage : Damage) → IsUnstarted old.told new.told old.faults new.faults (fail.Damaged damage)
+    → IsDamageLine old.told new.told (damage_line damage)
+named old new damage why = (damage, record { rows = why.0; loaded = why.1; first = why.2 }, refl)
+
+-- a row is damaged
+stays_damaged : (old new : World) (damage : Damage) (status : Status)
+    → IsUnstarted old.told new.told old.faults new.faults (fail.Damaged damage)
+    → TellsDamage damage old.link new.link status → StaysShut old new status
+stays_damaged old new damage Done why tells = absurd tells
+stays_damaged old new damage NoCommand why tells = absurd tells
+stays_damaged old new damage ReadFault why tells = absurd tells
+stays_damaged old new damage WriteFault why tells = (damage_line damage, named old new damage why, tells)
+stays_damaged old new damage Unavailable why tells = absurd tells
+stays_damaged old new damage NoMemory why tells = (IfStillTold-loaded old.told new.told why.0 why.1, tells)
+stays_damaged old new damage Damaged why tells = (damage_line damage, named old new damage why, tells)
+stays_damaged old new damage Refused why tells = absurd tells
+stays_damaged old new damage Limit why tells = absurd tells
+
+-- no machine began
+pub stays_shut : (old new : World) (why : StartFail) (status : Status)
+    → IsUnstarted old.told new.told old.faults new.faults why → TellsFail why old.link new.link status
+    → StaysShut old new status
+stays_shut old new (fail.Damaged damage) status is tells = stays_damaged old new damage status is tells
+stays_shut old new fail.Unavailable status is tells = rw tells.0 (is.0, tells.1, is.1)
+stays_shut old new fail.NoMemory status is tells = rw tells.0 (is, tells.1)
+
+-- what is told of it may be due
+pub takes_fail : (takes : ℕ → Type 0) (old new : World) (why : StartFail)
+    → IsUnstarted old.told new.told old.faults new.faults why
+    → ((text : List ℕ) → MayBeDamageLine old.told text → takes (length text)) → TakesFail takes why
+takes_fail takes old new (fail.Damaged damage) is all =
+    all (damage_line damage) (is.0, is.1.0, (damage, is.2, refl))
+takes_fail takes old new fail.Unavailable is all = tt
+takes_fail takes old new fail.NoMemory is all = tt
+
+-- where the keeper did not fail, the status does not say so
+available : (old new : Link) (why : StartFail) (status : Status) → TellsFail why old new status
+    → why ≢ fail.Unavailable → status ≢ Unavailable
+available old new (fail.Damaged damage) status tells loads is = rw is at tells
+available old new fail.Unavailable status tells loads is = absurd (loads refl)
+available old new fail.NoMemory status tells loads is = let other = tells.0 in cc
+
+-- there was no memory, or a row is damaged
+abbrev pub IsShut : World → World → ℕ → Type 0
+IsShut old new code = (StaysShut old new NoMemory × (code ≡ 5)) ⊎ (StaysShut old new Damaged × (code ≡ 6))
+
+-- so it is where neither the keeper failed nor the sink
+shut_status : (old new : World) (status : Status) → StaysShut old new status → status ≢ Unavailable
+    → status ≢ WriteFault → IsShut old new (status_code status)
+shut_status old new Done stays loads wrote = absurd stays
+shut_status old new NoCommand stays loads wrote = absurd stays
+shut_status old new ReadFault stays loads wrote = absurd stays
+shut_status old new WriteFault stays loads wrote = absurd (wrote refl)
+shut_status old new Unavailable stays loads wrote = absurd (loads refl)
+shut_status old new NoMemory stays loads wrote = inl (stays, refl)
+shut_status old new Damaged stays loads wrote = inr (stays, refl)
+shut_status old new Refused stays loads wrote = absurd stays
+shut_status old new Limit stays loads wrote = absurd stays
+
+-- over devices that do not fail
+pub is_shut : (old new : World) (why : StartFail) (status : Status)
+    → IsUnstarted old.told new.told old.faults new.faults why → TellsFail why old.link new.link status
+    → why ≢ fail.Unavailable → status ≢ WriteFault → IsShut old new (status_code status)
+is_shut old new why status is tells loads wrote =
+    shut_status old new status (stays_shut old new why status is tells)
+    (available old.link new.link why status tells loads) wrote
+
+-- and its code
+pub shut_code : (old new : World) (code : ℕ) → IsShut old new code → (code ≡ 5) ⊎ (code ≡ 6)
+shut_code old new code (inl short) = inl short.1
+shut_code old new code (inr damaged) = inr damaged.1

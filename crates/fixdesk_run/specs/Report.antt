@@ -1,0 +1,48 @@
+-- What `report` leaves of the link and the keeper.
+use Rattle.std.specs.Prelude.{◌≡◌, ◌⊎◌, List, [], Option, Ok, ℕ}
+use Rattle.desk_sheets.specs.Report.{report_text}
+use Rattle.desk_words.specs.declared.command.Command.TheVariants.{DeskReport}
+use Rattle.desk_words.specs.declared.reply.Reply.TheVariants as reply
+use Rattle.desk_words.specs.declared.report.ReportSheet.{ReportSheet}
+use Rattle.desk_words.specs.Tables.{Rows}
+use Rattle.machine_core.specs.Checked.{Gives}
+use Rattle.machine_core.specs.Machine.{machine}
+use Rattle.machine_core.specs.Starting.{AreStarted, IfStillTold}
+use Rattle.fixdesk_run.specs.declared.status.Status.{Status}
+use Rattle.fixdesk_run.specs.declared.status.Status.TheVariants.{Done, NoCommand, ReadFault, WriteFault, Unavailable}
+use Rattle.fixdesk_run.specs.declared.status.Status.TheVariants.{NoMemory, Damaged, Refused, Limit}
+use Rattle.fixdesk_run.specs.Link.{IsSilent, Says, SaysPart}
+use Rattle.fixdesk_run.specs.Opening.{AreOpened, StaysShut}
+use Rattle.fixdesk_run.specs.World.{World}
+
+-- the text of the desk's report over these tables
+pub record IsReport (rows : Rows) (text : List ℕ) : Type 0 where
+  pub sheet : ReportSheet
+  pub gives : Gives (machine rows DeskReport) (Ok (reply.Report sheet, []))
+  pub is : text ≡ report_text sheet
+
+-- over the tables that were loaded from a keeper, which told this before and that after
+pub record IsReportOf (old new : Option Rows) (text : List ℕ) : Type 0 where
+  pub rows : Rows
+  pub started : AreStarted old new rows
+  pub report : IsReport rows text
+
+-- a report that may be due where a keeper tells this
+abbrev pub MayBeReport : Option Rows → List ℕ → Type 0
+MayBeReport told text = (rows : Rows) × AreOpened told rows × IsReport rows text
+
+-- what is left where a machine began, by the status; the keeper's tables stay, where they are told
+abbrev pub Reports : World → World → Status → Type 0
+Reports old new Done = (text : List ℕ) × IsReportOf old.told new.told text × Says text old.link new.link
+Reports old new NoCommand = ⊥
+Reports old new ReadFault = ⊥
+Reports old new WriteFault = (text : List ℕ) × IsReportOf old.told new.told text × SaysPart text old.link new.link
+Reports old new Unavailable = ⊥
+Reports old new NoMemory = IfStillTold old.told new.told × IsSilent old.link new.link
+Reports old new Damaged = ⊥
+Reports old new Refused = ⊥
+Reports old new Limit = ⊥
+
+-- what is left: the report was made, or no machine began
+abbrev pub EndsReport : World → World → Status → Type 0
+EndsReport old new status = Reports old new status ⊎ StaysShut old new status
