@@ -1,0 +1,81 @@
+//! Keepers in memory, and what their tables show.
+use desk_base::{List, Room, Text};
+use desk_cases::Case;
+use desk_words::{Change, ClerkRow, Tables};
+use keeper_core::{Keeper, MemKeeper};
+use std::alloc::Global;
+use std::fmt::Debug;
+use std::test::Fail;
+
+/// A keeper of the tables of an empty desk, none of whose calls fails.
+pub fn fresh(alloc: Global) -> Result<MemKeeper, Fail> {
+    failing(alloc, List::new(alloc))
+}
+
+/// A keeper of the tables of an empty desk, of which these calls, counted from 1, fail.
+fn failing(alloc: Global, fails: List<u64>) -> Result<MemKeeper, Fail> {
+    Ok(MemKeeper::new(Tables::empty(alloc)?, fails))
+}
+
+/// The keeper of a case: its calls in `fails` fail, and its first clerk has the name in `steward`, where the case says
+/// one.
+pub fn keeper_of(alloc: Global, case: &Case) -> Result<MemKeeper, Fail> {
+    let fails = List::from_vec(case.numbers(alloc, "fails")?);
+    let mut keeper = failing(alloc, fails)?;
+    if let Some(name) = case.text("steward") {
+        rename(alloc, &mut keeper, name)?;
+    }
+    Ok(keeper)
+}
+
+/// Gives the first clerk another name, which counts as a call.
+fn rename(alloc: Global, keeper: &mut MemKeeper, name: &str) -> Result<(), Fail> {
+    let Ok(name) = Text::new(alloc, name.as_bytes()) else {
+        return Err(Fail::new("the name of a first clerk is no text"));
+    };
+    let mut changes = List::new(alloc);
+    changes.push(Change::Clerk(0, ClerkRow::new(name)))?;
+    match keeper.commit(&changes) {
+        Ok(()) => Ok(()),
+        Err(_) => Err(Fail::new("a keeper did not take the name of its first clerk")),
+    }
+}
+
+/// What the keeper's tables show: each row in a line, and an empty line behind each list.
+pub fn shown(alloc: Global, keeper: &mut MemKeeper) -> Result<String, Fail> {
+    let Ok(tables) = keeper.load() else {
+        return Err(Fail::new("a keeper did not load its tables"));
+    };
+    let mut shown = shown_published(alloc, &tables)?;
+    add_lists(alloc, &mut shown, tables.sessions.as_slice())?;
+    add_lists(alloc, &mut shown, tables.records.as_slice())?;
+    add_lists(alloc, &mut shown, tables.batches.as_slice())?;
+    Ok(shown)
+}
+
+/// The clerks, and what stewards published.
+fn shown_published(alloc: Global, tables: &Tables) -> Result<String, Fail> {
+    let mut shown = String::new(alloc);
+    add_rows(alloc, &mut shown, tables.clerks.as_slice())?;
+    add_rows(alloc, &mut shown, tables.schemas.as_slice())?;
+    add_rows(alloc, &mut shown, tables.masters.as_slice())?;
+    add_rows(alloc, &mut shown, tables.rulebooks.as_slice())?;
+    add_rows(alloc, &mut shown, tables.editions.as_slice())?;
+    add_rows(alloc, &mut shown, tables.regions.as_slice())?;
+    Ok(shown)
+}
+
+fn add_lists<T: Debug>(alloc: Global, shown: &mut String, lists: &[Room<T>]) -> Result<(), Fail> {
+    for list in lists {
+        add_rows(alloc, shown, list.as_slice())?;
+    }
+    Ok(())
+}
+
+fn add_rows<T: Debug>(alloc: Global, shown: &mut String, rows: &[T]) -> Result<(), Fail> {
+    for row in rows {
+        shown.push_str(format!(in alloc; "{row:?}\n")?.as_str())?;
+    }
+    shown.push_str("\n")?;
+    Ok(())
+}

@@ -1,0 +1,47 @@
+//! Tries the cases in `data/`: calls of `run` over links and keepers in memory, most of them streams of requests to an
+//! empty desk.
+//!
+//! The words are the files of cases, that of the script first; a file's name up to its first `-` says what is tried.
+//! `docs/cases.md` says how a case is written, and the README which parts these have.
+#![tactic(auto)]
+
+mod calls;
+mod keeping;
+mod script;
+mod streams;
+mod sweeps;
+mod table;
+
+use crate::script::Script;
+use desk_cases::{Case, Part, Subject, try_files};
+use std::alloc::Global;
+use std::test::Fail;
+
+/// What calls `run`, with the script as far as it was read.
+#[derive(Drop)]
+struct Runs {
+    script: Script,
+}
+
+impl Subject for Runs {
+    fn answer(&mut self, alloc: Global, kind: &str, case: &Case) -> Result<Vec<Part>, Fail> {
+        match kind {
+            "desk" => {
+                let answer = streams::next(alloc, &self.script, case)?;
+                self.script.add(alloc, case)?;
+                Ok(answer)
+            }
+            "stream" => streams::told(alloc, &self.script, case),
+            "each" => streams::each(alloc, case),
+            "early" => sweeps::each_end(alloc, &self.script, case),
+            "reads" => sweeps::each_read_fails(alloc, &self.script, case),
+            "writes" => sweeps::each_write_fails(alloc, &self.script, case),
+            _ => Err(Fail::new("a file of cases has an unknown kind")),
+        }
+    }
+}
+
+fn main(rt: HostRuntime) -> Result<(), Fail> {
+    let script = Script::new(rt.alloc());
+    try_files(&rt, &mut Runs { script })
+}
