@@ -1,0 +1,75 @@
+//! The request of a step, and the reply to it.
+ghost use Rattle.std.specs.Prelude.{IsTrue};
+ghost use Rattle.machine_core.specs.Ticket.{IsNumbered};
+
+use crate::kept_desk::KeptDesk;
+use crate::replies::{told, unread};
+use crate::targets::route_of;
+use desk_base::MAX_REQUEST;
+use desk_json::command_of;
+use desk_words::{Command, Digest};
+use http_cut::Routes;
+use std::alloc::Global;
+use std::test::Fail;
+
+/// The reply to a request: its target, and behind a space or the end of the line its body. The first word of the
+/// step's name stands for the digest.
+pub fn replied(
+    alloc: Global,
+    routes: &Routes,
+    desk: &mut KeptDesk,
+    name: &str,
+    request: &[u8],
+) -> Result<String, Fail> {
+    let (target, body) = target_and_body(request);
+    let Some(found) = routes.find(target) else {
+        return Err(Fail::new("a step has a target without a route"));
+    };
+    let route = route_of(alloc, &found)?;
+    match command_of(alloc, &route, digest_of(name), body) {
+        Ok(command) => acted(alloc, desk, &command),
+        Err(fault) => unread(alloc, &fault),
+    }
+}
+
+/// The reply to a command.
+fn acted(alloc: Global, desk: &mut KeptDesk, command: &Command) -> Result<String, Fail> {
+    if !is_numbered(command) {
+        return Err(Fail::new("a step has a number that no write may have"));
+    }
+    let reply = desk.act(command);
+    told(alloc, &reply)
+}
+
+/// The target stands up to the first space or line feed, and the body behind that.
+fn target_and_body(request: &[u8]) -> (&[u8], &[u8]) {
+    let end = request
+        .iter()
+        .position(|byte| *byte == b' ' || *byte == b'\n');
+    match end {
+        Some(place) => (&request[..place], &request[place + 1..]),
+        None => (request, b""),
+    }
+}
+
+/// The digest that the first word of a name stands for: the word's bytes, and zeros behind them.
+fn digest_of(name: &str) -> Digest {
+    let word = name.split(" ").next().unwrap_or(name);
+    let mut bytes = [0u8; 32];
+    for (slot, byte) in bytes.iter_mut().zip(word.as_bytes()) {
+        *slot = *byte;
+    }
+    Digest { bytes }
+}
+
+/// Whether a write has a number that a write may have.
+fn is_numbered(command: &Command) -> bool
+    ensures { IsTrue result → IsNumbered command.now }
+{
+    match command {
+        Command::Steward(ticket, _) | Command::Clerk(_, ticket, _) => {
+            1 <= ticket.number && ticket.number <= MAX_REQUEST
+        }
+        Command::Look(_, _) | Command::DeskReport => true,
+    }
+}
