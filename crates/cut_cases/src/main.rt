@@ -1,10 +1,12 @@
-//! Tries the cases in `data/`: streams that are cut into requests, streams that end early, routes, and responses.
+//! Tries the cases in `data/`: streams that are cut into requests, streams that end early, routes, responses, and what
+//! the generator makes.
 //!
 //! The words are the files of cases; a file's name up to its first `-` says what is tried. `docs/cases.md` says
 //! how a case is written, and the README what its parts are.
 #![tactic(auto)]
 
 mod early;
+mod making;
 mod responding;
 mod routing;
 mod streams;
@@ -28,6 +30,8 @@ impl Subject for Cutting {
             "route" => routing::route(alloc, &self.routes, case)?,
             "response" => responding::responded(alloc, case)?,
             "refusal" => responding::refused(alloc, case)?,
+            "draws" => making::draws(alloc, case)?,
+            "made" => making::request(alloc, &self.routes, case)?,
             _ => return Err(Fail::new("a file of cases has an unknown kind")),
         };
         let mut answer = Vec::new(alloc);

@@ -1,0 +1,11 @@
+pub mod Elements
+pub mod SubLists
+pub mod Narrows
+pub mod Marking
+pub mod Shortest
+pub mod Places
+pub mod Finding
+pub mod Members
+pub mod Enough
+pub mod Listing
+pub mod Used

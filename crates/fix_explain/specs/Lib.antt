@@ -1,0 +1,4 @@
+pub mod SubLists
+pub mod Reasons
+pub mod Uses
+pub mod Marks
