@@ -1,9 +1,11 @@
-//! Tries the cases in `data/`: steps, first runs, regions that are checked, and what is suggested for a record.
+//! Tries the cases in `data/`: steps, first runs, regions that are checked, what is suggested for a record, and why an
+//! attribute is fixed.
 //!
 //! The words are the files of cases; a file's name up to its first `-` says what is tried. `docs/cases.md` says how a
 //! case is written, and the README which parts these have.
 #![tactic(auto)]
 
+mod reasons;
 mod regions;
 mod runs;
 mod steps;
@@ -20,6 +22,7 @@ struct Suggester;
 impl Subject for Suggester {
     fn answer(&mut self, alloc: Global, kind: &str, case: &Case) -> Result<Vec<Part>, Fail> {
         match kind {
+            "reason" => reasons::told(alloc, case),
             "region" => telling::told(alloc, case),
             "run" => runs::told(alloc, case),
             "step" => steps::told(alloc, case),

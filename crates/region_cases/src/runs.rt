@@ -30,7 +30,7 @@ pub fn told(alloc: Global, case: &Case) -> Result<Vec<Part>, Fail> {
 }
 
 /// Steps as rule and row, each behind a space.
-fn steps(alloc: Global, run: &[Step]) -> Result<String, Fail> {
+pub fn steps(alloc: Global, run: &[Step]) -> Result<String, Fail> {
     let mut line = String::new(alloc);
     for step in run {
         let (rule, row) = (step.rule.saturating_add(1), step.row.saturating_add(1));

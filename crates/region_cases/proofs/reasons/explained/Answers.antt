@@ -1,0 +1,7 @@
+use Rattle.fix_explain.proofs.Shortest.{IsStepOf-run}
+use Rattle.region_cases.proofs.reasons.explained.Goals as goal
+
+-- the steps of a reason are a run, so they are steps of the kit
+pub uses-requires-clause-steps : goal.uses-requires-clause-steps
+uses-requires-clause-steps c = rw c.as_slice.ensures
+    (IsStepOf-run c.args.book.now c.least.new.state c.in_ok-steps.steps c.in_ok-steps.ensures.fixes.run)
