@@ -1,7 +1,7 @@
-//! Times the work of the desk that grows with rules and with master rows.
+//! Times the work of the desk that grows with rules and with master rows, and the sessions of a clerk.
 //!
-//! The words are how many rules, master rows and records, as in `desk_bench 48 20000 1000`; for each record 100
-//! looks are made. What was done is told on standard output, and how much processor time each part took on
+//! The words are how many rules, master rows, records and sessions, as in `desk_bench 48 20000 1000 5000`; for each
+//! record 100 looks are made. What was done is told on standard output, and how much processor time each part took on
 //! standard error.
 #![tactic(auto)]
 
@@ -9,11 +9,14 @@ ghost use Rattle.fix_model.specs.Valid.{IsValid};
 
 mod desk;
 mod looks;
+mod sessions;
+mod sitting;
 mod sizes;
 mod texts;
 
 use crate::desk::{clock, kit_of, tell};
 use crate::looks::{LOOKS, rows_found};
+use crate::sessions::enter_sessions;
 use crate::sizes::Sizes;
 use desk_base::Duplicate;
 use fix_model::{Book, Kit, ListBook};
@@ -30,20 +33,57 @@ fn main(rt: HostRuntime) -> Result<(), Fail> {
     let words = env::args(&rt)?.skip(1).collect::<Vec<_>>(rt.alloc())?;
     match Sizes::of_words(&words) {
         Some(sizes) => measure(&rt, rt.alloc(), sizes),
-        None => Err(Fail::new("usage: desk_bench RULES ROWS RECORDS")),
+        None => Err(Fail::new("usage: desk_bench RULES ROWS RECORDS SESSIONS")),
     }
 }
 
-/// Makes the kit, and looks into the three books over it.
+/// Makes the kit, looks into the three books over it, and enters the sessions.
 fn measure<R: Print + Eprint + CpuClock>(rt: &R, alloc: Global, sizes: Sizes) -> Result<(), Fail> {
     let kit = kit_of(rt, alloc, sizes)?;
-    let plain = ListBook::new(kit.copy()?);
+    look_into_plain(rt, alloc, kit.copy()?, sizes)?;
+    look_into_map(rt, alloc, kit.copy()?, sizes)?;
+    look_into_sorted(rt, alloc, kit, sizes)?;
+    enter_sessions(rt, alloc, sizes)
+}
+
+/// Looks into the plain book.
+fn look_into_plain<R: Print + Eprint + CpuClock>(
+    rt: &R,
+    alloc: Global,
+    kit: Kit,
+    sizes: Sizes,
+) -> Result<(), Fail>
+    requires { IsValid kit }
+{
+    let book = ListBook::new(kit);
     let few = sizes.records / PLAIN_SHARE;
-    look_up(rt, alloc, "plain", &plain, sizes.rows, few)?;
-    let map = map_of(rt, alloc, kit.copy()?)?;
-    look_up(rt, alloc, "map", &map, sizes.rows, sizes.records)?;
-    let sorted = sorted_of(rt, alloc, kit)?;
-    look_up(rt, alloc, "sorted", &sorted, sizes.rows, sizes.records)
+    look_up(rt, alloc, "plain", &book, sizes.rows, few)
+}
+
+/// Looks into the book over maps.
+fn look_into_map<R: Print + Eprint + CpuClock>(
+    rt: &R,
+    alloc: Global,
+    kit: Kit,
+    sizes: Sizes,
+) -> Result<(), Fail>
+    requires { IsValid kit }
+{
+    let book = map_of(rt, alloc, kit)?;
+    look_up(rt, alloc, "map", &book, sizes.rows, sizes.records)
+}
+
+/// Looks into the book over a sorted index.
+fn look_into_sorted<R: Print + Eprint + CpuClock>(
+    rt: &R,
+    alloc: Global,
+    kit: Kit,
+    sizes: Sizes,
+) -> Result<(), Fail>
+    requires { IsValid kit }
+{
+    let book = sorted_of(rt, alloc, kit)?;
+    look_up(rt, alloc, "sorted", &book, sizes.rows, sizes.records)
 }
 
 /// The book over maps of the kit's masters.

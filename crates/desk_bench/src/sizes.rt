@@ -1,23 +1,26 @@
 //! How much is done.
 
-/// So many rules, 1 to 200, over a master of so many rows, 1 to 20,000, and so many records, 1 to 1,000,000.
+/// So many rules, 1 to 200, over a master of so many rows, 1 to 20,000, so many records, 1 to 1,000,000, and so many
+/// sessions, 1 to 5,000.
 #[derive(Clone, Copy, Debug)]
 pub struct Sizes {
     pub rules: u32,
     pub rows: u32,
     pub records: u32,
+    pub sessions: u32,
 }
 
 impl Sizes {
-    /// The sizes that three words name, where each is in its range.
+    /// The sizes that four words name, where each is in its range.
     pub fn of_words(words: &[String]) -> Option<Sizes> {
-        let [rules, rows, records] = words else {
+        let [rules, rows, records, sessions] = words else {
             return None;
         };
         Some(Sizes {
             rules: number(rules, 200)?,
             rows: number(rows, 20_000)?,
             records: number(records, 1_000_000)?,
+            sessions: number(sessions, 5_000)?,
         })
     }
 }

@@ -1,0 +1,157 @@
+//! A clerk who enters sessions on a desk with one edition, without a store.
+use crate::desk::{clock, tell};
+use crate::sitting::Sitting;
+use crate::sizes::Sizes;
+use crate::texts::{SCHEMA, rules_text, sheet_text};
+use desk_base::{List, NoMemory, Str};
+use desk_words::{ClerkWork, StewardWork};
+use std::alloc::Global;
+use std::test::Fail;
+use std::time::CpuClock;
+
+/// How many sessions are timed, the last ones.
+const TIMED: u32 = 50;
+
+/// How many requests are made before the first session.
+const PUBLISHED: u64 = 5;
+
+/// Enters so many sessions, and tells how much processor time the last fifty took, and those before them.
+pub fn enter_sessions<R: Print + Eprint + CpuClock>(
+    rt: &R,
+    alloc: Global,
+    sizes: Sizes,
+) -> Result<(), Fail> {
+    let mut sitting = Sitting::begin(alloc)?;
+    publish_and_enter(rt, alloc, &mut sitting, sizes)
+}
+
+/// Publishes the edition, and enters the sessions. The desk is lent, since a function with many ways out that lets it
+/// go takes minutes to prove.
+fn publish_and_enter<R: Print + Eprint + CpuClock>(
+    rt: &R,
+    alloc: Global,
+    sitting: &mut Sitting,
+    sizes: Sizes,
+) -> Result<(), Fail> {
+    publish(alloc, sitting, sizes)?;
+    enter_first(rt, alloc, sitting, sizes)?;
+    enter_last(rt, alloc, sitting, sizes)?;
+    tell_count(rt, sitting.turn())
+}
+
+/// Enters all sessions but the last fifty.
+fn enter_first<R: Eprint + CpuClock>(
+    rt: &R,
+    alloc: Global,
+    sitting: &mut Sitting,
+    sizes: Sizes,
+) -> Result<(), Fail> {
+    let count = sizes.sessions.saturating_sub(TIMED);
+    let start = clock(rt)?;
+    enter_all(alloc, sitting, sizes.rows, 0, count)?;
+    Ok(tell(rt, "the sessions before the last 50", start)?)
+}
+
+/// Enters the last fifty sessions, or all where there are fewer.
+fn enter_last<R: Eprint + CpuClock>(
+    rt: &R,
+    alloc: Global,
+    sitting: &mut Sitting,
+    sizes: Sizes,
+) -> Result<(), Fail> {
+    let first = sizes.sessions.saturating_sub(TIMED);
+    let start = clock(rt)?;
+    enter_all(alloc, sitting, sizes.rows, first, sizes.sessions)?;
+    Ok(tell(rt, "the last 50 sessions", start)?)
+}
+
+/// Tells how many sessions were entered, by the number of requests that were accepted.
+fn tell_count<R: Print>(rt: &R, turn: u64) -> Result<(), Fail> {
+    let count = turn.saturating_sub(PUBLISHED);
+    Ok(println!(rt; "sessions: {count} entered")?)
+}
+
+/// Makes the clerk, and publishes the edition.
+fn publish(alloc: Global, sitting: &mut Sitting, sizes: Sizes) -> Result<(), Fail> {
+    let sheet = sheet_text(alloc, sizes.rows)?;
+    let rules = rules_text(alloc, sizes.rules)?;
+    sitting.publish(1, clerk(alloc)?)?;
+    sitting.publish(2, schema(alloc)?)?;
+    sitting.publish(3, master(alloc, sheet.as_bytes())?)?;
+    sitting.publish(4, rulebook(alloc, rules.as_bytes())?)?;
+    sitting.publish(5, edition(alloc)?)
+}
+
+fn clerk(alloc: Global) -> Result<StewardWork, NoMemory> {
+    Ok(StewardWork::AddClerk {
+        name: Str::new(alloc, "amy")?,
+    })
+}
+
+fn schema(alloc: Global) -> Result<StewardWork, NoMemory> {
+    Ok(StewardWork::AddSchema {
+        body: list_of(alloc, SCHEMA)?,
+    })
+}
+
+fn master(alloc: Global, sheet: &[u8]) -> Result<StewardWork, NoMemory> {
+    Ok(StewardWork::AddMaster {
+        name: Str::new(alloc, "m")?,
+        body: list_of(alloc, sheet)?,
+    })
+}
+
+fn rulebook(alloc: Global, rules: &[u8]) -> Result<StewardWork, NoMemory> {
+    Ok(StewardWork::AddRulebook {
+        name: Str::new(alloc, "rules")?,
+        schema: Str::new(alloc, "wide")?,
+        version: 1,
+        body: list_of(alloc, rules)?,
+    })
+}
+
+fn edition(alloc: Global) -> Result<StewardWork, NoMemory> {
+    let mut masters = List::new(alloc);
+    masters.push((Str::new(alloc, "m")?, 1))?;
+    Ok(StewardWork::AddEdition {
+        name: Str::new(alloc, "desk")?,
+        rulebook: (Str::new(alloc, "rules")?, 1),
+        masters,
+        folded: List::new(alloc),
+    })
+}
+
+fn list_of(alloc: Global, bytes: &[u8]) -> Result<List<u8>, NoMemory> {
+    Ok(List::from_vec(Vec::from_slice(alloc, bytes)?))
+}
+
+/// Enters the sessions behind the first ones, up to so many.
+fn enter_all(
+    alloc: Global,
+    sitting: &mut Sitting,
+    rows: u32,
+    first: u32,
+    count: u32,
+) -> Result<(), Fail> {
+    for place in first..count {
+        // The rows of one session and the next lie far apart.
+        let row = u64::from(place) * 7_919 % u64::from(rows.max(1));
+        let work = enter(alloc, row)?;
+        sitting.write(Str::new(alloc, "amy")?, u64::from(place) + 1, work)?;
+    }
+    Ok(())
+}
+
+/// An enter of a session whose first attribute is that of a row, and confirmed.
+fn enter(alloc: Global, row: u64) -> Result<ClerkWork, NoMemory> {
+    let text = format!(in alloc; "a{row}")?;
+    let mut cells = List::new(alloc);
+    cells.push((Str::new(alloc, "a0")?, Str::new(alloc, text.as_str())?))?;
+    let mut confirmed = List::new(alloc);
+    confirmed.push(Str::new(alloc, "a0")?)?;
+    Ok(ClerkWork::Enter {
+        edition: Str::new(alloc, "desk")?,
+        cells,
+        confirmed,
+    })
+}
