@@ -1,7 +1,12 @@
+pub mod Asking
 pub mod Determined
 pub mod Limits
+pub mod Made
+pub mod OneSummary
 pub mod Openings
 pub mod Replies
 pub mod Reports
 pub mod Served
+pub mod Summaries
 pub mod Taking
+pub mod Turns

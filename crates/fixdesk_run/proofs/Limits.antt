@@ -1,12 +1,14 @@
--- The limit that words say is 1 at least.
-use Rattle.std.proofs.Common.{◌≡◌, ℕ, ◌≤◌, Bool, true, false, List, [], ◌∷◌, Option, Some, None, lit≤, refl}
-use Rattle.std.specs.Prelude.{nat_le, if◌then◌else◌, codes}
+-- The limit that words say is 1 at least, and the numbers of `make` are within their bounds.
+use Rattle.std.proofs.Common.{◌≡◌, ℕ, ◌≤◌, ◌<◌, ◌^◌, Bool, true, false, List, [], ◌∷◌, Option, Some, None, lit≤}
+use Rattle.std.proofs.Common.{refl, arith}
+use Rattle.std.specs.Prelude.{◌&&◌, nat_le, nat_lt, if◌then◌else◌, codes}
 use Rattle.std.specs.Str.{bytes_eq}
+use Rattle.std.proofs.lemmas.Bool.Decides.{nat_tests}
 use Rattle.http_cut.specs.Numbers.{positive}
 use Rattle.http_desk.proofs.Numbered.{positive-bounds}
 use Rattle.fixdesk_run.specs.declared.task.Task.{Task}
-use Rattle.fixdesk_run.specs.declared.task.Task.TheVariants.{Once, Pipe, Report}
-use Rattle.fixdesk_run.specs.Task.{IsLimited, alone, limited, pipe_of, task_of}
+use Rattle.fixdesk_run.specs.declared.task.Task.TheVariants.{Once, Pipe, Report, Make}
+use Rattle.fixdesk_run.specs.Task.{IsLimited, alone, limited, made_from, make_of, pipe_of, start_of, task_of}
 
 -- what holds of both choices holds of the one that is made
 either : (test : Bool) (one other : Option Task) → IsLimited one → IsLimited other
@@ -31,6 +33,31 @@ of_pipe (option ∷ digits ∷ []) =
     either (bytes_eq option (codes "--limit")) (limited (positive 7 digits)) None (of_digits digits) tt
 of_pipe (option ∷ digits ∷ word ∷ others) = tt
 
+-- two numbers that pass their tests
+within : (sessions start : ℕ) → (nat_le sessions 5000 && nat_lt start (2 ^ 31)) ≡ true
+    → (sessions ≤ 5000) × (start < 2 ^ 31)
+within sessions start is = grind (arith, nat_tests)
+
+-- the numbers of `make`
+of_both : (sessions start : ℕ) (test : Bool) → (nat_le sessions 5000 && nat_lt start (2 ^ 31)) ≡ test
+    → 1 ≤ sessions → IsLimited (if test then Some (Make sessions start) else None)
+of_both sessions start true is least = let both = within sessions start is in (least, both.0, both.1)
+of_both sessions start false is least = tt
+
+of_numbers : (sessions start : Option ℕ) → ((count : ℕ) → sessions ≡ Some count → 1 ≤ count)
+    → IsLimited (made_from sessions start)
+of_numbers None start least = tt
+of_numbers (Some sessions) None least = tt
+of_numbers (Some sessions) (Some start) least = of_both sessions start _ refl (least sessions refl)
+
+-- those of the words behind it
+of_make : (words : List (List ℕ)) → IsLimited (make_of words)
+of_make [] = tt
+of_make (sessions ∷ []) = tt
+of_make (sessions ∷ start ∷ []) =
+    of_numbers (positive 4 sessions) (start_of start) (λ count is. (positive-bounds 4 sessions count is).0)
+of_make (sessions ∷ start ∷ word ∷ others) = tt
+
 -- a task that no further word changes
 of_alone : (task : Task) (words : List (List ℕ)) → IsLimited (Some task) → IsLimited (alone task words)
 of_alone task [] is = is
@@ -42,4 +69,5 @@ IsLimited-task_of [] = tt
 IsLimited-task_of (word ∷ others) =
     either (bytes_eq word (codes "once")) (alone Once others) _ (of_alone Once others tt)
     (either (bytes_eq word (codes "pipe")) (pipe_of others) _ (of_pipe others)
-    (either (bytes_eq word (codes "report")) (alone Report others) None (of_alone Report others tt) tt))
+    (either (bytes_eq word (codes "report")) (alone Report others) _ (of_alone Report others tt)
+    (either (bytes_eq word (codes "make")) (make_of others) None (of_make others) tt)))

@@ -42,17 +42,19 @@ report_step rows sheet changes (Err refusal) gives is =
     let other = ap (λ (pair : Reply × List Change). pair.0) is in
     absurd cc
 
+-- the sheet of what was weighed
+pub sheet_given : (rows : Rows) (weighed : Weighed) (sheet : ReportSheet) → IsWeighed rows DeskReport weighed
+    → weighed.reply ≡ reply.Report sheet → Gives (machine rows DeskReport) (Ok (reply.Report sheet, []))
+sheet_given rows weighed sheet (inl step) is = report_step rows sheet weighed.changes step.outcome step.gives
+    (subst (λ (found : Reply). (found, weighed.changes) ≡ answered step.outcome) is step.answers)
+sheet_given rows weighed sheet (inr none) is = absurd (let other = none.reply in cc)
+
 -- the text of what was weighed
 is_report : (rows : Rows) (weighed : Weighed) (sheet : ReportSheet) (text : List ℕ)
     → IsWeighed rows DeskReport weighed → weighed.reply ≡ reply.Report sheet → text ≡ report_text sheet
     → IsReport rows text
-is_report rows weighed sheet text (inl step) is shows = record {
-  sheet = sheet;
-  gives = report_step rows sheet weighed.changes step.outcome step.gives
-      (subst (λ (found : Reply). (found, weighed.changes) ≡ answered step.outcome) is step.answers);
-  is = shows;
-}
-is_report rows weighed sheet text (inr none) is shows = absurd (let other = none.reply in cc)
+is_report rows weighed sheet text step is shows =
+    record { sheet = sheet; gives = sheet_given rows weighed sheet step is; is = shows }
 
 -- and what is made of it, where there is memory
 pub reported : {E : Type 0} (rows : Rows) (weighed : Weighed) (sheet : ReportSheet) (result : Result (List ℕ) E)

@@ -8,4 +8,5 @@ pub mod Once
 pub mod Opening
 pub mod Pipe
 pub mod Report
+pub mod Make
 pub mod Run

@@ -3,7 +3,8 @@ use Rattle.std.specs.Prelude.{◌≡◌, ◌⊎◌, ℕ, List, length, Option, S
 use Rattle.fixdesk_run.specs.declared.status.Status.{Status}
 use Rattle.fixdesk_run.specs.declared.status.Status.TheVariants.{NoMemory, Damaged}
 use Rattle.fixdesk_run.specs.declared.task.Task.{Task}
-use Rattle.fixdesk_run.specs.declared.task.Task.TheVariants.{Once, Pipe, Report}
+use Rattle.fixdesk_run.specs.declared.task.Task.TheVariants.{Once, Pipe, Report, Make}
+use Rattle.fixdesk_run.specs.Make.{EndsMake, IsSummary}
 use Rattle.fixdesk_run.specs.Once.{EndsOnce, IsOnceCode, MayBeTold}
 use Rattle.fixdesk_run.specs.Opening.{MayBeDamageLine, StaysShut}
 use Rattle.fixdesk_run.specs.Pipe.{EndsPipe, PipesFaultless}
@@ -19,6 +20,8 @@ Ends None old new status = EndsUsage old.link new.link status × IsUncalled old 
 Ends (Some Once) old new status = EndsOnce old.link new.link status × IsUncalled old new
 Ends (Some (Pipe limit)) old new status = EndsPipe limit old new status
 Ends (Some Report) old new status = EndsReport old new status
+Ends (Some (Make sessions start)) old new status =
+    EndsMake sessions start old.link new.link status × IsUncalled old new
 
 -- what a call with these words leaves, which answers this number: the code of the status that it ended with
 pub record Leaves (words : List (List ℕ)) (old new : World) (code : ℕ) : Type 0 where
@@ -35,6 +38,7 @@ AreSteady reads keeps None = ⊤
 AreSteady reads keeps (Some Once) = reads
 AreSteady reads keeps (Some (Pipe limit)) = reads × keeps
 AreSteady reads keeps (Some Report) = keeps
+AreSteady reads keeps (Some (Make sessions start)) = ⊤
 
 -- a text that may be due, other than the responses to a stream
 abbrev pub MayBeDue : Option Task → World → List ℕ → Type 0
@@ -42,6 +46,7 @@ MayBeDue None old text = text ≡ usage_line
 MayBeDue (Some Once) old text = MayBeTold old.link.left text
 MayBeDue (Some (Pipe limit)) old text = MayBeDamageLine old.told text
 MayBeDue (Some Report) old text = MayBeReport old.told text ⊎ MayBeDamageLine old.told text
+MayBeDue (Some (Make sessions start)) old text = IsSummary sessions start text
 
 -- a sink that takes so many bytes takes whatever such text may be due
 abbrev pub TakesText : (ℕ → Type 0) → Option Task → World → Type 0
@@ -55,3 +60,4 @@ IsFaultless takes (Some Once) old new code = IsOnceCode code
 IsFaultless takes (Some (Pipe limit)) old new code = PipesFaultless takes limit old new code
     ⊎ (StaysShut old new NoMemory × (code ≡ 5)) ⊎ (StaysShut old new Damaged × (code ≡ 6))
 IsFaultless takes (Some Report) old new code = (code ≡ 0) ⊎ (code ≡ 5) ⊎ (code ≡ 6)
+IsFaultless takes (Some (Make sessions start)) old new code = (code ≡ 0) ⊎ (code ≡ 5)

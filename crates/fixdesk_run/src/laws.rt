@@ -1,5 +1,7 @@
-//! What holds of the definitions: the bytes of an input determine what they are answered with.
+//! What holds of the definitions: the bytes of an input determine what they are answered with, and the words of `make`
+//! what is written.
 ghost use Rattle.std.specs.Prelude.{◌≡◌, ℕ, List};
+ghost use Rattle.fixdesk_run.specs.Make.{IsSummary};
 ghost use Rattle.fixdesk_run.specs.Once.{IsAnswered, IsRefused};
 
 /// An input is answered with one text at most.
@@ -20,4 +22,11 @@ pub fn one_refusal(input: &[u8], line: &[u8], other: &[u8])
 pub fn no_refusal_of_a_case(input: &[u8], text: &[u8])
     requires { IsAnswered input.now text.now }
     ensures { (line : List ℕ) → ¬ IsRefused input.now line }
+{}
+
+/// So many sessions, by draws from a start, have one summary at most.
+pub fn one_summary(sessions: u32, start: u32, text: &[u8], other: &[u8])
+    requires summary { IsSummary sessions start text.now }
+    requires also { IsSummary sessions start other.now }
+    ensures { text.now ≡ other.now }
 {}

@@ -1,13 +1,14 @@
 //! The top call of the program `fixdesk`, which does what the words of its command line ask for, over a link.
 //!
 //! `specs/Task.antt` says what words ask for, `specs/Run.antt` what a call leaves of the link and the keeper and when
-//! no fault comes; `specs/Once.antt`, `Pipe.antt`, `Report.antt` and `Usage.antt` the same for each task by its status,
-//! and `specs/Opening.antt` where no machine begins. Which JSON texts are a case, and what is answered to one,
-//! `desk_json` says, and `http_desk` what serving a stream leaves.
+//! no fault comes; `specs/Once.antt`, `Pipe.antt`, `Report.antt`, `Make.antt` and `Usage.antt` the same for each task
+//! by its status, and `specs/Opening.antt` where no machine begins. Which JSON texts are a case, and what is answered to
+//! one, `desk_json` says, and `http_desk` what serving a stream leaves.
 #![tactic(auto)]
 
 mod input;
 pub mod laws;
+mod make;
 mod once;
 mod opening;
 mod pipe;

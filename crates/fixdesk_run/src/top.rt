@@ -7,6 +7,7 @@ ghost use Rattle.fixdesk_run.specs.Task.{IsLimited, task_of};
 ghost use Rattle.fixdesk_run.specs.Usage.{EndsUsage, usage_line};
 ghost use Rattle.fixdesk_run.specs.World.{Later, world};
 
+use crate::make::make;
 use crate::once::once;
 use crate::pipe::pipe;
 use crate::report::report;
@@ -27,9 +28,11 @@ const USAGE: &[u8] = b"usage: fixdesk once | pipe [--limit N] | report | make N 
 /// are, with status 0, or the line that refuses them, with status 7. `pipe` begins a machine `M` over the keeper's
 /// tables and answers the requests that the link has left, at most 100,000 or as many as `--limit` says: with status 0
 /// to the end of the bytes, 7 where they end otherwise than behind a whole request, 8 at the limit. `report` writes the
-/// report over all sessions in the keeper's tables, with status 0. All other words are answered with the usage line,
-/// with status 1. A link that fails gives 2 or 3, a keeper that fails at the beginning 4, want of memory 5, and damaged
-/// tables a line that names the first damaged row, with status 6.
+/// report over all sessions in the keeper's tables, with status 0. `make N START` serves a stream of its own, with N
+/// sessions, over an empty desk in memory, and writes how these sessions stand, with status 0; it touches neither the
+/// keeper nor what the link has left. All other words are answered with the usage line, with status 1. A link that
+/// fails gives 2 or 3, a keeper that fails at the beginning 4, want of memory 5, and damaged tables a line that names
+/// the first damaged row, with status 6.
 pub fn run<M: Machine + Drop, K: Keeper, S: Source, W: Sink>(
     alloc: Global,
     words: &[String],
@@ -69,6 +72,7 @@ fn perform<M: Machine + Drop, K: Keeper, S: Source, W: Sink>(
         Some(Task::Once) => once(alloc, link),
         Some(Task::Pipe(limit)) => pipe::<M, K, S, W>(alloc, limit, keeper, link),
         Some(Task::Report) => report::<M, K, S, W>(alloc, keeper, link),
+        Some(Task::Make { sessions, start }) => make::<M, S, W>(alloc, sessions, start, link),
         None => tell_usage(link),
     }
 }

@@ -6,19 +6,20 @@ use session_machine::Desk;
 use std::alloc::Global;
 use std::test::Fail;
 
-/// How many bytes a sink has room for.
-const ROOM: usize = 100_000;
+/// How many bytes a sink has room for, where a case does not say.
+const USUAL_ROOM: usize = 100_000;
 
 /// How many bytes a call of an end of the link moves at most, where a case does not say.
 pub const USUAL_CUT: usize = 65_536;
 
 /// A call of `run`: its words, the bytes that the source has, how many bytes a call of an end of the link moves at
-/// most, and which call of the source and of the sink, counted from 1, fails.
+/// most, how many the sink has room for, and which call of the source and of the sink, counted from 1, fails.
 #[derive(Drop)]
 pub struct Call {
     pub words: Vec<String>,
     pub input: Vec<u8>,
     pub cut: usize,
+    pub room: usize,
     pub read_fails: Option<u64>,
     pub write_fails: Option<u64>,
 }
@@ -38,6 +39,7 @@ impl Call {
             words: words(alloc, text)?,
             input: Vec::new(alloc),
             cut: USUAL_CUT,
+            room: USUAL_ROOM,
             read_fails: None,
             write_fails: None,
         })
@@ -67,7 +69,7 @@ impl Call {
         let cut = self.cut.max(1);
         Ok(Both {
             source: MemSource::new(input, cut, numbers(alloc, self.read_fails)?),
-            sink: MemSink::new(alloc, cut, ROOM, numbers(alloc, self.write_fails)?)?,
+            sink: MemSink::new(alloc, cut, self.room, numbers(alloc, self.write_fails)?)?,
         })
     }
 }

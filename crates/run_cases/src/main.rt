@@ -7,6 +7,7 @@
 
 mod calls;
 mod keeping;
+mod making;
 mod script;
 mod streams;
 mod sweeps;
@@ -33,6 +34,7 @@ impl Subject for Runs {
             }
             "stream" => streams::told(alloc, &self.script, case),
             "each" => streams::each(alloc, case),
+            "made" => making::told(alloc, case),
             "early" => sweeps::each_end(alloc, &self.script, case),
             "reads" => sweeps::each_read_fails(alloc, &self.script, case),
             "writes" => sweeps::each_write_fails(alloc, &self.script, case),

@@ -1,0 +1,109 @@
+-- What `make` leaves of the link: the summary of the sessions that the requests of the generator open.
+use Rattle.std.specs.Prelude.{◌≡◌, ◌≢◌, ℕ, ◌+◌, ◌<◌, List, [], ◌∷◌, ◌++◌, length, Ok, Some, codes, decimal}
+use Rattle.std.specs.List.{find}
+use Rattle.std.specs.Str.{bytes_eq}
+use Rattle.desk_made.specs.Made.{made_requests}
+use Rattle.desk_made.specs.Requests.{stream_of}
+use Rattle.desk_json.specs.Shapes.{line}
+use Rattle.desk_valid.specs.Valid.{AreValid}
+use Rattle.desk_words.specs.declared.change.Change.{Change}
+use Rattle.desk_words.specs.declared.command.Command.TheVariants.{DeskReport}
+use Rattle.desk_words.specs.declared.reply.Reply.{Reply}
+use Rattle.desk_words.specs.declared.reply.Reply.TheVariants as reply
+use Rattle.desk_words.specs.declared.report.ReportLine.{ReportLine}
+use Rattle.desk_words.specs.declared.report.ReportSheet.{ReportSheet}
+use Rattle.desk_words.specs.Changes.{changed_all}
+use Rattle.desk_words.specs.Tables.{Rows, empty_rows}
+use Rattle.http_cut.specs.Cut.{IsCut, WholeRequest, clean}
+use Rattle.http_desk.specs.Answered.{Answered, IsAsked, Served, last_tables, requests}
+use Rattle.http_desk.specs.Commands.{command_for}
+use Rattle.machine_core.specs.Checked.{Gives}
+use Rattle.machine_core.specs.Machine.{machine}
+use Rattle.machine_core.specs.Ticket.{turn_of}
+use Rattle.fixdesk_run.specs.declared.status.Status.{Status}
+use Rattle.fixdesk_run.specs.declared.status.Status.TheVariants.{Done, NoCommand, ReadFault, WriteFault, Unavailable}
+use Rattle.fixdesk_run.specs.declared.status.Status.TheVariants.{NoMemory, Damaged, Refused, Limit}
+use Rattle.fixdesk_run.specs.Link.{IsSilent, Link, Says, SaysPart}
+
+-- ---- the desk that is made
+
+-- the session machine accepts a request over these tables, and leaves those
+pub record IsAccepted (before : Rows) (request : WholeRequest) (after : Rows) : Type 0 where
+  pub reply : Reply
+  pub changes : List Change
+  pub asked : IsAsked before (command_for request) reply changes
+  pub some : changes ≢ []
+  pub leaves : after ≡ changed_all before changes
+
+-- it accepts these requests one after another
+abbrev pub AreAccepted : Rows → List WholeRequest → Rows → Type 0
+AreAccepted before [] after = after ≡ before
+AreAccepted before (request ∷ requests) after =
+    (next : Rows) × IsAccepted before request next × AreAccepted next requests after
+
+-- the tables that an empty desk has when it has accepted all requests that the generator makes
+pub record IsMade (sessions start : ℕ) (rows : Rows) : Type 0 where
+  pub requests : List WholeRequest
+  pub cut : IsCut (stream_of (made_requests sessions start)) requests [] clean
+  pub accepted : AreAccepted empty_rows requests rows
+
+-- ---- the summary
+
+-- the numbers of the desk's report over these tables for the edition `e`
+pub record IsCounted (rows : Rows) (counted : ReportLine) : Type 0 where
+  pub sheet : ReportSheet
+  pub gives : Gives (machine rows DeskReport) (Ok (reply.Report sheet, []))
+  pub is : find (λ line. bytes_eq line.edition (codes "e")) sheet.lines ≡ Some counted
+
+-- the line that tells them
+abbrev pub summary_line : ReportLine → List ℕ
+summary_line counted = line (
+    codes "sessions " ++ decimal counted.sessions
+    ++ codes " certain " ++ decimal counted.certain
+    ++ codes " partial " ++ decimal counted.partial
+    ++ codes " conflict " ++ decimal counted.conflict
+    ++ codes " confirmed " ++ decimal counted.confirmed
+    ++ codes " fixed " ++ decimal counted.fixed
+    ++ codes " uncovered " ++ decimal counted.uncovered)
+
+-- a summary of these tables
+abbrev pub IsSummaryOf : Rows → List ℕ → Type 0
+IsSummaryOf rows text = (counted : ReportLine) × IsCounted rows counted × (text ≡ summary_line counted)
+
+-- the summary of so many sessions, by draws from a start
+abbrev pub IsSummary : ℕ → ℕ → List ℕ → Type 0
+IsSummary sessions start text = (rows : Rows) × IsMade sessions start rows × IsSummaryOf rows text
+
+-- what is left, by the status
+abbrev pub EndsMake : ℕ → ℕ → Link → Link → Status → Type 0
+EndsMake sessions start old new Done = (text : List ℕ) × IsSummary sessions start text × Says text old new
+EndsMake sessions start old new NoCommand = ⊥
+EndsMake sessions start old new ReadFault = ⊥
+EndsMake sessions start old new WriteFault = (text : List ℕ) × IsSummary sessions start text × SaysPart text old new
+EndsMake sessions start old new Unavailable = ⊥
+EndsMake sessions start old new NoMemory = IsSilent old new
+EndsMake sessions start old new Damaged = ⊥
+EndsMake sessions start old new Refused = ⊥
+EndsMake sessions start old new Limit = ⊥
+
+-- ---- on the way there
+
+-- how many requests the generator makes, with so many sessions
+abbrev pub request_count : ℕ → ℕ
+request_count sessions = sessions + 5
+
+-- an empty desk has answered all requests that the generator makes, and has these tables. That there are no more than
+-- this is known by the limit of the stream; whether they were accepted is not known yet
+pub record AllAnswered (sessions start : ℕ) (rows : Rows) : Type 0 where
+  pub answers : List Answered
+  pub limit : ℕ
+  pub cut : IsCut (stream_of (made_requests sessions start)) (requests answers) [] clean
+  pub served : Served limit 0 empty_rows answers
+  pub few : length answers < request_count sessions + 1
+  pub valid : AreValid empty_rows
+  pub leaves : rows ≡ last_tables empty_rows answers
+
+-- the tables' turn says that so many requests were accepted, and this is their summary
+pub record IsTold (sessions : ℕ) (rows : Rows) (text : List ℕ) : Type 0 where
+  pub turn : turn_of rows.clerks ≡ request_count sessions
+  pub summary : IsSummaryOf rows text
