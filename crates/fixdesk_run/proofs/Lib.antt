@@ -10,3 +10,4 @@ pub mod Served
 pub mod Summaries
 pub mod Taking
 pub mod Turns
+pub mod Visiting

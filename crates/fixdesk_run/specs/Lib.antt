@@ -10,3 +10,7 @@ pub mod Pipe
 pub mod Report
 pub mod Make
 pub mod Run
+pub mod Plan
+pub mod Visits
+pub mod Site
+pub mod Serve

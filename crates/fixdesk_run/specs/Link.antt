@@ -21,6 +21,15 @@ seen left read_faults written write_faults link = record {
   write_faults = write_faults link.sink;
 }
 
+-- a link with this left to read, so many failed reads, and an output as it tells it
+abbrev pub link_with : {W : Type 0} → (W → Option (List ℕ)) → (W → ℕ) → Option (List ℕ) → ℕ → W → Link
+link_with written write_faults left read_faults out = record {
+  left = left;
+  written = written out;
+  read_faults = read_faults;
+  write_faults = write_faults out;
+}
+
 -- nothing was read
 pub record IsUnread (old new : Link) : Type 0 where
   pub left : new.left ≡ old.left

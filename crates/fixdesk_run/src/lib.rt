@@ -12,12 +12,18 @@ mod make;
 mod once;
 mod opening;
 mod pipe;
+mod plan;
 mod reply;
 mod report;
+mod serving;
 mod status;
+mod tally;
 mod task;
 mod top;
+mod visits;
 
 pub use once::answer_over;
+pub use plan::Plan;
+pub use serving::{ServeEnd, serve};
 pub use status::Status;
 pub use top::run;

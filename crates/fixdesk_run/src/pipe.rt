@@ -34,7 +34,7 @@ pub fn pipe<M: Machine + Drop, K: Keeper, S: Source, W: Sink>(
 {
     match M::start(alloc, keeper) {
         Ok(mut machine) => end_status(serve_stream(alloc, &mut machine, keeper, link, limit)),
-        Err(fail) => stay_shut(alloc, fail, link),
+        Err(fail) => stay_shut(alloc, fail, &mut link.sink),
     }
 }
 

@@ -33,7 +33,7 @@ pub fn report<M: Machine + Drop, K: Keeper, S: Source, W: Sink>(
 {
     let mut machine = match M::start(alloc, keeper) {
         Ok(machine) => machine,
-        Err(fail) => return stay_shut(alloc, fail, link),
+        Err(fail) => return stay_shut(alloc, fail, &mut link.sink),
     };
     let text = match report_of(alloc, &mut machine) {
         Ok(text) => text,

@@ -10,17 +10,21 @@ returns-in-Err-clause-ended g c =
     let at = world g.S.Source.left g.S.Source.read_faults g.W.Sink.written g.W.Sink.write_faults g.K.Keeper.tables
     g.K.Keeper.faults in
     let old : World = at c.args.link.now c.args.keeper.now in
-    let new : World = at c.stay_shut.new.link c.start.new.keeper in
-    inr (stays_shut old new c.in-Err.fail c.stay_shut.result c.in-Err.ensures.unstarted c.stay_shut.ensures.told)
+    let new : World = at (record c.args.link.now { sink = c.stay_shut.new.out }) c.start.new.keeper in
+    let told = c.stay_shut.ensures.told (g.S.Source.left c.args.link.now.source)
+    (g.S.Source.read_faults c.args.link.now.source) in
+    inr (stays_shut old new c.in-Err.fail c.stay_shut.result c.in-Err.ensures.unstarted told)
 
 pub returns-in-Err-clause-complete : goal.returns-in-Err-clause-complete
 returns-in-Err-clause-complete g c keeps takes =
     let at = world g.S.Source.left g.S.Source.read_faults g.W.Sink.written g.W.Sink.write_faults g.K.Keeper.tables
     g.K.Keeper.faults in
     let old : World = at c.args.link.now c.args.keeper.now in
-    let new : World = at c.stay_shut.new.link c.start.new.keeper in
+    let new : World = at (record c.args.link.now { sink = c.stay_shut.new.out }) c.start.new.keeper in
     let room = takes_fail (g.W.Sink.takes c.args.link.now.sink) old new c.in-Err.fail c.in-Err.ensures.unstarted
     (λ (text : List ℕ) due. takes text (inr due)) in
-    let shut = is_shut old new c.in-Err.fail c.stay_shut.result c.in-Err.ensures.unstarted c.stay_shut.ensures.told
+    let told = c.stay_shut.ensures.told (g.S.Source.left c.args.link.now.source)
+    (g.S.Source.read_faults c.args.link.now.source) in
+    let shut = is_shut old new c.in-Err.fail c.stay_shut.result c.in-Err.ensures.unstarted told
     (c.in-Err.ensures.steady keeps).0 (c.stay_shut.ensures.complete room) in
     inr (shut_code old new (status_code c.stay_shut.result) shut)

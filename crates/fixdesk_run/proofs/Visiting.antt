@@ -1,0 +1,201 @@
+-- Links that are served one after another.
+use Rattle.std.proofs.Common.{◌≡◌, ◌∙◌, ℕ, ◌+◌, ◌≤◌, Bool, true, false, List, [], ◌∷◌, ◌++◌, map, length, refl, ap, sym, subst, arith}
+use Rattle.std.proofs.Common.{append-nil, cond, lit≤}
+use Rattle.std.specs.Int.{from_bool}
+use Rattle.std.specs.Prelude.{Option, Some, None}
+use Rattle.std.proofs.lemmas.List.{append_assoc, length_push, map-append}
+use Rattle.std.proofs.lemmas.List.Sums.{sum_by-append}
+use Rattle.desk_links.specs.Doors.{Closes, HandsOut, IsFresh, LinkSeen, one_more}
+use Rattle.http_desk.specs.declared.serving.Ended.{Ended}
+use Rattle.http_desk.specs.Answered.{RoseBy, failures}
+use Rattle.desk_words.specs.Tables.{Rows}
+use Rattle.fixdesk_run.specs.declared.plan.Plan.{Plan}
+use Rattle.fixdesk_run.specs.declared.serving.ServeEnd.{ServeEnd}
+use Rattle.fixdesk_run.specs.declared.serving.ServeEnd.TheVariants.{Done, WriteFault, NoMemory, DoorFault}
+use Rattle.fixdesk_run.specs.Serve.{EndsServing}
+use Rattle.fixdesk_run.specs.Site.{Door, IsPassed, PassesAll, PassesCount, PassesOne, Site}
+use Rattle.fixdesk_run.specs.Visits.{AreClosed, AreFirst, AreHandedOut, AreVisits, IsVisit, Standing, Visit, early_count}
+use Rattle.fixdesk_run.specs.Visits.{is_early, last_standing, refusals, with_bytes}
+
+-- a site with another keeper
+abbrev pub with_keeper : Site → Option Rows → ℕ → Site
+with_keeper old told faults = record old { world = record old.world { told = told; faults = faults } }
+
+-- ---- one more link
+
+-- it is served over the desk that the others left
+AreVisits-push : (before : Standing) (visits : List Visit) (visit : Visit) → AreVisits before visits
+    → IsVisit (last_standing before visits) visit → AreVisits before (visits ++ visit ∷ [])
+AreVisits-push before [] visit are is = (is, tt)
+AreVisits-push before (first ∷ visits) visit are is = (are.0, AreVisits-push first.after visits visit are.1 is)
+
+-- and leaves the desk
+last_standing-push : (before : Standing) (visits : List Visit) (visit : Visit)
+    → last_standing before (visits ++ visit ∷ []) ≡ visit.after
+last_standing-push before [] visit = refl
+last_standing-push before (first ∷ visits) visit = last_standing-push first.after visits visit
+
+-- its answers count with the others
+refusals-push : (visits : List Visit) (visit : Visit)
+    → refusals (visits ++ visit ∷ []) ≡ refusals visits + failures visit.answers
+refusals-push visits visit = sum_by-append (λ (v : Visit). failures v.answers) visits (visit ∷ []) ∙ omega arith
+
+-- one or none
+early_byte : (is : Bool) → from_bool is ≡ cond is 1 0
+early_byte true = refl
+early_byte false = refl
+
+-- it counts once at most
+pub early_once : (is : Bool) → from_bool is ≤ 1
+early_once true = lit≤ tt
+early_once false = lit≤ tt
+
+-- its end counts with the others
+early_count-push : (visits : List Visit) (visit : Visit)
+    → early_count (visits ++ visit ∷ []) ≡ early_count visits + cond (is_early visit.end) 1 0
+early_count-push visits visit =
+    sum_by-append (λ (v : Visit). cond (is_early v.end) 1 0) visits (visit ∷ []) ∙ omega arith
+
+-- what rose twice rose by the sum
+RoseBy-then : (first second before middle now : ℕ) → RoseBy first before middle → RoseBy second middle now
+    → RoseBy (first + second) before now
+RoseBy-then first second before middle now h k = omega arith
+
+-- a link of these parts
+parts_are : (left written : Option (List ℕ)) (reads writes : ℕ) (bytes : List ℕ) → left ≡ Some bytes
+    → written ≡ Some [] → reads ≡ 0 → writes ≡ 0
+    → ◌≡◌ {A = LinkSeen} (record { left = left; written = written; read_faults = reads; write_faults = writes })
+    (with_bytes bytes)
+parts_are left written reads writes bytes left_is written_is reads_is writes_is =
+    rw (left_is, written_is, reads_is, writes_is) refl
+
+-- a fresh link that tells its bytes
+is_with_bytes : (link : LinkSeen) (bytes : List ℕ) → link.left ≡ Some bytes → link.written ≡ Some [] → IsFresh link
+    → link ≡ with_bytes bytes
+is_with_bytes link bytes left written fresh =
+    parts_are link.left link.written link.read_faults link.write_faults bytes left written fresh.read_faults
+    fresh.write_faults
+
+-- ---- what a door tells
+
+-- nothing was handed out yet
+AreHandedOut-none : (told : Option (List (List ℕ))) → AreHandedOut told told []
+AreHandedOut-none None = refl
+AreHandedOut-none (Some waiting) =
+    record { first = []; others = waiting; split = refl; wait = refl; are = refl }
+
+-- nor closed
+AreClosed-none : (told : Option (List LinkSeen)) → AreClosed told told []
+AreClosed-none None = refl
+AreClosed-none (Some closed) = ap (λ (l : List LinkSeen). Some l) (sym (append-nil closed))
+
+-- the next one of those that wait is handed out
+first-push : (waiting others : List (List ℕ)) (now new : Option (List (List ℕ))) (visits : List Visit) (visit : Visit)
+    → (first : AreFirst waiting now visits) → HandsOut (Some first.others) new visit.opened → IsFresh visit.opened
+    → AreFirst waiting new (visits ++ visit ∷ [])
+first-push waiting others now new visits visit first hands fresh =
+    let opened = is_with_bytes visit.opened hands.bytes hands.left hands.written fresh in
+    record {
+      first = first.first ++ hands.bytes ∷ [];
+      others = hands.rest;
+      split = first.split ∙ ap (λ (l : List (List ℕ)). first.first ++ l) hands.first
+          ∙ sym (append_assoc first.first (hands.bytes ∷ []) hands.rest);
+      wait = hands.others;
+      are = map-append (λ (v : Visit). v.opened) visits (visit ∷ [])
+          ∙ ap (λ (l : List LinkSeen). l ++ visit.opened ∷ []) first.are
+          ∙ ap (λ (link : LinkSeen). map with_bytes first.first ++ link ∷ []) opened
+          ∙ sym (map-append with_bytes first.first (hands.bytes ∷ []));
+    }
+
+AreHandedOut-push : (old now new : Option (List (List ℕ))) (visits : List Visit) (visit : Visit)
+    → AreHandedOut old now visits → HandsOut now new visit.opened → IsFresh visit.opened
+    → AreHandedOut old new (visits ++ visit ∷ [])
+AreHandedOut-push None now new visits visit none hands fresh = rw none at hands
+AreHandedOut-push (Some waiting) now new visits visit first hands fresh =
+    let told : HandsOut (Some first.others) new visit.opened = rw first.wait at hands in
+    first-push waiting first.others now new visits visit first told fresh
+
+AreClosed-push : (old now new : Option (List LinkSeen)) (visits : List Visit) (visit : Visit)
+    → AreClosed old now visits → Closes now new visit.closed → AreClosed old new (visits ++ visit ∷ [])
+AreClosed-push None now new visits visit none closes = rw none at closes
+AreClosed-push (Some closed) now new visits visit are closes =
+    let told : Closes (Some (closed ++ map (λ (v : Visit). v.closed) visits)) new visit.closed = rw are at closes in
+    told ∙ ap (λ (l : List LinkSeen). Some l)
+        (append_assoc closed (map (λ (v : Visit). v.closed) visits) (visit.closed ∷ [])
+        ∙ ap (λ (l : List LinkSeen). closed ++ l)
+            (sym (map-append (λ (v : Visit). v.closed) visits (visit ∷ []))))
+
+-- ---- all links
+
+-- none was served yet
+PassesAll-none : (desk : Standing) (door : Door) → door.accepted ≡ Some 0 → door.live ≡ 0
+    → PassesAll desk desk door door []
+PassesAll-none desk door accepted live = record {
+  are = tt;
+  after_is = refl;
+  failed = omega arith;
+  door = record {
+    port_is = refl;
+    accepted = accepted;
+    live = live;
+    waiting = AreHandedOut-none door.waiting;
+    closed = AreClosed-none door.closed;
+  };
+}
+
+-- and none ended early
+pub PassesCount-none : (desk : Standing) (door : Door) → door.accepted ≡ Some 0 → door.live ≡ 0
+    → PassesCount desk desk door door 0 0
+PassesCount-none desk door accepted live =
+    record { visits = []; pass = PassesAll-none desk door accepted live; all = refl; early_is = refl }
+
+-- one more was served
+PassesAll-push : (before mid after : Standing) (old now new : Door) (end : Ended) (visits : List Visit)
+    → PassesAll before mid old now visits → (one : PassesOne mid after now new end)
+    → PassesAll before after old new (visits ++ one.visit ∷ [])
+PassesAll-push before mid after old now new end visits all one =
+    let visit = one.visit in
+    let is : IsVisit (last_standing before visits) visit =
+    subst (λ (desk : Standing). IsVisit desk visit) (sym all.after_is) one.is in
+    let own : RoseBy (failures visit.answers) mid.faults after.faults =
+    rw (one.is.answers, ← one.after_is) one.is.streams.progress.failed in
+    record {
+      are = AreVisits-push before visits visit all.are is;
+      after_is = last_standing-push before visits visit ∙ one.after_is;
+      failed = rw (refusals-push visits visit)
+          (RoseBy-then (refusals visits) (failures visit.answers) before.faults mid.faults after.faults all.failed own);
+      door = record {
+        port_is = one.port ∙ all.door.port_is;
+        accepted = one.accepted ∙ ap one_more all.door.accepted
+            ∙ ap (λ (n : ℕ). Some n) (sym (length_push visits visit));
+        live = one.live;
+        waiting = AreHandedOut-push old.waiting now.waiting new.waiting visits visit all.door.waiting one.waiting
+            one.is.fresh;
+        closed = AreClosed-push old.closed now.closed new.closed visits visit all.door.closed one.closed;
+      };
+    }
+
+-- and counted
+pub PassesCount-push : (before mid after : Standing) (old now new : Door) (end : Ended) (count early : ℕ)
+    → PassesCount before mid old now count early → PassesOne mid after now new end
+    → PassesCount before after old new (count + 1) (early + from_bool (is_early end))
+PassesCount-push before mid after old now new end count early all one = record {
+  visits = all.visits ++ one.visit ∷ [];
+  pass = PassesAll-push before mid after old now new end all.visits all.pass one;
+  all = length_push all.visits one.visit ∙ ap (λ (n : ℕ). n + 1) all.all;
+  early_is = ap (λ (n : ℕ). early + n) (early_byte (is_early end))
+      ∙ ap (λ (e : Ended). early + cond (is_early e) 1 0) (sym one.end_is)
+      ∙ ap (λ (n : ℕ). n + cond (is_early one.visit.end) 1 0) all.early_is
+      ∙ sym (early_count-push all.visits one.visit);
+}
+
+-- ---- a call
+
+-- what is left where a machine began does not speak of the keeper before
+pub EndsServing-before : (plan : Plan) (begun : Standing) (old : Site) (told : Option Rows) (faults : ℕ) (new : Site)
+    (end : ServeEnd) → EndsServing plan begun old new end
+    → EndsServing plan begun (with_keeper old told faults) new end
+EndsServing-before plan begun old told faults new Done ends = ends
+EndsServing-before plan begun old told faults new WriteFault ends = ends
+EndsServing-before plan begun old told faults new NoMemory ends = ends
+EndsServing-before plan begun old told faults new DoorFault ends = ends

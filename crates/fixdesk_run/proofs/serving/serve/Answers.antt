@@ -1,0 +1,104 @@
+use Rattle.std.proofs.Common.{◌≡◌, ◌∙◌, ℕ, List, map, refl, sym, inl, inr, arith, string_bytes}
+use Rattle.std.specs.Prelude.{◌⊎◌, None, Some}
+use Rattle.fixdesk_run.specs.Plan.{plan_of}
+use Rattle.fixdesk_run.specs.Serve.{TakesTally, serve_usage, served_line}
+use Rattle.fixdesk_run.specs.Site.{Site, site}
+use Rattle.fixdesk_run.specs.Status.{status_code}
+use Rattle.fixdesk_run.specs.Visits.{standing}
+use Rattle.fixdesk_run.proofs.Openings.{is_shut, shut_code, stays_shut, takes_fail}
+use Rattle.fixdesk_run.proofs.Visiting.{EndsServing-before}
+use Rattle.fixdesk_run.proofs.serving.serve.Goals as goal
+
+-- one of two is one of three
+one_of_three : (code : ℕ) → (code ≡ 0) ⊎ (code ≡ 5) → (code ≡ 0) ⊎ (code ≡ 5) ⊎ (code ≡ 6)
+one_of_three code (inl done) = inl done
+one_of_three code (inr short) = inr (inl short)
+
+-- the usage line is the one text that is due
+pub returns-in_default-clause-complete : goal.returns-in_default-clause-complete
+returns-in_default-clause-complete g c =
+    let none : plan_of (map string_bytes c.args.words.now) ≡ None = sym c.plan_of.ensures ∙ c.in_default.is in
+    rw none (λ steady takes. rw c.code.ensures (c.tell_usage.ensures.complete (takes serve_usage refl)))
+
+-- links were served
+pub returns-in-Ok-clause-leaves : goal.returns-in-Ok-clause-leaves
+returns-in-Ok-clause-leaves g c =
+    let some : plan_of (map string_bytes c.args.words.now) ≡ Some c.in-Some.plan = sym c.plan_of.ensures ∙ c.in-Some.is
+    in
+    let at = site g.W.Sink.written g.W.Sink.write_faults g.K.Keeper.tables g.K.Keeper.faults g.L.Listener.door_faults
+    g.L.Listener.port g.L.Listener.accepted g.L.Listener.live g.L.Listener.waiting g.L.Listener.closed in
+    let later = c.serve_all.ensures.later in
+    record {
+      ends = rw some (inr (record {
+            begun = standing g.M.Machine.rows g.K.Keeper.tables g.K.Keeper.faults c.in-Ok.machine c.start.new.keeper;
+            started = c.in-Ok.ensures.started;
+            loaded = c.start.ensures.later;
+            end = c.serve_all.result;
+            told = c.code-in-Ok.ensures;
+            ends = EndsServing-before c.in-Some.plan _ (at c.args.out.now c.start.new.keeper c.args.door.now)
+                (g.K.Keeper.tables c.args.keeper.now) (g.K.Keeper.faults c.args.keeper.now)
+                (at c.serve_all.new.out c.serve_all.new.keeper c.serve_all.new.door) c.serve_all.result
+                c.serve_all.ensures.ends;
+          }));
+      later = record {
+        world = record {
+          read_faults = omega arith;
+          write_faults = later.world.write_faults;
+          faults = omega (arith, c.start.ensures.later, later.world.faults);
+        };
+        door = later.door;
+      };
+    }
+
+-- neither keeper nor door failed, and the output took the line
+pub returns-in-Ok-clause-complete : goal.returns-in-Ok-clause-complete
+returns-in-Ok-clause-complete g c =
+    let some : plan_of (map string_bytes c.args.words.now) ≡ Some c.in-Some.plan = sym c.plan_of.ensures ∙ c.in-Some.is
+    in
+    rw some (λ steady takes.
+        let tally : TakesTally (g.W.Sink.takes c.args.out.now) c.in-Some.plan.count =
+        λ early few. takes (served_line c.in-Some.plan.count early) (inl (early, few, refl)) in
+        rw c.code-in-Ok.ensures (one_of_three _ (c.serve_all.ensures.complete steady.1 tally)))
+
+-- no machine began
+pub returns-in-Err-clause-leaves : goal.returns-in-Err-clause-leaves
+returns-in-Err-clause-leaves g c =
+    let some : plan_of (map string_bytes c.args.words.now) ≡ Some c.in-Some.plan = sym c.plan_of.ensures ∙ c.in-Some.is
+    in
+    let at = site g.W.Sink.written g.W.Sink.write_faults g.K.Keeper.tables g.K.Keeper.faults g.L.Listener.door_faults
+    g.L.Listener.port g.L.Listener.accepted g.L.Listener.live g.L.Listener.waiting g.L.Listener.closed in
+    let old : Site = at c.args.out.now c.args.keeper.now c.args.door.now in
+    let new : Site = at c.stay_shut.new.out c.start.new.keeper c.args.door.now in
+    record {
+      ends = rw some (inl (record {
+            status = c.stay_shut.result;
+            told = c.code-in-Err.ensures;
+            stays = stays_shut old.world new.world c.in-Err.fail c.stay_shut.result c.in-Err.ensures.unstarted
+                (c.stay_shut.ensures.told None 0);
+            unbound = refl;
+          }));
+      later = record {
+        world = record {
+          read_faults = omega arith;
+          write_faults = c.stay_shut.ensures.write_faults;
+          faults = c.start.ensures.later;
+        };
+        door = omega arith;
+      };
+    }
+
+-- the keeper did not fail, and the output took the line that names a damaged row
+pub returns-in-Err-clause-complete : goal.returns-in-Err-clause-complete
+returns-in-Err-clause-complete g c =
+    let some : plan_of (map string_bytes c.args.words.now) ≡ Some c.in-Some.plan = sym c.plan_of.ensures ∙ c.in-Some.is
+    in
+    let at = site g.W.Sink.written g.W.Sink.write_faults g.K.Keeper.tables g.K.Keeper.faults g.L.Listener.door_faults
+    g.L.Listener.port g.L.Listener.accepted g.L.Listener.live g.L.Listener.waiting g.L.Listener.closed in
+    let old : Site = at c.args.out.now c.args.keeper.now c.args.door.now in
+    let new : Site = at c.stay_shut.new.out c.start.new.keeper c.args.door.now in
+    rw some (λ steady takes.
+        let room = takes_fail (g.W.Sink.takes c.args.out.now) old.world new.world c.in-Err.fail
+        c.in-Err.ensures.unstarted (λ (text : List ℕ) due. takes text (inr due)) in
+        let shut = is_shut old.world new.world c.in-Err.fail c.stay_shut.result c.in-Err.ensures.unstarted
+        (c.stay_shut.ensures.told None 0) (c.in-Err.ensures.steady steady.0).0 (c.stay_shut.ensures.complete room) in
+        rw c.code-in-Err.ensures (inr (shut_code old.world new.world (status_code c.stay_shut.result) shut)))

@@ -1,0 +1,32 @@
+use Rattle.std.proofs.Common.{◌∙◌, refl}
+use Rattle.desk_links.specs.Doors.{link_seen}
+use Rattle.fixdesk_run.specs.Visits.{standing}
+use Rattle.fixdesk_run.proofs.visits.serve_next.Goals as goal
+
+-- the link was served
+pub returns-clause-passed : goal.returns-clause-passed
+returns-clause-passed g c =
+    let seen = link_seen g.L.Source.Source.left g.L.Source.Source.read_faults g.L.Sink.Sink.written
+    g.L.Sink.Sink.write_faults in
+    record {
+      visit = record {
+        opened = seen c.in_ok-link.link;
+        closed = seen c.serve_stream-end.new.link;
+        end = c.serve_stream-end.result;
+        answers = c.serve_stream-end.ensures.streams.answers;
+        after = standing g.M.Machine.rows g.K.Keeper.tables g.K.Keeper.faults c.serve_stream-end.new.machine
+            c.serve_stream-end.new.keeper;
+      };
+      end_is = refl;
+      after_is = refl;
+      is = record {
+        fresh = c.in_ok-link.ensures.fresh;
+        streams = c.serve_stream-end.ensures.streams;
+        answers = refl;
+      };
+      port = c.close.ensures.port ∙ c.accept.ensures.port;
+      accepted = c.close.ensures.accepted ∙ c.in_ok-link.ensures.counted;
+      live = c.close.ensures.live;
+      waiting = rw c.close.ensures.waiting c.in_ok-link.ensures.link;
+      closed = rw c.accept.ensures.closed at c.close.ensures.closed;
+    }

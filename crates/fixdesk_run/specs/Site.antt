@@ -1,0 +1,101 @@
+-- What a clause of `serve` sees: an output, a keeper and a door.
+use Rattle.std.specs.Prelude.{◌≡◌, ℕ, ◌<◌, ◌≤◌, List, Option, Some, None, length}
+use Rattle.desk_base.specs.Faults.{Rose}
+use Rattle.desk_links.specs.Doors.{Closes, HandsOut, LinkSeen, one_more}
+use Rattle.desk_words.specs.Tables.{Rows}
+use Rattle.http_desk.specs.declared.serving.Ended.{Ended}
+use Rattle.http_desk.specs.Answered.{RoseBy}
+use Rattle.fixdesk_run.specs.Link.{link_with}
+use Rattle.fixdesk_run.specs.Visits.{AreClosed, AreHandedOut, AreVisits, IsVisit, Standing, Visit, early_count}
+use Rattle.fixdesk_run.specs.Visits.{last_standing, refusals}
+use Rattle.fixdesk_run.specs.World.{Later as LaterWorld, World}
+
+-- how often a door has failed, the port and how many links it handed out, once it is bound, how many are open, and the
+-- links that wait and those that were closed, where it tells these
+pub record Door : Type 0 where
+  pub faults : ℕ
+  pub port : Option ℕ
+  pub accepted : Option ℕ
+  pub live : ℕ
+  pub waiting : Option (List (List ℕ))
+  pub closed : Option (List LinkSeen)
+
+-- an output, as a link that has nothing to read, with a keeper; and a door
+pub record Site : Type 0 where
+  pub world : World
+  pub door : Door
+
+-- a door as it tells it
+abbrev pub door_seen : {L : Type 0} → (L → ℕ) → (L → Option ℕ) → (L → Option ℕ) → (L → ℕ)
+    → (L → Option (List (List ℕ))) → (L → Option (List LinkSeen)) → L → Door
+door_seen faults port accepted live waiting closed door = record {
+  faults = faults door;
+  port = port door;
+  accepted = accepted door;
+  live = live door;
+  waiting = waiting door;
+  closed = closed door;
+}
+
+-- and all three
+abbrev pub site : {W K L : Type 0} → (W → Option (List ℕ)) → (W → ℕ) → (K → Option Rows) → (K → ℕ) → (L → ℕ)
+    → (L → Option ℕ) → (L → Option ℕ) → (L → ℕ) → (L → Option (List (List ℕ))) → (L → Option (List LinkSeen))
+    → W → K → L → Site
+site written write_faults told faults door_faults port accepted live waiting closed out keeper door = record {
+  world = record { link = link_with written write_faults None 0 out; told = told keeper; faults = faults keeper };
+  door = door_seen door_faults port accepted live waiting closed door;
+}
+
+-- nothing of the door changed but how often it has failed
+pub record IsUnchanged (old new : Door) : Type 0 where
+  pub port : new.port ≡ old.port
+  pub accepted : new.accepted ≡ old.accepted
+  pub live : new.live ≡ old.live
+  pub waiting : new.waiting ≡ old.waiting
+  pub closed : new.closed ≡ old.closed
+
+-- the door is bound to the port, and handed out these links, which are closed
+pub record IsPassed (port : Option ℕ) (old new : Door) (visits : List Visit) : Type 0 where
+  pub port_is : new.port ≡ port
+  pub accepted : new.accepted ≡ Some (length visits)
+  pub live : new.live ≡ 0
+  pub waiting : AreHandedOut old.waiting new.waiting visits
+  pub closed : AreClosed old.closed new.closed visits
+
+-- the next link was handed out, served over the desk before, and closed
+pub record PassesOne (before after : Standing) (old new : Door) (end : Ended) : Type 0 where
+  pub visit : Visit
+  pub end_is : visit.end ≡ end
+  pub after_is : visit.after ≡ after
+  pub is : IsVisit before visit
+  pub port : new.port ≡ old.port
+  pub accepted : new.accepted ≡ one_more old.accepted
+  pub live : new.live ≡ 0
+  pub waiting : HandsOut old.waiting new.waiting visit.opened
+  pub closed : Closes old.closed new.closed visit.closed
+
+-- these links were handed out, served one after another over the desk before, and closed
+pub record PassesAll (before after : Standing) (old new : Door) (visits : List Visit) : Type 0 where
+  pub are : AreVisits before visits
+  pub after_is : last_standing before visits ≡ after
+  pub failed : RoseBy (refusals visits) before.faults after.faults
+  pub door : IsPassed old.port old new visits
+
+-- so many links were, and so many of them ended early
+pub record PassesCount (before after : Standing) (old new : Door) (count early : ℕ) : Type 0 where
+  pub visits : List Visit
+  pub pass : PassesAll before after old new visits
+  pub all : length visits ≡ count
+  pub early_is : early ≡ early_count visits
+
+-- fewer links were, and the door failed
+pub record PassesFewer (before after : Standing) (old new : Door) (count : ℕ) : Type 0 where
+  pub visits : List Visit
+  pub pass : PassesAll before after old new visits
+  pub few : length visits < count
+  pub failed : Rose old.faults new.faults
+
+-- no count of faults fell
+pub record Later (old new : Site) : Type 0 where
+  pub world : LaterWorld old.world new.world
+  pub door : old.door.faults ≤ new.door.faults

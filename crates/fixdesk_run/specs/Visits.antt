@@ -1,0 +1,105 @@
+-- Links that were served, one after another: what each was answered, and what is left of door and desk.
+use Rattle.std.specs.Prelude.{◌≡◌, ℕ, ◌+◌, Bool, true, false, List, [], ◌∷◌, ◌++◌, map, count_by, Option, Some, None, ⊤}
+use Rattle.std.specs.List.{sum_by}
+use Rattle.desk_links.specs.Doors.{IsFresh, LinkSeen}
+use Rattle.desk_words.specs.Tables.{Rows}
+use Rattle.http_desk.specs.declared.serving.Ended.{Ended}
+use Rattle.http_desk.specs.declared.serving.Ended.TheVariants.{Clean, Limit, BadHead, Chunked, BodyLong, Truncated}
+use Rattle.http_desk.specs.declared.serving.Ended.TheVariants.{ReadFault, WriteFault, NoMemory}
+use Rattle.http_desk.specs.Answered.{Answered, failures}
+use Rattle.http_desk.specs.Scenes.{Scene}
+use Rattle.http_desk.specs.Streams.{Streams}
+
+-- ---- one link
+
+-- the desk between two links: its tables, those that its keeper tells, and how often the keeper has failed
+pub record Standing : Type 0 where
+  pub tables : Rows
+  pub told : Option Rows
+  pub faults : ℕ
+
+-- as a machine and a keeper tell it
+abbrev pub standing : {M K : Type 0} → (M → Rows) → (K → Option Rows) → (K → ℕ) → M → K → Standing
+standing rows told faults machine keeper =
+    record { tables = rows machine; told = told keeper; faults = faults keeper }
+
+-- a link with the desk
+abbrev pub scene_at : LinkSeen → Standing → Scene
+scene_at link desk = record {
+  left = link.left;
+  written = link.written;
+  read_faults = link.read_faults;
+  write_faults = link.write_faults;
+  tables = desk.tables;
+  told = desk.told;
+  faults = desk.faults;
+}
+
+-- a link that was served: as it was handed out and as it was closed, how its stream ended, what was answered, and the
+-- desk after it
+pub record Visit : Type 0 where
+  pub opened : LinkSeen
+  pub closed : LinkSeen
+  pub end : Ended
+  pub answers : List Answered
+  pub after : Standing
+
+-- over this desk its stream was served, with at most one request
+pub record IsVisit (before : Standing) (visit : Visit) : Type 0 where
+  pub fresh : IsFresh visit.opened
+  pub streams : Streams 1 (scene_at visit.opened before) (scene_at visit.closed visit.after) visit.end
+  pub answers : visit.answers ≡ streams.answers
+
+-- the stream ended otherwise than behind its request, or at once
+abbrev pub is_early : Ended → Bool
+is_early Clean = false
+is_early Limit = false
+is_early BadHead = true
+is_early Chunked = true
+is_early BodyLong = true
+is_early (Truncated count) = true
+is_early ReadFault = true
+is_early WriteFault = true
+is_early NoMemory = true
+
+-- ---- many links
+
+-- the links were served, each over the desk that the one before it left, the first one over this
+abbrev pub AreVisits : Standing → List Visit → Type 0
+AreVisits before [] = ⊤
+AreVisits before (visit ∷ visits) = IsVisit before visit × AreVisits visit.after visits
+
+-- the desk after the last of them
+abbrev pub last_standing : Standing → List Visit → Standing
+last_standing desk [] = desk
+last_standing desk (visit ∷ visits) = last_standing visit.after visits
+
+-- how many of them ended early
+abbrev pub early_count : List Visit → ℕ
+early_count visits = count_by (λ visit. is_early visit.end) visits
+
+-- how many answers say that the keeper failed
+abbrev pub refusals : List Visit → ℕ
+refusals visits = sum_by (λ visit. failures visit.answers) visits
+
+-- a link that has these bytes left, to which nothing was written, and which has not failed
+abbrev pub with_bytes : List ℕ → LinkSeen
+with_bytes bytes = record { left = Some bytes; written = Some []; read_faults = 0; write_faults = 0 }
+
+-- the links are the first of those that waited, in their order, and the others wait still
+pub record AreFirst (waiting : List (List ℕ)) (new : Option (List (List ℕ))) (visits : List Visit) : Type 0 where
+  pub first : List (List ℕ)
+  pub others : List (List ℕ)
+  pub split : waiting ≡ first ++ others
+  pub wait : new ≡ Some others
+  pub are : map (λ visit. visit.opened) visits ≡ map with_bytes first
+
+-- so it is where the door tells the links that wait; what was not told is not told then
+abbrev pub AreHandedOut : Option (List (List ℕ)) → Option (List (List ℕ)) → List Visit → Type 0
+AreHandedOut None new visits = new ≡ None
+AreHandedOut (Some waiting) new visits = AreFirst waiting new visits
+
+-- the links stand behind those that were closed before, where the door tells these
+abbrev pub AreClosed : Option (List LinkSeen) → Option (List LinkSeen) → List Visit → Type 0
+AreClosed None new visits = new ≡ None
+AreClosed (Some closed) new visits = new ≡ Some (closed ++ map (λ visit. visit.closed) visits)

@@ -1,0 +1,143 @@
+//! The top call of the program `fixdeskd`.
+ghost use Rattle.std.specs.Prelude.{◌≡◌, ◌≤◌, ◌⊎◌, length, map, string_bytes, None};
+ghost use Rattle.keeper_core.specs.Keeping.{IfTold};
+ghost use Rattle.fixdesk_run.specs.Link.{Says, SaysPart, link_with};
+ghost use Rattle.fixdesk_run.specs.Plan.{plan_of};
+ghost use Rattle.fixdesk_run.specs.Serve.{AreSteadyFor, EndsServing, IsServedFaultless, LeavesServed, TakesSaid};
+ghost use Rattle.fixdesk_run.specs.Serve.{TakesTally, end_code, serve_usage};
+ghost use Rattle.fixdesk_run.specs.Site.{Later, site};
+ghost use Rattle.fixdesk_run.specs.Status.{status_code};
+ghost use Rattle.fixdesk_run.specs.Visits.{standing};
+
+use crate::opening::stay_shut;
+use crate::plan::{Plan, plan_of};
+use crate::status::Status;
+use crate::tally::{begin_line, end_line};
+use crate::visits::serve_links;
+use desk_base::{Failed, NoMemory, Sink, write_all};
+use desk_links::Listener;
+use keeper_core::Keeper;
+use machine_core::Machine;
+use std::alloc::Global;
+
+/// The line that answers words which are no port and count.
+const USAGE: &[u8] = b"usage: fixdeskd PORT COUNT\n";
+
+/// How the serving of a door's links ended.
+#[derive(Clone, Copy, Debug, PartialEq, Eq)]
+pub enum ServeEnd {
+    /// All links were served, and the line that counts them was written.
+    Done,
+    /// The output could not be written to.
+    WriteFault,
+    /// There was no memory, before the door was bound.
+    NoMemory,
+    /// The door failed.
+    DoorFault,
+}
+
+impl ServeEnd {
+    /// The end as the program's exit status (docs/formats.md, *Statuses of `fixdeskd`*).
+    pub fn code(self) -> u8
+        ensures { result ≡ end_code self }
+    {
+        match self {
+            ServeEnd::Done => 0,
+            ServeEnd::WriteFault => 3,
+            ServeEnd::NoMemory => 5,
+            ServeEnd::DoorFault => 9,
+        }
+    }
+}
+
+/// Serves the links of a door, as the words say, which are without the program's name: a port, from 1 to 65,535, and how
+/// many links, from 1 to 1,000,000. Answers the exit status (docs/formats.md, *Statuses of `fixdeskd`*).
+///
+/// A machine `M` begins over the keeper's tables, and the door is bound to the port. Then the links are served one after
+/// another, each with at most one request, and closed. A link whose stream ends otherwise than behind its request, or at
+/// once, ends alone. Behind the last a line is written that says how many links there were and how many ended so, with
+/// status 0. All other words are answered with the usage line, with status 1. An output that fails gives 3, a keeper that
+/// fails at the beginning 4, want of memory 5, damaged tables a line that names the first damaged row, with status 6, and
+/// a door that fails 9. At 1, 4, 5 and 6 the door was not called.
+pub fn serve<M: Machine + Drop, K: Keeper, L: Listener, W: Sink>(
+    alloc: Global,
+    words: &[String],
+    keeper: &mut K,
+    door: &mut L,
+    out: &mut W,
+) -> u8
+    requires { L.live door.old ≡ 0 }
+    ensures leaves { let site = site W.written W.write_faults K.tables K.faults L.door_faults L.port L.accepted L.live
+        L.waiting L.closed in
+        LeavesServed (map string_bytes words.now) (site out.old keeper.old door.old) (site out.new keeper.new door.new)
+        result }
+    ensures idle { L.live door.new ≡ 0 }
+    ensures complete { let site = site W.written W.write_faults K.tables K.faults L.door_faults L.port L.accepted L.live
+        L.waiting L.closed in
+        let plan = plan_of (map string_bytes words.now) in
+        AreSteadyFor (K.is_steady keeper.old) (L.offers door.old) plan
+        → TakesSaid (W.takes out.old) plan (site out.old keeper.old door.old)
+        → IsServedFaultless plan result }
+{
+    let Some(plan) = plan_of(words) else {
+        return tell_usage(out).code();
+    };
+    match M::start(alloc, keeper) {
+        Ok(mut machine) => serve_all(alloc, plan, &mut machine, keeper, door, out).code(),
+        Err(fail) => stay_shut(alloc, fail, out).code(),
+    }
+}
+
+/// Serves the links of a plan over a machine that began, and writes the line that counts them.
+fn serve_all<M: Machine, K: Keeper, L: Listener, W: Sink>(
+    alloc: Global,
+    plan: Plan,
+    machine: &mut M,
+    keeper: &mut K,
+    door: &mut L,
+    out: &mut W,
+) -> ServeEnd
+    requires few { plan.count ≤ 1000000 }
+    requires idle { L.live door.old ≡ 0 }
+    requires told { IfTold (K.tables keeper.old) (M.rows machine.old) }
+    ensures ends { let site = site W.written W.write_faults K.tables K.faults L.door_faults L.port L.accepted L.live
+        L.waiting L.closed in
+        EndsServing plan (standing M.rows K.tables K.faults machine.old keeper.old) (site out.old keeper.old door.old)
+        (site out.new keeper.new door.new) result }
+    ensures later { let site = site W.written W.write_faults K.tables K.faults L.door_faults L.port L.accepted L.live
+        L.waiting L.closed in
+        Later (site out.old keeper.old door.old) (site out.new keeper.new door.new) }
+    ensures idle { L.live door.new ≡ 0 }
+    ensures complete { L.offers door.old plan.count → TakesTally (W.takes out.old) plan.count
+        → (end_code result ≡ 0) ⊎ (end_code result ≡ 5) }
+{
+    let line = match begin_line(alloc, plan.count) {
+        Ok(line) => line,
+        Err(NoMemory) => return ServeEnd::NoMemory,
+    };
+    if let Err(Failed) = door.bind(plan.port) {
+        return ServeEnd::DoorFault;
+    }
+    let early = match serve_links::<M, K, L>(alloc, plan.count, machine, keeper, door) {
+        Ok(early) => early,
+        Err(Failed) => return ServeEnd::DoorFault,
+    };
+    match write_all(out, end_line(line, early).as_slice()) {
+        Ok(()) => ServeEnd::Done,
+        Err(Failed) => ServeEnd::WriteFault,
+    }
+}
+
+/// Writes the usage line.
+fn tell_usage<W: Sink>(out: &mut W) -> Status
+    ensures told { let seen = link_with W.written W.write_faults None 0 in
+        ((status_code result ≡ 1) × Says serve_usage (seen out.old) (seen out.new))
+        ⊎ ((status_code result ≡ 3) × SaysPart serve_usage (seen out.old) (seen out.new)) }
+    ensures later { W.write_faults out.old ≤ W.write_faults out.new }
+    ensures complete { W.takes out.old (length serve_usage) → status_code result ≡ 1 }
+{
+    match write_all(out, USAGE) {
+        Ok(()) => Status::NoCommand,
+        Err(Failed) => Status::WriteFault,
+    }
+}

@@ -1,0 +1,90 @@
+//! The links of a door, served one after another.
+ghost use Rattle.std.specs.Prelude.{◌≡◌, ◌+◌, ◌<◌, ◌≤◌, ℕ, IfOk, IsOk, OnErr, Some};
+ghost use Rattle.desk_base.specs.Faults.{Rose};
+ghost use Rattle.desk_links.specs.Doors.{MayAccept};
+ghost use Rattle.keeper_core.specs.Keeping.{IfTold};
+ghost use Rattle.fixdesk_run.specs.Site.{IsUnchanged, PassesCount, PassesFewer, PassesOne, door_seen};
+ghost use Rattle.fixdesk_run.specs.Visits.{is_early, standing};
+
+use desk_base::Failed;
+use desk_links::Listener;
+use http_desk::{Ended, serve_stream};
+use keeper_core::Keeper;
+use machine_core::Machine;
+use std::alloc::Global;
+
+/// Serves so many links of a door that was bound, one after another, and answers how many of them ended early.
+pub fn serve_links<M: Machine, K: Keeper, L: Listener>(
+    alloc: Global,
+    count: u32,
+    machine: &mut M,
+    keeper: &mut K,
+    door: &mut L,
+) -> Result<u32, Failed>
+    requires few { count ≤ 1000000 }
+    requires bound { L.accepted door.old ≡ Some 0 }
+    requires idle { L.live door.old ≡ 0 }
+    requires told { IfTold (K.tables keeper.old) (M.rows machine.old) }
+    ensures passed { let desk = standing M.rows K.tables K.faults in
+        let seen = door_seen L.door_faults L.port L.accepted L.live L.waiting L.closed in
+        IfOk result (PassesCount (desk machine.old keeper.old) (desk machine.new keeper.new) (seen door.old)
+        (seen door.new) count) }
+    ensures refused { let desk = standing M.rows K.tables K.faults in
+        let seen = door_seen L.door_faults L.port L.accepted L.live L.waiting L.closed in
+        OnErr result (PassesFewer (desk machine.old keeper.old) (desk machine.new keeper.new) (seen door.old)
+        (seen door.new) count) }
+    ensures told { IfTold (K.tables keeper.new) (M.rows machine.new) }
+    ensures kept { K.faults keeper.old ≤ K.faults keeper.new }
+    ensures later { L.door_faults door.old ≤ L.door_faults door.new }
+    ensures idle { L.live door.new ≡ 0 }
+    ensures offers { L.offers door.old count → IsOk result }
+{
+    let mut served: u32 = 0;
+    let mut early: u32 = 0;
+    'links: while served < count {
+        let end = serve_next::<M, K, L>(alloc, machine, keeper, door)?;
+        early += u32::from(is_early(end));
+        served += 1;
+    }
+    Ok(early)
+}
+
+/// Serves the next link of a door, with at most one request, and closes it. Answers how its stream ended.
+fn serve_next<M: Machine, K: Keeper, L: Listener>(
+    alloc: Global,
+    machine: &mut M,
+    keeper: &mut K,
+    door: &mut L,
+) -> Result<Ended, Failed>
+    requires idle { L.live door.old ≡ 0 }
+    requires bound { MayAccept (L.accepted door.old) }
+    requires told { IfTold (K.tables keeper.old) (M.rows machine.old) }
+    ensures passed { let desk = standing M.rows K.tables K.faults in
+        let seen = door_seen L.door_faults L.port L.accepted L.live L.waiting L.closed in
+        IfOk result (PassesOne (desk machine.old keeper.old) (desk machine.new keeper.new) (seen door.old)
+        (seen door.new)) }
+    ensures refused { let desk = standing M.rows K.tables K.faults in
+        let seen = door_seen L.door_faults L.port L.accepted L.live L.waiting L.closed in
+        OnErr result ((desk machine.new keeper.new ≡ desk machine.old keeper.old)
+        × IsUnchanged (seen door.old) (seen door.new) × Rose (L.door_faults door.old) (L.door_faults door.new)) }
+    ensures told { IfTold (K.tables keeper.new) (M.rows machine.new) }
+    ensures kept { K.faults keeper.old ≤ K.faults keeper.new }
+    ensures later { L.door_faults door.old ≤ L.door_faults door.new }
+    ensures offers { (count : ℕ) → L.offers door.old (count + 1) → IsOk result × L.offers door.new count }
+{
+    let mut link = door.accept()?;
+    let end = serve_stream(alloc, machine, keeper, &mut link, 1);
+    door.close(link);
+    Ok(end)
+}
+
+/// Whether a stream ended otherwise than behind its request, or at once.
+fn is_early(end: Ended) -> bool
+    ensures { result ≡ is_early end }
+{
+    match end {
+        Ended::Clean | Ended::Limit => false,
+        Ended::BadHead | Ended::Chunked | Ended::BodyLong | Ended::Truncated(_) => true,
+        Ended::ReadFault | Ended::WriteFault | Ended::NoMemory => true,
+    }
+}

@@ -1,0 +1,120 @@
+//! A door on a TCP port of the loopback address. A clause sees its counts and its port.
+ghost use Rattle.std.specs.Prelude.{◌≡◌, ℕ, IfOk, None};
+ghost use Rattle.desk_base.specs.Faults.{HasCause};
+
+use crate::ends::{TcpSink, TcpSource};
+use desk_base::{Both, Failed};
+use desk_links::Listener;
+use std::io;
+use std::io::ErrorKind;
+use std::marker::Model;
+use std::net::{Ipv4Addr, OpenListener, TcpListener};
+
+/// A door on a port of 127.0.0.1. It tells nothing of the bytes of its peers.
+#[derive(Drop)]
+pub struct TcpDoor<'r> {
+    rt: &'r HostRuntime,
+    listener: Option<TcpListener>,
+    port: Option<u16>,
+    accepted: Option<u32>,
+    live: u32,
+    faults: u64,
+}
+
+impl<'r> Model for TcpDoor<'r> {
+    ghost use Rattle.tcp_door.specs.Tcp.{TcpSeen};
+
+    ghost Value = { TcpSeen };
+
+    ghost view = { λ d. record { port = d.port; accepted = d.accepted; live = d.live; faults = d.faults } };
+}
+
+impl<'r> TcpDoor<'r> {
+    /// A door that is not bound yet. Nothing is opened.
+    pub fn new(rt: &'r HostRuntime) -> TcpDoor<'r>
+        ensures { result ≡ record { port = None; accepted = None; live = 0; faults = 0 } }
+    {
+        TcpDoor {
+            rt,
+            listener: None,
+            port: None,
+            accepted: None,
+            live: 0,
+            faults: 0,
+        }
+    }
+
+    /// Waits for the next peer.
+    fn connect(&self) -> io::Result<Both<TcpSource<'r>, TcpSink<'r>>>
+        ensures { IfOk result (λ link. (link.source ≡ 0) × (link.sink ≡ 0)) }
+    {
+        let Some(listener) = &self.listener else {
+            return Err(io::Error::from(ErrorKind::NotConnected));
+        };
+        let (stream, _) = listener.accept()?;
+        let sink = TcpSink::new(self.rt, stream.try_clone()?);
+        let source = TcpSource::new(self.rt, stream);
+        Ok(Both { source, sink })
+    }
+}
+
+impl<'r> Listener for TcpDoor<'r> {
+    type Source = TcpSource<'r>;
+
+    type Sink = TcpSink<'r>;
+
+    ghost door_faults = { λ d. d.faults };
+
+    ghost port = { λ d. d.port };
+
+    ghost accepted = { λ d. d.accepted };
+
+    ghost live = { λ d. d.live };
+
+    ghost waiting = { λ _. None };
+
+    ghost closed = { λ _. None };
+
+    ghost offers = { λ _ _. ⊥ };
+
+    fn bind(&mut self, number: u16) -> Result<(), Failed> {
+        match TcpListener::bind(self.rt, (Ipv4Addr::LOCALHOST, number)) {
+            Ok(listener) => {
+                self.listener = Some(listener);
+                self.port = Some(number);
+                self.accepted = Some(0);
+                Ok(())
+            }
+            Err(_) => {
+                self.faults = self.faults.saturating_add(1);
+                Err(Failed)
+            }
+        }
+    }
+
+    fn accept(&mut self) -> Result<Both<TcpSource<'r>, TcpSink<'r>>, Failed> {
+        let Some(count) = self.accepted else {
+            unreachable!()
+        };
+        match self.connect() {
+            Ok(link) => {
+                self.accepted = Some(count + 1);
+                self.live = 1;
+                Ok(link)
+            }
+            Err(_) => {
+                self.faults = self.faults.saturating_add(1);
+                Err(Failed)
+            }
+        }
+    }
+
+    fn close(&mut self, link: Both<TcpSource<'r>, TcpSink<'r>>)
+        requires { self.old.live ≡ 1 }
+        ensures { self.new ≡ record self.old { live = 0 } }
+    {
+        link.sink.finish();
+        link.source.drain();
+        self.live = 0;
+    }
+}
