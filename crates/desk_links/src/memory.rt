@@ -95,7 +95,6 @@ impl MemDoor {
     {
         self.closed.into_vec()
     }
-
 }
 
 impl Listener for MemDoor {

@@ -1,5 +1,5 @@
 -- Links that are served one after another.
-use Rattle.std.proofs.Common.{◌≡◌, ◌∙◌, ℕ, ◌+◌, ◌≤◌, Bool, true, false, List, [], ◌∷◌, ◌++◌, map, length, refl, ap, sym, subst, arith}
+use Rattle.std.proofs.Common.{◌≡◌, ◌∙◌, ℕ, ◌+◌, ◌≤◌, Bool, true, false, List, [], ◌∷◌, ◌++◌, map, refl, ap, sym, subst, arith}
 use Rattle.std.proofs.Common.{append-nil, cond, lit≤}
 use Rattle.std.specs.Int.{from_bool}
 use Rattle.std.specs.Prelude.{Option, Some, None}
@@ -13,7 +13,7 @@ use Rattle.fixdesk_run.specs.declared.plan.Plan.{Plan}
 use Rattle.fixdesk_run.specs.declared.serving.ServeEnd.{ServeEnd}
 use Rattle.fixdesk_run.specs.declared.serving.ServeEnd.TheVariants.{Done, WriteFault, NoMemory, DoorFault}
 use Rattle.fixdesk_run.specs.Serve.{EndsServing}
-use Rattle.fixdesk_run.specs.Site.{Door, IsPassed, PassesAll, PassesCount, PassesOne, Site}
+use Rattle.fixdesk_run.specs.Site.{Door, PassesAll, PassesCount, PassesOne, Site}
 use Rattle.fixdesk_run.specs.Visits.{AreClosed, AreFirst, AreHandedOut, AreVisits, IsVisit, Standing, Visit, early_count}
 use Rattle.fixdesk_run.specs.Visits.{is_early, last_standing, refusals, with_bytes}
 
@@ -121,9 +121,9 @@ AreClosed-push None now new visits visit none closes = rw none at closes
 AreClosed-push (Some closed) now new visits visit are closes =
     let told : Closes (Some (closed ++ map (λ (v : Visit). v.closed) visits)) new visit.closed = rw are at closes in
     told ∙ ap (λ (l : List LinkSeen). Some l)
-        (append_assoc closed (map (λ (v : Visit). v.closed) visits) (visit.closed ∷ [])
-        ∙ ap (λ (l : List LinkSeen). closed ++ l)
-            (sym (map-append (λ (v : Visit). v.closed) visits (visit ∷ []))))
+    (append_assoc closed (map (λ (v : Visit). v.closed) visits) (visit.closed ∷ [])
+    ∙ ap (λ (l : List LinkSeen). closed ++ l)
+    (sym (map-append (λ (v : Visit). v.closed) visits (visit ∷ []))))
 
 -- ---- all links
 

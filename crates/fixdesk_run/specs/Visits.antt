@@ -1,5 +1,5 @@
 -- Links that were served, one after another: what each was answered, and what is left of door and desk.
-use Rattle.std.specs.Prelude.{◌≡◌, ℕ, ◌+◌, Bool, true, false, List, [], ◌∷◌, ◌++◌, map, count_by, Option, Some, None, ⊤}
+use Rattle.std.specs.Prelude.{◌≡◌, ℕ, Bool, true, false, List, [], ◌∷◌, ◌++◌, map, count_by, Option, Some, None, ⊤}
 use Rattle.std.specs.List.{sum_by}
 use Rattle.desk_links.specs.Doors.{IsFresh, LinkSeen}
 use Rattle.desk_words.specs.Tables.{Rows}

@@ -89,7 +89,7 @@ pub fn serve<M: Machine + Drop, K: Keeper, L: Listener, W: Sink>(
 }
 
 /// Serves the links of a plan over a machine that began, and writes the line that counts them.
-fn serve_all<M: Machine, K: Keeper, L: Listener, W: Sink>(
+fn serve_all<M: Machine + Drop, K: Keeper, L: Listener, W: Sink>(
     alloc: Global,
     plan: Plan,
     machine: &mut M,

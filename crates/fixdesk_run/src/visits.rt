@@ -14,7 +14,7 @@ use machine_core::Machine;
 use std::alloc::Global;
 
 /// Serves so many links of a door that was bound, one after another, and answers how many of them ended early.
-pub fn serve_links<M: Machine, K: Keeper, L: Listener>(
+pub fn serve_links<M: Machine + Drop, K: Keeper, L: Listener>(
     alloc: Global,
     count: u32,
     machine: &mut M,
@@ -50,7 +50,7 @@ pub fn serve_links<M: Machine, K: Keeper, L: Listener>(
 }
 
 /// Serves the next link of a door, with at most one request, and closes it. Answers how its stream ended.
-fn serve_next<M: Machine, K: Keeper, L: Listener>(
+fn serve_next<M: Machine + Drop, K: Keeper, L: Listener>(
     alloc: Global,
     machine: &mut M,
     keeper: &mut K,

@@ -7,6 +7,8 @@
 mod deadline;
 mod door;
 mod ends;
+#[cfg(test)]
+mod tests;
 
 pub use door::TcpDoor;
 pub use ends::{TcpSink, TcpSource};

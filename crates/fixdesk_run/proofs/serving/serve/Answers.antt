@@ -30,16 +30,16 @@ returns-in-Ok-clause-leaves g c =
     let later = c.serve_all.ensures.later in
     record {
       ends = rw some (inr (record {
-            begun = standing g.M.Machine.rows g.K.Keeper.tables g.K.Keeper.faults c.in-Ok.machine c.start.new.keeper;
-            started = c.in-Ok.ensures.started;
-            loaded = c.start.ensures.later;
-            end = c.serve_all.result;
-            told = c.code-in-Ok.ensures;
-            ends = EndsServing-before c.in-Some.plan _ (at c.args.out.now c.start.new.keeper c.args.door.now)
-                (g.K.Keeper.tables c.args.keeper.now) (g.K.Keeper.faults c.args.keeper.now)
-                (at c.serve_all.new.out c.serve_all.new.keeper c.serve_all.new.door) c.serve_all.result
-                c.serve_all.ensures.ends;
-          }));
+        begun = standing g.M.Machine.rows g.K.Keeper.tables g.K.Keeper.faults c.in-Ok.machine c.start.new.keeper;
+        started = c.in-Ok.ensures.started;
+        loaded = c.start.ensures.later;
+        end = c.serve_all.result;
+        told = c.code-in-Ok.ensures;
+        ends = EndsServing-before c.in-Some.plan _ (at c.args.out.now c.start.new.keeper c.args.door.now)
+            (g.K.Keeper.tables c.args.keeper.now) (g.K.Keeper.faults c.args.keeper.now)
+            (at c.serve_all.new.out c.serve_all.new.keeper c.serve_all.new.door) c.serve_all.result
+            c.serve_all.ensures.ends;
+      }));
       later = record {
         world = record {
           read_faults = omega arith;
@@ -56,9 +56,9 @@ returns-in-Ok-clause-complete g c =
     let some : plan_of (map string_bytes c.args.words.now) ≡ Some c.in-Some.plan = sym c.plan_of.ensures ∙ c.in-Some.is
     in
     rw some (λ steady takes.
-        let tally : TakesTally (g.W.Sink.takes c.args.out.now) c.in-Some.plan.count =
-        λ early few. takes (served_line c.in-Some.plan.count early) (inl (early, few, refl)) in
-        rw c.code-in-Ok.ensures (one_of_three _ (c.serve_all.ensures.complete steady.1 tally)))
+    let tally : TakesTally (g.W.Sink.takes c.args.out.now) c.in-Some.plan.count =
+    λ early few. takes (served_line c.in-Some.plan.count early) (inl (early, few, refl)) in
+    rw c.code-in-Ok.ensures (one_of_three _ (c.serve_all.ensures.complete steady.1 tally)))
 
 -- no machine began
 pub returns-in-Err-clause-leaves : goal.returns-in-Err-clause-leaves
@@ -71,12 +71,12 @@ returns-in-Err-clause-leaves g c =
     let new : Site = at c.stay_shut.new.out c.start.new.keeper c.args.door.now in
     record {
       ends = rw some (inl (record {
-            status = c.stay_shut.result;
-            told = c.code-in-Err.ensures;
-            stays = stays_shut old.world new.world c.in-Err.fail c.stay_shut.result c.in-Err.ensures.unstarted
-                (c.stay_shut.ensures.told None 0);
-            unbound = refl;
-          }));
+        status = c.stay_shut.result;
+        told = c.code-in-Err.ensures;
+        stays = stays_shut old.world new.world c.in-Err.fail c.stay_shut.result c.in-Err.ensures.unstarted
+            (c.stay_shut.ensures.told None 0);
+        unbound = refl;
+      }));
       later = record {
         world = record {
           read_faults = omega arith;
@@ -97,8 +97,8 @@ returns-in-Err-clause-complete g c =
     let old : Site = at c.args.out.now c.args.keeper.now c.args.door.now in
     let new : Site = at c.stay_shut.new.out c.start.new.keeper c.args.door.now in
     rw some (λ steady takes.
-        let room = takes_fail (g.W.Sink.takes c.args.out.now) old.world new.world c.in-Err.fail
-        c.in-Err.ensures.unstarted (λ (text : List ℕ) due. takes text (inr due)) in
-        let shut = is_shut old.world new.world c.in-Err.fail c.stay_shut.result c.in-Err.ensures.unstarted
-        (c.stay_shut.ensures.told None 0) (c.in-Err.ensures.steady steady.0).0 (c.stay_shut.ensures.complete room) in
-        rw c.code-in-Err.ensures (inr (shut_code old.world new.world (status_code c.stay_shut.result) shut)))
+    let room = takes_fail (g.W.Sink.takes c.args.out.now) old.world new.world c.in-Err.fail
+    c.in-Err.ensures.unstarted (λ (text : List ℕ) due. takes text (inr due)) in
+    let shut = is_shut old.world new.world c.in-Err.fail c.stay_shut.result c.in-Err.ensures.unstarted
+    (c.stay_shut.ensures.told None 0) (c.in-Err.ensures.steady steady.0).0 (c.stay_shut.ensures.complete room) in
+    rw c.code-in-Err.ensures (inr (shut_code old.world new.world (status_code c.stay_shut.result) shut)))

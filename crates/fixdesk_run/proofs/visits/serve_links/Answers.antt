@@ -1,6 +1,6 @@
 use Rattle.std.proofs.Common.{◌≡◌, ℕ, ◌+◌, ◌-◌, arith, subst}
-use Rattle.fixdesk_run.specs.Site.{Door, door_seen}
-use Rattle.fixdesk_run.specs.Visits.{Standing, standing}
+use Rattle.fixdesk_run.specs.Site.{door_seen}
+use Rattle.fixdesk_run.specs.Visits.{standing}
 use Rattle.fixdesk_run.proofs.Visiting.{PassesCount-none, PassesCount-push, early_once}
 use Rattle.fixdesk_run.proofs.visits.serve_links.Goals as goal
 
@@ -43,11 +43,11 @@ links-preserved g c =
           (c.serve_next.ensures.offers left now).1;
       within = omega (arith, c.links-test.true);
       few = omega (
-            arith,
-            c.links.invariant.few,
-            early_once c.is_early.result,
-            c.from-early.ensures,
-          );
+        arith,
+        c.links.invariant.few,
+        early_once c.is_early.result,
+        c.from-early.ensures,
+      );
     }
 
 -- a door that offers a link does not fail
