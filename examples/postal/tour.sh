@@ -20,7 +20,8 @@ program=$!
 # Each request is one connection. The first waits until the desk is there.
 ask() {
     echo "$1 $2"
-    curl -sS --retry 300 --retry-delay 1 --retry-connrefused -X "$1" "$desk$2" ${3+--data-binary "$3"}
+    curl -s --retry 300 --retry-delay 1 --retry-connrefused -X "$1" "$desk$2" ${3+--data-binary "$3"} ||
+        { echo "no answer" >&2; exit 1; }
     echo
 }
 
