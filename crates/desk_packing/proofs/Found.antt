@@ -1,0 +1,17 @@
+-- The clerks' own lists that are read one behind another from lines.
+use Rattle.std.proofs.Common.{◌≡◌, ℕ, zero, suc, ◌+◌, ◌-◌, ◌<◌, ◌≤◌, List, [], ◌∷◌, ◌++◌, Some, None, Option, refl}
+use Rattle.std.proofs.Common.{sym, append-nil}
+use Rattle.std.proofs.Common.{true, false, arith}
+use Rattle.desk_packing.specs.Formats.{Format}
+use Rattle.desk_packing.specs.Lines.{Line}
+use Rattle.desk_packing.specs.Reading.{is_of, list_in, lists_in, row_at}
+use Rattle.desk_packing.proofs.Items.{behind, behind-behind}
+
+-- a clerk's list stands in front of those of the clerks behind
+pub lists_in-next : {A : Type 0} (format : Format A) (kind clerks clerk : ℕ) (front : List (List A)) (x : List A)
+    (lines rest : List Line) → clerk < clerks → list_in format kind clerk 0 lines ≡ Some (x, rest)
+    → behind (front ++ x ∷ []) (lists_in format kind (clerk + 1) (clerks - (clerk + 1)) rest)
+    ≡ behind front (lists_in format kind clerk (clerks - clerk) lines)
+lists_in-next format kind clerks clerk front x lines rest within found =
+    let one : clerks - clerk ≡ suc (clerks - (clerk + 1)) = omega arith in
+    rw one (rw found (sym (behind-behind front x (lists_in format kind (clerk + 1) (clerks - (clerk + 1)) rest))))

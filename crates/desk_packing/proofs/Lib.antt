@@ -1,0 +1,14 @@
+pub mod Changing
+pub mod Contents
+pub mod Exact
+pub mod Fields
+pub mod Found
+pub mod Items
+pub mod Migrating
+pub mod Options
+pub mod Order
+pub mod Parts
+pub mod Permutations
+pub mod Putting
+pub mod Standing
+pub mod Stood

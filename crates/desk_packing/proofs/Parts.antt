@@ -1,0 +1,14 @@
+-- Parts that are written one behind another.
+use Rattle.std.proofs.Common.{◌≡◌, ℕ, List, ◌++◌, append_assoc}
+
+-- four parts
+pub four-behind : {A : Type 0} (start a b c d one two three all : List A) → one ≡ start ++ a → two ≡ one ++ b
+    → three ≡ two ++ c → all ≡ three ++ d → all ≡ start ++ (a ++ (b ++ (c ++ d)))
+four-behind start a b c d one two three all first second third last =
+    rw (last, third, second, first) (simp append_assoc)
+
+-- five parts
+pub five-behind : {A : Type 0} (start a b c d e one two three four all : List A) → one ≡ start ++ a → two ≡ one ++ b
+    → three ≡ two ++ c → four ≡ three ++ d → all ≡ four ++ e → all ≡ start ++ (a ++ (b ++ (c ++ (d ++ e))))
+five-behind start a b c d e one two three four all first second third fourth last =
+    rw (last, fourth, third, second, first) (simp append_assoc)

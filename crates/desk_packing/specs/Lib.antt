@@ -1,0 +1,6 @@
+pub mod Lines
+pub mod Formats
+pub mod RowFormats
+pub mod Stands
+pub mod Reading
+pub mod Shapes

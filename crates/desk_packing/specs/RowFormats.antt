@@ -1,0 +1,112 @@
+-- How each row type is packed: its fields in their order, one behind another.
+use Rattle.std.specs.Prelude.{ℕ, List, [], ◌∷◌}
+use Rattle.desk_words.specs.declared.rows.act.Act.{Act}
+use Rattle.desk_words.specs.declared.rows.act.Act.TheVariants as act
+use Rattle.desk_words.specs.declared.rows.batch.BatchRow.{BatchRow}
+use Rattle.desk_words.specs.declared.rows.clerk.ClerkRow.{ClerkRow}
+use Rattle.desk_words.specs.declared.rows.clerk.Digest.{Digest}
+use Rattle.desk_words.specs.declared.rows.edition.EditionRow.{EditionRow}
+use Rattle.desk_words.specs.declared.rows.master.MasterRow.{MasterRow}
+use Rattle.desk_words.specs.declared.rows.record.RecordRow.{RecordRow}
+use Rattle.desk_words.specs.declared.rows.region.RegionRow.{RegionRow}
+use Rattle.desk_words.specs.declared.rows.rulebook.RulebookRow.{RulebookRow}
+use Rattle.desk_words.specs.declared.rows.schema.SchemaRow.{SchemaRow}
+use Rattle.desk_words.specs.declared.rows.session.SessionRow.{SessionRow}
+use Rattle.desk_words.specs.declared.rows.session.Stage.{Stage}
+use Rattle.desk_words.specs.declared.rows.session.Stage.TheVariants as stage
+use Rattle.fix_model.specs.declared.region.Region.{Region}
+use Rattle.desk_packing.specs.Formats.{Format, u16, u32, u64, fixed, coded, both, formed, text, bytes, list, none, flag}
+
+-- the acts in their order
+abbrev pub acts : List Act
+acts = act.Nothing ∷ act.Clerk ∷ act.Schema ∷ act.Master ∷ act.Rulebook ∷ act.Edition ∷ act.Region ∷ act.Opened
+    ∷ act.Changed ∷ act.Committed ∷ act.Batched ∷ []
+
+abbrev pub act_code : Act → ℕ
+act_code act.Nothing = 0
+act_code act.Clerk = 1
+act_code act.Schema = 2
+act_code act.Master = 3
+act_code act.Rulebook = 4
+act_code act.Edition = 5
+act_code act.Region = 6
+act_code act.Opened = 7
+act_code act.Changed = 8
+act_code act.Committed = 9
+act_code act.Batched = 10
+
+abbrev pub act_format : Format Act
+act_format = coded acts act_code
+
+-- the stages in their order
+abbrev pub stages : List Stage
+stages = stage.Active ∷ stage.Committed ∷ stage.Abandoned ∷ []
+
+abbrev pub stage_code : Stage → ℕ
+stage_code stage.Active = 0
+stage_code stage.Committed = 1
+stage_code stage.Abandoned = 2
+
+abbrev pub stage_format : Format Stage
+stage_format = coded stages stage_code
+
+abbrev pub digest : Format Digest
+digest = formed (fixed 32) (λ found. record { bytes = found }) (λ row. row.bytes)
+
+abbrev pub clerk : Format ClerkRow
+clerk = formed (both text (both u64 (both digest (both act_format u32))))
+    (λ f. record { name = f.0; last = f.1.0; digest = f.1.1.0; act = f.1.1.1.0; target = f.1.1.1.1 })
+    (λ row. (row.name, (row.last, (row.digest, (row.act, row.target)))))
+
+abbrev pub schema : Format SchemaRow
+schema = formed (both text (both u32 bytes))
+    (λ f. record { name = f.0; version = f.1.0; body = f.1.1 })
+    (λ row. (row.name, (row.version, row.body)))
+
+abbrev pub master : Format MasterRow
+master = formed (both text (both u32 bytes))
+    (λ f. record { name = f.0; version = f.1.0; body = f.1.1 })
+    (λ row. (row.name, (row.version, row.body)))
+
+abbrev pub rulebook : Format RulebookRow
+rulebook = formed (both text (both u32 (both u32 bytes)))
+    (λ f. record { name = f.0; version = f.1.0; schema = f.1.1.0; body = f.1.1.1 })
+    (λ row. (row.name, (row.version, (row.schema, row.body))))
+
+-- the folded attributes last, in the format given
+abbrev pub edition_with : Format (List ℕ) → Format EditionRow
+edition_with folded = formed (both text (both u32 (both u32 (both (list u32) folded))))
+    (λ f. record { name = f.0; version = f.1.0; rulebook = f.1.1.0; masters = f.1.1.1.0; folded = f.1.1.1.1 })
+    (λ row. (row.name, (row.version, (row.rulebook, (row.masters, row.folded)))))
+
+abbrev pub edition : Format EditionRow
+edition = edition_with (list u16)
+
+-- as editions were packed before they had folded attributes
+abbrev pub old_edition : Format EditionRow
+old_edition = edition_with none
+
+abbrev pub region_format : Format Region
+region_format = formed (both (list u16) (list (list text)))
+    (λ f. record { attrs = f.0; rows = f.1 })
+    (λ row. (row.attrs, row.rows))
+
+abbrev pub region : Format RegionRow
+region = formed (both u32 region_format)
+    (λ f. record { edition = f.0; region = f.1 })
+    (λ row. (row.edition, row.region))
+
+abbrev pub session : Format SessionRow
+session = formed (both u32 (both (list text) (both (list flag) (both stage_format u32))))
+    (λ f. record { edition = f.0; typed = f.1.0; confirmed = f.1.1.0; stage = f.1.1.1.0; batch = f.1.1.1.1 })
+    (λ row. (row.edition, (row.typed, (row.confirmed, (row.stage, row.batch)))))
+
+abbrev pub committed : Format RecordRow
+committed = formed (both u32 (both (list text) flag))
+    (λ f. record { session = f.0; texts = f.1.0; certain = f.1.1 })
+    (λ row. (row.session, (row.texts, row.certain)))
+
+abbrev pub batch : Format BatchRow
+batch = formed (both u32 (both u32 u32))
+    (λ f. record { edition = f.0; first = f.1.0; count = f.1.1 })
+    (λ row. (row.edition, (row.first, row.count)))

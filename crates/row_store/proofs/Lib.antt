@@ -1,0 +1,9 @@
+pub mod Texts
+pub mod Desk
+pub mod Rests
+pub mod Meaning
+pub mod Asked
+pub mod Upsert
+pub mod Lines
+pub mod Found
+pub mod Puts

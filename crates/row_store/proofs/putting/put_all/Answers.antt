@@ -1,0 +1,105 @@
+use Rattle.std.proofs.Common.{◌≡◌, ◌∙◌, ◌++◌, ◌∷◌, [], List, ◌+◌, fold, map, refl, sym, ap, subst, arith, rules, take, true}
+use Rattle.std.proofs.Math.Seq.{take-suc}
+use Rattle.std.proofs.lemmas.List.{take_all, map-append}
+use Rattle.std.proofs.Common.{add-one}
+use Rattle.sqlite.specs.Store.{Ghosts}
+use Rattle.sqlite.specs.Effect.{Database}
+use Rattle.sqlite.specs.State.{State, HasCleanDisk, Survives, KeepsCommit}
+use Rattle.sqlite.specs.Held.{Held, state}
+use Rattle.sqlite.proofs.StateLemmas.{survives_then}
+use Rattle.sqlite.proofs.Callers.{survives_begin}
+use Rattle.desk_packing.specs.declared.line.PackedRow.{PackedRow}
+use Rattle.sqlite.specs.Tree.{Trees}
+use Rattle.sqlite.specs.Schema.{Schema}
+use Rattle.sqlite.specs.Table.{Table}
+use Rattle.desk_packing.specs.Lines.{Line, line_of}
+use Rattle.row_store.specs.Stored.{OthersStay, LeavesOthers, Puts, PutsIn}
+use Rattle.row_store.proofs.putting.put_all.Goals as goal
+
+fold-more : {A B : Type 0} (f : B → A → B) (b : B) (xs : List A) (y : A) → fold f b (xs ++ y ∷ []) ≡ f (fold f b xs) y
+fold-more f b [] y = refl
+fold-more f b (x ∷ xs) y = fold-more f (f b x) xs y
+
+others_then : (tables : List Table) (a b c : Trees) → OthersStay tables a b → OthersStay tables b c → OthersStay tables a c
+others_then [] a b c p q = tt
+others_then (t ∷ tables) a b c p q = (λ other. q.0 other ∙ p.0 other, others_then tables a b c p.1 q.1)
+
+leaves_then : (a b c : Database) → LeavesOthers a b → LeavesOthers b c → LeavesOthers a c
+leaves_then a b c p q = record {
+  schema = q.schema ∙ p.schema;
+  rows = others_then a.schema.tables a.trees b.trees c.trees p.rows (subst (λ (s : Schema). OthersStay s.tables b.trees c.trees) p.schema q.rows);
+  obeys = λ obeyed. q.obeys (p.obeys obeyed);
+}
+
+-- one line more
+after_more : (more : List Line) (l : Line) (a b c : Database) → Puts more a b → Puts (l ∷ []) b c → Puts (more ++ l ∷ []) a c
+after_more more l a b c first next lines stands =
+    let before = first lines stands in
+    let there = next _ before.0 in
+    ((there.0.0, rw (fold-more _ lines more l) there.0.1), leaves_then a b c before.1 there.1)
+
+kept_then : (a b c : State) → KeepsCommit a b → KeepsCommit b c → KeepsCommit a c
+kept_then a b c p q = record { was_open = λ opened. p.was_open (q.was_open opened); committed = λ opened. q.committed opened ∙ p.committed (q.was_open opened) }
+
+pub rows-preserved : goal.rows-preserved
+rows-preserved g c =
+    let before = c.rows.invariant in
+    let step = c.in_ok-put_row.ensures in
+    let old = state g.S.Store (record c.args.conn.now { in_transaction = true }) in
+    let mid = state g.S.Store c.rows.tx.conn.now in
+    let new = state g.S.Store c.put_row.new.tx.conn.now in
+    let early = λ (clean : HasCleanDisk new). let e : HasCleanDisk mid = omega (arith, step.survives.clean) in e in
+    record {
+      same_reference = step.same_reference ∙ before.same_reference;
+      survives = survives_then old mid new _ _ (λ _. ⊥) (λ _ db none. none) (λ _ db none. none) before.survives step.survives;
+      inside = λ clean. step.inside clean (before.inside (early clean));
+      kept = λ clean. kept_then old mid new (before.kept (early clean)) (step.kept clean (before.inside (early clean)));
+      put = λ clean.
+          let longer : take (c.rows.row-index + 1) c.args.rows.now ≡ take c.rows.row-index c.args.rows.now ++ c.row-item.result ∷ [] = rw (add-one c.rows.row-index) (rw c.row-item.is (take-suc c.args.rows.now c.rows.row-index c.row-item.result c.rows-test.true)) in
+          let lines : map line_of (take (c.rows.row-index + 1) c.args.rows.now) ≡ map line_of (take c.rows.row-index c.args.rows.now) ++ line_of c.row-item.result ∷ [] =
+          ap (map line_of) longer ∙ map-append line_of (take c.rows.row-index c.args.rows.now) (c.row-item.result ∷ []) in
+          let more = after_more (map line_of (take c.rows.row-index c.args.rows.now)) (line_of c.row-item.result) old.now mid.now new.now (before.put (early clean)) (step.puts clean (before.inside (early clean))) in
+          subst (λ ls. Puts ls old.now new.now) (sym lines) more;
+    }
+
+-- a crash leaves what it left before, or trees that hold the lines
+abbrev Crash : {S : Type 0} → Ghosts S → List PackedRow → Held S → Held S → Type 0
+Crash g rows old end = Survives (state g old) (state g end) (PutsIn (map line_of rows) (state g old).now)
+
+after_crash : {S : Type 0} (g : Ghosts S) (rows : List PackedRow) (old last end : Held S) → Survives (state g (record old { in_transaction = true })) (state g last) (λ _. ⊥)
+    → (HasCleanDisk (state g last) → Puts (map line_of rows) (state g old).now (state g last).now) → Survives (state g last) (state g end) (λ trees. trees ≡ (state g last).now.trees) → Crash g rows old end
+after_crash g rows old last end before put last_step =
+    survives_then (state g old) (state g last) (state g end) _ _ (PutsIn (map line_of rows) (state g old).now) (λ _ db none. absurd none)
+    (λ clean db is. ((state g last).now, put (omega (arith, last_step.clean)), is)) (survives_begin g old (state g last) _ before) last_step
+
+pub returns-clause-survives : goal.returns-clause-survives
+returns-clause-survives g c =
+    let whole : take c.rows.row-index c.args.rows.now ≡ c.args.rows.now = take_all c.rows.row-index c.args.rows.now c.rows-test.false in
+    let end = c.commit.new.self.0 in
+    let crash = after_crash g.S.Store c.args.rows.now c.args.conn.now c.rows.tx.conn.now end c.rows.invariant.survives (rw whole at c.rows.invariant.put) c.commit.ensures.survives in
+    let same : end ≡ c.conn-2-1.given.0 = search rules in
+    subst (Crash g.S.Store c.args.rows.now c.args.conn.now) same crash
+
+pub returns-in_err-commit-clause-survives : goal.returns-in_err-commit-clause-survives
+returns-in_err-commit-clause-survives g c =
+    let whole : take c.rows.row-index c.args.rows.now ≡ c.args.rows.now = take_all c.rows.row-index c.args.rows.now c.rows-test.false in
+    let end = c.commit.new.self.0 in
+    let crash = after_crash g.S.Store c.args.rows.now c.args.conn.now c.rows.tx.conn.now end c.rows.invariant.survives (rw whole at c.rows.invariant.put) c.commit.ensures.survives in
+    let same : end ≡ c.conn-2-1.given.0 = search rules in
+    subst (Crash g.S.Store c.args.rows.now c.args.conn.now) same crash
+
+abbrev Done : {S : Type 0} → Ghosts S → List PackedRow → Held S → Held S → Type 0
+Done g rows old end = Puts (map line_of rows) (state g old).now (state g end).now
+
+pub returns-clause-put : goal.returns-clause-put
+returns-clause-put g c clean =
+    let whole : take c.rows.row-index c.args.rows.now ≡ c.args.rows.now = take_all c.rows.row-index c.args.rows.now c.rows-test.false in
+    let last = c.rows.tx.conn.now in
+    let end = c.commit.new.self.0 in
+    let same : end ≡ c.conn-2-1.given.0 = search rules in
+    let late : HasCleanDisk (state g.S.Store end) = search rules in
+    let early : HasCleanDisk (state g.S.Store last) = omega (arith, c.commit.ensures.survives.clean) in
+    let shows = (c.in_ok-commit.ensures.ok late).1 in
+    let put = rw whole at (c.rows.invariant.put early) in
+    let done : Done g.S.Store c.args.rows.now c.args.conn.now end = subst (Puts (map line_of c.args.rows.now) (state g.S.Store c.args.conn.now).now) (sym shows.now_is) put in
+    subst (Done g.S.Store c.args.rows.now c.args.conn.now) same done

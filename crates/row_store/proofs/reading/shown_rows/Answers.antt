@@ -1,0 +1,27 @@
+use Rattle.std.proofs.Common.{refl, sym, true≢false, ◌∙◌, ℕ, []}
+use Rattle.sqlite.specs.Held.{state}
+use Rattle.row_store.proofs.Asked.{becomes_shown, stays_asked, leaves_asked, lasts_shown}
+use Rattle.row_store.proofs.reading.shown_rows.Goals as goal
+
+pub returns-in_err-at_rest-clause-crash : goal.returns-in_err-at_rest-clause-crash
+returns-in_err-at_rest-clause-crash g c alone = absurd (true≢false (sym (c.in_err-at_rest.ensures.under_way.0 refl) ∙ alone))
+
+pub returns-clause-shown : goal.returns-clause-shown
+returns-clause-shown g c =
+    becomes_shown (λ rows. rows.items) (state g.S.Store c.args.conn.now) (state g.S.Store c.query_all.new.self) c.requires c.in_ok-at_rest.ensures.rests c.query_all.ensures.survives
+    c.query_all.result c.query_all.ensures.ok
+
+pub returns-clause-unchanged : goal.returns-clause-unchanged
+returns-clause-unchanged g c =
+    stays_asked (λ rows. rows.items) (state g.S.Store c.args.conn.now) (state g.S.Store c.query_all.new.self) c.requires c.in_ok-at_rest.ensures.rests c.query_all.ensures.survives
+    c.query_all.result c.query_all.ensures.ok c.query_all.ensures.err
+
+pub returns-clause-crash : goal.returns-clause-crash
+returns-clause-crash g c =
+    leaves_asked (λ (none : ℕ). []) (state g.S.Store c.args.conn.now) (state g.S.Store c.query_all.new.self) c.requires c.in_ok-at_rest.ensures.rests c.query_all.ensures.survives
+    (λ trees opened left. g.met.S.Store.settled c.args.conn.now.store trees opened left)
+
+pub returns-clause-lasts : goal.returns-clause-lasts
+returns-clause-lasts g c =
+    lasts_shown (λ rows. rows.items) (state g.S.Store c.args.conn.now) (state g.S.Store c.query_all.new.self) c.requires c.in_ok-at_rest.ensures.rests c.query_all.ensures.survives
+    (λ trees opened left. g.met.S.Store.settled c.query_all.new.self.store trees opened left) c.query_all.result c.query_all.ensures.ok

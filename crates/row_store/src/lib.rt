@@ -1,0 +1,18 @@
+//! The desk's one SQL table as lines: found, made, put and read over any store.
+//!
+//! A clause sees of a connection the database that it holds, where its store is clean and it is open
+//! (`specs/Seen.antt`), and of that database which lines stand in its table (`specs/Stored.antt`).
+#![tactic(auto)]
+
+mod footing;
+mod making;
+mod opening;
+mod putting;
+mod reading;
+mod rest;
+
+pub use footing::{Footing, footing_of};
+pub use making::make_table;
+pub use opening::open;
+pub use putting::put_rows;
+pub use reading::all_rows;

@@ -1,0 +1,73 @@
+//! All rows are read.
+ghost use Rattle.std.specs.Prelude.{◌≡◌, false, map, IsTrue, IfOk, OnOk};
+ghost use Rattle.std.specs.List.{AllZip};
+ghost use Rattle.desk_packing.specs.Lines.{line_of};
+ghost use Rattle.sqlite.specs.Held.{state};
+ghost use Rattle.sqlite.specs.State.{HasCleanDisk};
+ghost use Rattle.row_store.specs.Calls.{Becomes, Lasts, Leaves, Stays};
+ghost use Rattle.row_store.specs.Stored.{IsLineRow, Reads, Shows};
+ghost use Rattle.row_store.specs.Table.{is_desk};
+
+use crate::rest::at_rest;
+use desk_base::List;
+use desk_packing::PackedRow;
+use sqlite::{Alter, Connection, Error, Row};
+use std::alloc::Global;
+
+/// The rows of the table, in the order of kind, owner and place. A cell that is no row's is an error. Nothing is
+/// changed.
+pub fn all_rows<S: Alter>(conn: &mut Connection<S>) -> Result<List<PackedRow>, Error>
+    requires { HasCleanDisk (state S.Store conn.old) → IsTrue (is_desk (state S.Store conn.old).now.schema) }
+    ensures read { IfOk result (λ rows. Becomes (Reads (map line_of rows)) (state S.Store conn.old) (state S.Store conn.new)) }
+    ensures unchanged { Stays (state S.Store conn.old) (state S.Store conn.new) }
+    ensures crash { Leaves (λ _ _. ⊥) (state S.Store conn.old) (state S.Store conn.new) }
+    ensures autocommit { conn.old.in_transaction ≡ false → conn.new.in_transaction ≡ false }
+    ensures lasts { OnOk result (Lasts (state S.Store conn.new)) }
+{
+    let rows = shown_rows(conn)?;
+    Ok(List::from_vec(lines_in(*rows.allocator(), &rows)?))
+}
+
+/// The rows of the answer, each with its rowid.
+fn shown_rows<S: Alter>(conn: &mut Connection<S>) -> Result<Vec<Row>, Error>
+    requires { HasCleanDisk (state S.Store conn.old) → IsTrue (is_desk (state S.Store conn.old).now.schema) }
+    ensures shown { IfOk result (λ rows. Becomes (Shows rows.items) (state S.Store conn.old) (state S.Store conn.new)) }
+    ensures unchanged { Stays (state S.Store conn.old) (state S.Store conn.new) }
+    ensures crash { Leaves (λ _ _. ⊥) (state S.Store conn.old) (state S.Store conn.new) }
+    ensures autocommit { conn.old.in_transaction ≡ false → conn.new.in_transaction ≡ false }
+    ensures lasts { OnOk result (Lasts (state S.Store conn.new)) }
+{
+    at_rest(conn)?;
+    conn.query_all(
+        "SELECT rowid, kind, owner, place, body FROM desk_rows ORDER BY kind, owner, place",
+        &[],
+    )
+}
+
+/// The rows that rows of an answer are.
+fn lines_in(alloc: Global, rows: &[Row]) -> Result<Vec<PackedRow>, Error>
+    ensures { IfOk result (λ lines. AllZip IsLineRow rows.now (map line_of lines.items)) }
+{
+    let mut lines = Vec::new(alloc);
+    'rows: for row in rows {
+        lines.push(line_in(row)?)?;
+    }
+    Ok(lines)
+}
+
+/// The row that a row of an answer is.
+fn line_in(row: &Row) -> Result<PackedRow, Error>
+    ensures { IfOk result (λ line. IsLineRow row.now (line_of line)) }
+{
+    let _id: i64 = row.get(0)?;
+    let kind: u32 = row.get(1)?;
+    let owner: u32 = row.get(2)?;
+    let place: u32 = row.get(3)?;
+    let body: Vec<u8> = row.get(4)?;
+    Ok(PackedRow {
+        kind,
+        owner,
+        place,
+        body: List::from_vec(body),
+    })
+}
