@@ -1,10 +1,10 @@
 -- The clerks' own lists that are read one behind another from lines.
-use Rattle.std.proofs.Common.{◌≡◌, ℕ, zero, suc, ◌+◌, ◌-◌, ◌<◌, ◌≤◌, List, [], ◌∷◌, ◌++◌, Some, None, Option, refl}
-use Rattle.std.proofs.Common.{sym, append-nil}
-use Rattle.std.proofs.Common.{true, false, arith}
+use Rattle.std.proofs.Common.{◌≡◌, ℕ, suc, ◌+◌, ◌-◌, ◌<◌, List, [], ◌∷◌, ◌++◌, Some}
+use Rattle.std.proofs.Common.{sym}
+use Rattle.std.proofs.Common.{arith}
 use Rattle.desk_packing.specs.Formats.{Format}
 use Rattle.desk_packing.specs.Lines.{Line}
-use Rattle.desk_packing.specs.Reading.{is_of, list_in, lists_in, row_at}
+use Rattle.desk_packing.specs.Reading.{list_in, lists_in}
 use Rattle.desk_packing.proofs.Items.{behind, behind-behind}
 
 -- a clerk's list stands in front of those of the clerks behind

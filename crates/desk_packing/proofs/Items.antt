@@ -1,6 +1,6 @@
 -- Items that are read one behind another.
-use Rattle.std.proofs.Common.{◌≡◌, ℕ, zero, suc, ◌+◌, ◌-◌, ◌<◌, ◌≤◌, List, [], ◌∷◌, ◌++◌, Some, None, Option, refl}
-use Rattle.std.proofs.Common.{sym, append_assoc, append-nil, arith}
+use Rattle.std.proofs.Common.{◌≡◌, ℕ, suc, ◌+◌, ◌-◌, ◌<◌, List, [], ◌∷◌, ◌++◌, Some, None, Option, refl}
+use Rattle.std.proofs.Common.{sym, append_assoc, arith}
 use Rattle.std.specs.Prelude.{option_map}
 use Rattle.desk_packing.specs.Formats.{Format, items_in}
 

@@ -1,5 +1,5 @@
 -- Parts that are written one behind another.
-use Rattle.std.proofs.Common.{◌≡◌, ℕ, List, ◌++◌, append_assoc}
+use Rattle.std.proofs.Common.{◌≡◌, List, ◌++◌, append_assoc}
 
 -- four parts
 pub four-behind : {A : Type 0} (start a b c d one two three all : List A) → one ≡ start ++ a → two ≡ one ++ b

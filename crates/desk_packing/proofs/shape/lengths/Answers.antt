@@ -1,6 +1,5 @@
 use Rattle.std.proofs.Common.{◌≡◌, ◌<◌, ◌^◌, ◌∙◌, [], length, map, get_or, ap, sym, arith}
 use Rattle.std.proofs.lemmas.List.{get_or-map, length-map}
-use Rattle.desk_base.specs.Roomy.{Roomy}
 use Rattle.desk_words.specs.Tables.{items_of}
 use Rattle.desk_packing.proofs.shape.lengths.Goals as goal
 
