@@ -26,7 +26,8 @@ pub record MayFind (s : State) (db : Database) : Type 0 where
 -- made of it so
 abbrev pub Leaves : (Database → Database → Type 0) → State → State → Type 0
 Leaves Made old new =
-    old.in_transaction ≡ false → IsUp old → HasCleanDisk new → (db : Database) → MayFind new db → (db ≡ old.now) ⊎ Made old.now db
+    old.in_transaction ≡ false → IsUp old → HasCleanDisk new → (db : Database) → MayFind new db
+    → (db ≡ old.now) ⊎ Made old.now db
 
 -- while the connection is up, an open after a crash finds its database
 abbrev pub Lasts : State → Type 0

@@ -68,7 +68,8 @@ is_binary _ = false
 -- a column of this name that is NOT NULL and of which nothing else was said
 abbrev pub is_plain_column : List ℕ → Column → Bool
 is_plain_column name column =
-    bytes_eq column.name name && (not column.is_strict && (column.not_null && (is_null column.default && is_binary column.collation)))
+    bytes_eq column.name name
+    && (not column.is_strict && (column.not_null && (is_null column.default && is_binary column.collation)))
 
 -- a column of this name, INTEGER NOT NULL
 abbrev pub is_number_column : List ℕ → Column → Bool
@@ -82,7 +83,8 @@ is_bytes_column name column = is_any column.kind && is_plain_column name column
 abbrev pub are_desk_columns : List Column → Bool
 are_desk_columns (kind ∷ owner ∷ place ∷ body ∷ []) =
     is_number_column (codes "kind") kind
-    && (is_number_column (codes "owner") owner && (is_number_column (codes "place") place && is_bytes_column (codes "body") body))
+    && (is_number_column (codes "owner") owner
+    && (is_number_column (codes "place") place && is_bytes_column (codes "body") body))
 are_desk_columns _ = false
 
 -- the one list is this one
@@ -121,7 +123,8 @@ is_desk_table table =
 abbrev pub is_desk_index : Index → Bool
 is_desk_index index =
     bytes_eq index.name (codes "sqlite_autoindex_desk_rows_1")
-    && ((index.tree == 1) && ((index.table == 0) && (bytes_eq index.columns key_places && ((index.order.digits == 0) && index.is_unique))))
+    && ((index.tree == 1) && ((index.table == 0)
+    && (bytes_eq index.columns key_places && ((index.order.digits == 0) && index.is_unique))))
 
 -- a foreign key refers to another table
 abbrev pub refers_elsewhere : Reference → Bool

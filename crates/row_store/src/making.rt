@@ -25,11 +25,15 @@ pub fn make_table<S: Alter>(conn: &mut Connection<S>) -> Result<(), Error>
 fn make_alone<S: Alter>(conn: &mut Connection<S>) -> Result<(), Error>
     requires rests { IsAtRest (state S.Store conn.old) }
     requires blank { IsTrue (is_blank (state S.Store conn.old).now.schema) }
-    ensures made { HasCleanDisk (state S.Store conn.new) → OnOk result (MakesTable (state S.Store conn.old).now (state S.Store conn.new).now) }
-    ensures ends { HasCleanDisk (state S.Store conn.new) → OnOk result (IsCommitted (state S.Store conn.old) (state S.Store conn.new)) }
+    ensures made { HasCleanDisk (state S.Store conn.new)
+        → OnOk result (MakesTable (state S.Store conn.old).now (state S.Store conn.new).now) }
+    ensures ends { HasCleanDisk (state S.Store conn.new)
+        → OnOk result (IsCommitted (state S.Store conn.old) (state S.Store conn.new)) }
     ensures refused { HasCleanDisk (state S.Store conn.new) → IsTrue (state S.Store conn.new).is_open
-        → OnErr result (IsTrue (state S.Store conn.old).is_open × ((state S.Store conn.new).now ≡ (state S.Store conn.old).now)) }
-    ensures survives { Survives (state S.Store conn.old) (state S.Store conn.new) (MakesTableIn (state S.Store conn.old).now) }
+        → OnErr result (IsTrue (state S.Store conn.old).is_open
+        × ((state S.Store conn.new).now ≡ (state S.Store conn.old).now)) }
+    ensures survives { Survives (state S.Store conn.old) (state S.Store conn.new) (MakesTableIn
+        (state S.Store conn.old).now) }
     ensures autocommit { conn.new.in_transaction ≡ false }
 {
     let mut tx = conn.transaction();
@@ -45,7 +49,8 @@ fn make_in<S: Alter>(tx: &mut Transaction<'_, S>) -> Result<usize, Error>
     ensures same_reference { tx.new.conn.ghost_name ≡ tx.old.conn.ghost_name }
     ensures made { HasCleanDisk (state S.Store tx.new.conn.now)
         → OnOk result (MakesTable (state S.Store tx.old.conn.now).now (state S.Store tx.new.conn.now).now) }
-    ensures inside { HasCleanDisk (state S.Store tx.new.conn.now) → OnOk result (IsTrue (state S.Store tx.new.conn.now).in_transaction) }
+    ensures inside { HasCleanDisk (state S.Store tx.new.conn.now)
+        → OnOk result (IsTrue (state S.Store tx.new.conn.now).in_transaction) }
     ensures kept { HasCleanDisk (state S.Store tx.new.conn.now)
         → KeepsCommit (state S.Store tx.old.conn.now) (state S.Store tx.new.conn.now) }
     ensures survives { Survives (state S.Store tx.old.conn.now) (state S.Store tx.new.conn.now) (λ _. ⊥) }

@@ -16,11 +16,13 @@ use sqlite::{Alter, Connection, Error, Transaction};
 
 /// Puts all rows in one transaction, the first one first, or none of them.
 pub fn put_rows<S: Alter>(conn: &mut Connection<S>, rows: &[PackedRow]) -> Result<(), Error>
-    ensures put { OnOk result (Becomes (Puts (map line_of rows.now)) (state S.Store conn.old) (state S.Store conn.new)) }
+    ensures put { OnOk result (Becomes (Puts (map line_of rows.now)) (state S.Store conn.old)
+        (state S.Store conn.new)) }
     ensures unchanged { OnErr result (Stays (state S.Store conn.old) (state S.Store conn.new)) }
     ensures crash { Leaves (Puts (map line_of rows.now)) (state S.Store conn.old) (state S.Store conn.new) }
     ensures autocommit { conn.old.in_transaction ≡ false → conn.new.in_transaction ≡ false }
-    ensures lasts { conn.old.in_transaction ≡ false → (lines : List Line) → Stands (state S.Store conn.old).now lines → Lasts (state S.Store conn.new) }
+    ensures lasts { conn.old.in_transaction ≡ false → (lines : List Line)
+        → Stands (state S.Store conn.old).now lines → Lasts (state S.Store conn.new) }
 {
     at_rest(conn)?;
     put_all(conn, rows)
@@ -29,12 +31,16 @@ pub fn put_rows<S: Alter>(conn: &mut Connection<S>, rows: &[PackedRow]) -> Resul
 /// Puts all rows in one transaction over a connection at rest, or none of them.
 fn put_all<S: Alter>(conn: &mut Connection<S>, rows: &[PackedRow]) -> Result<(), Error>
     requires { IsAtRest (state S.Store conn.old) }
-    ensures put { HasCleanDisk (state S.Store conn.new) → OnOk result (Puts (map line_of rows.now) (state S.Store conn.old).now (state S.Store conn.new).now) }
-    ensures ends { HasCleanDisk (state S.Store conn.new) → OnOk result (IsCommitted (state S.Store conn.old) (state S.Store conn.new)) }
+    ensures put { HasCleanDisk (state S.Store conn.new)
+        → OnOk result (Puts (map line_of rows.now) (state S.Store conn.old).now (state S.Store conn.new).now) }
+    ensures ends { HasCleanDisk (state S.Store conn.new)
+        → OnOk result (IsCommitted (state S.Store conn.old) (state S.Store conn.new)) }
     ensures refused { HasCleanDisk (state S.Store conn.new) → IsTrue (state S.Store conn.new).is_open
-        → OnErr result (IsTrue (state S.Store conn.old).is_open × ((state S.Store conn.new).now ≡ (state S.Store conn.old).now)
+        → OnErr result (IsTrue (state S.Store conn.old).is_open
+        × ((state S.Store conn.new).now ≡ (state S.Store conn.old).now)
         × ((state S.Store conn.new).committed ≡ (state S.Store conn.old).now)) }
-    ensures survives { Survives (state S.Store conn.old) (state S.Store conn.new) (PutsIn (map line_of rows.now) (state S.Store conn.old).now) }
+    ensures survives { Survives (state S.Store conn.old) (state S.Store conn.new) (PutsIn (map line_of rows.now)
+        (state S.Store conn.old).now) }
     ensures autocommit { conn.new.in_transaction ≡ false }
 {
     let mut tx = conn.transaction();
@@ -49,8 +55,10 @@ fn put_all<S: Alter>(conn: &mut Connection<S>, rows: &[PackedRow]) -> Result<(),
 fn put_row<S: Alter>(tx: &mut Transaction<'_, S>, row: &PackedRow) -> Result<usize, Error>
     ensures same_reference { tx.new.conn.ghost_name ≡ tx.old.conn.ghost_name }
     ensures puts { HasCleanDisk (state S.Store tx.new.conn.now) → IsTrue (state S.Store tx.old.conn.now).in_transaction
-        → OnOk result (Puts (line_of row.now ∷ []) (state S.Store tx.old.conn.now).now (state S.Store tx.new.conn.now).now) }
-    ensures inside { HasCleanDisk (state S.Store tx.new.conn.now) → IsTrue (state S.Store tx.old.conn.now).in_transaction
+        → OnOk result (Puts (line_of row.now ∷ []) (state S.Store tx.old.conn.now).now
+        (state S.Store tx.new.conn.now).now) }
+    ensures inside { HasCleanDisk (state S.Store tx.new.conn.now)
+        → IsTrue (state S.Store tx.old.conn.now).in_transaction
         → OnOk result (IsTrue (state S.Store tx.new.conn.now).in_transaction) }
     ensures kept { HasCleanDisk (state S.Store tx.new.conn.now) → IsTrue (state S.Store tx.old.conn.now).in_transaction
         → KeepsCommit (state S.Store tx.old.conn.now) (state S.Store tx.new.conn.now) }

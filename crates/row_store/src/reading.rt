@@ -18,7 +18,8 @@ use std::alloc::Global;
 /// changed.
 pub fn all_rows<S: Alter>(conn: &mut Connection<S>) -> Result<List<PackedRow>, Error>
     requires { HasCleanDisk (state S.Store conn.old) → IsTrue (is_desk (state S.Store conn.old).now.schema) }
-    ensures read { IfOk result (λ rows. Becomes (Reads (map line_of rows)) (state S.Store conn.old) (state S.Store conn.new)) }
+    ensures read { IfOk result (λ rows. Becomes (Reads (map line_of rows)) (state S.Store conn.old)
+        (state S.Store conn.new)) }
     ensures unchanged { Stays (state S.Store conn.old) (state S.Store conn.new) }
     ensures crash { Leaves (λ _ _. ⊥) (state S.Store conn.old) (state S.Store conn.new) }
     ensures autocommit { conn.old.in_transaction ≡ false → conn.new.in_transaction ≡ false }

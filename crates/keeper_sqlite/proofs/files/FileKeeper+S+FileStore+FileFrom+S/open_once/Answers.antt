@@ -1,0 +1,8 @@
+use Rattle.std.proofs.Common.{refl, sym, ◌∙◌}
+use Rattle.keeper_sqlite.proofs.Tells.{none_of}
+use Rattle.keeper_sqlite.proofs.files.FileKeeper+S+FileStore+FileFrom+S.open_once.Goals as goal
+
+pub returns-in-Ok-clause-told : goal.returns-in-Ok-clause-told
+returns-in-Ok-clause-told g c =
+    let none = none_of c.args.self.now.tables (sym c.is_some.ensures ∙ c.if-is_some.false) in
+    rw (none, c.over.ensures) refl

@@ -1,0 +1,4 @@
+pub mod Telling
+pub mod Steps
+pub mod Keeping
+pub mod Files

@@ -1,0 +1,60 @@
+-- What the calls of a keeper make of a connection.
+use Rattle.std.specs.Prelude.{◌≡◌, false, IsTrue, Option, Some, None, List, ⊤}
+use Rattle.desk_words.specs.Changes.{FitAll, changed_all}
+use Rattle.desk_words.specs.Tables.{Rows}
+use Rattle.desk_words.specs.declared.change.Change.{Change}
+use Rattle.desk_packing.specs.Shapes.{Lengths, shape_of}
+use Rattle.keeper_core.specs.Keeping.{FitTold}
+use Rattle.row_store.specs.Calls.{IsUp, Lasts, MayFind}
+use Rattle.row_store.specs.Table.{is_desk}
+use Rattle.sqlite.specs.Effect.{Database}
+use Rattle.sqlite.specs.State.{State, HasCleanDisk}
+use Rattle.keeper_sqlite.specs.declared.loading.Age.{Age}
+use Rattle.keeper_sqlite.specs.Telling.{HoldsAs, HoldsTables, told, told_in}
+
+-- a call changes nothing that is told, not even where a crash comes in it
+pub record KeepsTold (old new : State) : Type 0 where
+  pub clean : HasCleanDisk new → HasCleanDisk old
+  pub told : HasCleanDisk new → IsTrue new.is_open → IsTrue old.is_open × (told_in new.now ≡ told_in old.now)
+  pub crash : old.in_transaction ≡ false → IsUp old → HasCleanDisk new → (db : Database)
+      → MayFind new db → told_in db ≡ told_in old.now
+  pub autocommit : old.in_transaction ≡ false → new.in_transaction ≡ false
+
+-- the table is ready to be read
+pub record IsReady (old new : State) : Type 0 where
+  pub desk : HasCleanDisk new → IsTrue (is_desk new.now.schema)
+  pub stays_up : IsUp old → HasCleanDisk new → IsTrue new.is_open
+
+-- where the store is clean, the connection is open and its table stands for these tables
+abbrev pub IsFound : Age → State → Rows → Type 0
+IsFound age s rows = HasCleanDisk s → IsTrue s.is_open × HoldsAs age s.now rows
+
+-- where the store is clean, the connection is open and its table holds these tables
+abbrev pub IsHeld : State → Rows → Type 0
+IsHeld s rows = HasCleanDisk s → IsTrue s.is_open × HoldsTables s.now rows
+
+-- where the lists of tables are known to be so long, a connection that is up holds tables of these lengths, and an open
+-- after a crash finds what it holds
+pub record Known (s : State) (lengths : Lengths) : Type 0 where
+  pub rows : Rows
+  pub holds : HoldsTables s.now rows
+  pub long : shape_of rows ≡ lengths
+
+abbrev pub Knows : State → Option Lengths → Type 0
+Knows s None = ⊤
+Knows s (Some lengths) = Lasts s × (IsUp s → Known s lengths)
+
+-- tables are changed
+abbrev pub ChangesTables : List Change → Database → Database → Type 0
+ChangesTables changes old new =
+    (rows : Rows) → HoldsTables old rows → FitAll rows changes → HoldsTables new (changed_all rows changes)
+
+-- what a keeper tells that tells nothing before it has loaded: the lengths are known from then on
+abbrev pub told_loaded : State → Option Lengths → Option Rows
+told_loaded s None = None
+told_loaded s (Some lengths) = told s
+
+-- the changes fit the tables that are told, once they are known
+abbrev pub FitKnown : State → Option Lengths → List Change → Type 0
+FitKnown s None changes = ⊤
+FitKnown s (Some lengths) changes = FitTold (told s) changes

@@ -1,0 +1,85 @@
+-- Which tables a connection tells.
+use Rattle.std.specs.Prelude.{◌≡◌, ℕ, ℤ, pos, negsuc, Bool, true, false, ◌&&◌, if◌then◌else◌, List, [], ◌∷◌, Option, Some, None, option_map, option_and_then}
+use Rattle.desk_words.specs.Tables.{Rows, empty_rows}
+use Rattle.desk_packing.specs.Lines.{Line}
+use Rattle.desk_packing.specs.Reading.{rows_in}
+use Rattle.desk_packing.specs.Stands.{StandIn}
+use Rattle.row_store.specs.declared.footing.Footing.{Footing}
+use Rattle.row_store.specs.declared.footing.Footing.TheVariants.{Blank, Desk, Other}
+use Rattle.row_store.specs.Stored.{Stands}
+use Rattle.row_store.specs.Table.{footing_of}
+use Rattle.keeper_sqlite.specs.declared.loading.Age.{Age}
+use Rattle.keeper_sqlite.specs.declared.loading.Age.TheVariants as age
+use Rattle.sqlite.specs.Effect.{Database}
+use Rattle.sqlite.specs.Order.{Row, column}
+use Rattle.sqlite.specs.State.{State}
+use Rattle.sqlite.specs.Tree.{Trees, rowid}
+use Rattle.sqlite.specs.declared.types.Value.{Value}
+use Rattle.sqlite.specs.declared.types.Value.TheVariants.{Int, Blob}
+
+-- the value is an integer, as each rowid is
+abbrev pub is_integer : Value → Bool
+is_integer (Int number) = true
+is_integer _ = false
+
+-- a number from 0 up
+abbrev pub whole_in : ℤ → Option ℕ
+whole_in (pos number) = Some number
+whole_in (negsuc number) = None
+
+-- the number that a value is, where it is one
+abbrev pub number_in : Value → Option ℕ
+number_in (Int number) = whole_in number
+number_in _ = None
+
+-- the bytes that a value is, where it is some
+abbrev pub bytes_in : Value → Option (List ℕ)
+bytes_in (Blob bytes) = Some bytes
+bytes_in _ = None
+
+-- the line that the columns of a stored row are, where they are one
+abbrev pub columns_in : Row → Option Line
+columns_in row =
+    option_and_then (λ kind. option_and_then (λ owner. option_and_then (λ place. option_map
+    (λ body. record { kind = kind; owner = owner; place = place; body = body })
+    (bytes_in (column row 4))) (number_in (column row 3))) (number_in (column row 2))) (number_in (column row 1))
+
+-- the line that a stored row is, where it is one
+abbrev pub line_in : Row → Option Line
+line_in row = if is_integer (rowid row) then columns_in row else None
+
+-- the lines that stored rows are, where each of them is one
+abbrev pub lines_in : List Row → Option (List Line)
+lines_in [] = Some []
+lines_in (row ∷ rows) = option_and_then (λ line. option_map (λ lines. line ∷ lines) (lines_in rows)) (line_in row)
+
+-- the tables that trees tell under a schema with this footing: of a new desk where nothing stands, and where the table
+-- stands those that its lines stand for
+abbrev pub told_under : Footing → Trees → Option Rows
+told_under Blank trees = Some empty_rows
+told_under Desk trees = option_and_then rows_in (lines_in (trees 0))
+told_under Other trees = None
+
+-- the tables that a database tells
+abbrev pub told_in : Database → Option Rows
+told_in db = told_under (footing_of db.schema) db.trees
+
+-- the tables that a connection tells: none but while its store is clean and it is open
+abbrev pub told : State → Option Rows
+told s = if s.is_clean && s.is_open then told_in s.now else None
+
+-- the lines are those of these tables, by the age of the lines
+abbrev pub AgesAs : Age → List Line → Rows → Type 0
+AgesAs age.Blank lines rows = (lines ≡ []) × (rows ≡ empty_rows)
+AgesAs age.Old lines rows = StandIn true lines rows
+AgesAs age.New lines rows = StandIn false lines rows
+
+-- the table stands in the database, and its lines stand for these tables
+pub record HoldsAs (age : Age) (db : Database) (rows : Rows) : Type 0 where
+  pub lines : List Line
+  pub stand : Stands db lines
+  pub tables : AgesAs age lines rows
+
+-- so it does in this version
+abbrev pub HoldsTables : Database → Rows → Type 0
+HoldsTables db rows = HoldsAs age.New db rows

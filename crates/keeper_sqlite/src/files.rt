@@ -1,0 +1,164 @@
+//! A keeper over the files at a path. It opens them with its first `load`.
+ghost use Rattle.std.specs.Prelude.{◌≡◌, ◌≤◌, None, Some, IfOk, OnOk, OnErr};
+ghost use Rattle.desk_words.specs.Tables.{AreTables, rows_of};
+ghost use Rattle.keeper_core.specs.Keeping.{ChangeTold, CountsFailures, FailsRise, FitTold};
+ghost use Rattle.keeper_core.specs.Keeping.{IsLoaded, NeverFails, StayTold};
+ghost use Rattle.row_store.specs.Calls.{Becomes, Stays};
+ghost use Rattle.keeper_sqlite.specs.Files.{IfOpen, IfOpened, told_opened};
+ghost use Rattle.keeper_sqlite.specs.Steps.{ChangesTables, IsHeld};
+
+use crate::fault::{count, store_fail};
+use crate::open::OpenTables;
+use desk_base::{List, Str};
+use desk_words::{Change, Tables};
+use keeper_core::{KeepFail, Keeper};
+use sqlite::{Alter, FileFrom, FileStore, Start, Unknown};
+
+/// What keeps tables in the files of `S`, once they are open.
+type Opened<S> = OpenTables<FileStore<FileFrom<S>>>;
+
+/// A keeper over the files at a path, of which `S` says what they held. `T` is the store over them.
+#[derive(Drop)]
+pub struct FileKeeper<'r, S: Start, T: Alter> {
+    rt: &'r HostRuntime,
+    path: Str,
+    start: Option<S>,
+    tables: Option<OpenTables<T>>,
+    faults: u64,
+}
+
+/// The keeper of a program. Of the files it says nothing that a clause could use (`Unknown`): what it does is what
+/// `FileKeeper` does over any files.
+pub type SqlKeeper<'r> = FileKeeper<'r, Unknown, FileStore<FileFrom<Unknown>>>;
+
+impl<'r> FileKeeper<'r, Unknown, FileStore<FileFrom<Unknown>>> {
+    /// The keeper over the files at this path, none of which is touched yet.
+    pub fn at(rt: &'r HostRuntime, path: Str) -> SqlKeeper<'r>
+        ensures { (result.tables ≡ None) × (result.faults ≡ 0) }
+    {
+        FileKeeper::over(rt, path, Unknown)
+    }
+}
+
+impl<'r, S: Start> FileKeeper<'r, S, FileStore<FileFrom<S>>> {
+    /// The keeper over the files at this path, which are as `S` says. None of them is touched yet.
+    pub fn over(
+        rt: &'r HostRuntime,
+        path: Str,
+        start: S,
+    ) -> FileKeeper<'r, S, FileStore<FileFrom<S>>>
+        ensures { (result.tables ≡ None) × (result.faults ≡ 0) }
+    {
+        FileKeeper {
+            rt,
+            path,
+            start: Some(start),
+            tables: None,
+            faults: 0,
+        }
+    }
+
+    /// Opens the files, where they are not open. They are opened once: where that was refused, it is refused from then
+    /// on.
+    fn open_once(&mut self) -> Result<(), KeepFail>
+        ensures told { told_opened self.new.tables ≡ told_opened self.old.tables }
+        ensures faults { self.new.faults ≡ self.old.faults }
+    {
+        if self.tables.is_some() {
+            return Ok(());
+        }
+        let Some(start) = self.start.take() else {
+            return Err(KeepFail::Failed);
+        };
+        match row_store::open(self.rt, self.path.as_str(), start) {
+            Ok(connection) => {
+                self.tables = Some(OpenTables::over(connection));
+                Ok(())
+            }
+            Err(error) => Err(store_fail(error)),
+        }
+    }
+}
+
+impl<'r, S: Start> Keeper for FileKeeper<'r, S, FileStore<FileFrom<S>>> {
+    ghost tables = { λ k. told_opened k.tables };
+
+    ghost faults = { λ k. k.faults };
+
+    ghost is_steady = { λ _. ⊥ };
+
+    /// Opens the files and loads the tables, once. A further `load` is a failure that touches nothing.
+    fn load(&mut self) -> Result<Tables, KeepFail>
+        ensures loaded { IfOk result (λ made. IsLoaded (told_opened self.old.tables)
+            (told_opened self.new.tables) (rows_of made)) }
+        ensures whole { IfOk result (λ made. AreTables (rows_of made)) }
+        ensures unchanged { OnErr result (StayTold (told_opened self.old.tables) (told_opened self.new.tables)) }
+        ensures later { self.old.faults ≤ self.new.faults }
+        ensures cause { FailsRise self.old.faults self.new.faults result }
+        ensures steady { ⊥ → NeverFails result × ⊥ }
+
+        // What stands in the table then, and the count of faults.
+        ensures held { IfOk result (λ made. IfOpened self.new.tables (λ s. IsHeld s (rows_of made))) }
+        ensures faults { CountsFailures self.old.faults self.new.faults result }
+    {
+        if let Err(fail) = self.open_once() {
+            return Err(count(&mut self.faults, fail));
+        }
+        match load_opened(&mut self.tables) {
+            Ok(made) => Ok(made),
+            Err(fail) => Err(count(&mut self.faults, fail)),
+        }
+    }
+
+    /// Commits the changes in one transaction. Before a `load` has answered the tables it is a failure, and nothing is
+    /// touched.
+    fn commit(&mut self, changes: &List<Change>) -> Result<(), KeepFail>
+        requires { FitTold (told_opened self.old.tables) changes.now }
+        ensures committed { OnOk result (ChangeTold (told_opened self.old.tables)
+            (told_opened self.new.tables) changes.now) }
+        ensures unchanged { OnErr result (StayTold (told_opened self.old.tables) (told_opened self.new.tables)) }
+        ensures later { self.old.faults ≤ self.new.faults }
+        ensures cause { FailsRise self.old.faults self.new.faults result }
+        ensures steady { ⊥ → NeverFails result × ⊥ }
+
+        // What stands in the table then, and the count of faults.
+        ensures put { OnOk result (IfOpen self.old.tables self.new.tables (Becomes (ChangesTables changes.now))) }
+        ensures stays { OnErr result (IfOpen self.old.tables self.new.tables Stays) }
+        ensures faults { CountsFailures self.old.faults self.new.faults result }
+    {
+        match commit_opened(&mut self.tables, changes) {
+            Ok(()) => Ok(()),
+            Err(fail) => Err(count(&mut self.faults, fail)),
+        }
+    }
+}
+
+/// Loads the tables from files that are open.
+fn load_opened<S: Start>(tables: &mut Option<Opened<S>>) -> Result<Tables, KeepFail>
+    ensures loaded { IfOk result (λ made. IsLoaded (told_opened tables.old) (told_opened tables.new) (rows_of made)) }
+    ensures whole { IfOk result (λ made. AreTables (rows_of made)) }
+    ensures unchanged { OnErr result (StayTold (told_opened tables.old) (told_opened tables.new)) }
+    ensures held { IfOk result (λ made. IfOpened tables.new (λ s. IsHeld s (rows_of made))) }
+{
+    match tables {
+        Some(tables) => tables.load(),
+        None => Err(KeepFail::Failed),
+    }
+}
+
+/// Commits changes to files that are open.
+fn commit_opened<S: Start>(
+    tables: &mut Option<Opened<S>>,
+    changes: &List<Change>,
+) -> Result<(), KeepFail>
+    requires { FitTold (told_opened tables.old) changes.now }
+    ensures committed { OnOk result (ChangeTold (told_opened tables.old) (told_opened tables.new) changes.now) }
+    ensures unchanged { OnErr result (StayTold (told_opened tables.old) (told_opened tables.new)) }
+    ensures put { OnOk result (IfOpen tables.old tables.new (Becomes (ChangesTables changes.now))) }
+    ensures stays { OnErr result (IfOpen tables.old tables.new Stays) }
+{
+    match tables {
+        Some(tables) => tables.commit(changes),
+        None => Err(KeepFail::Failed),
+    }
+}

@@ -1,0 +1,17 @@
+//! SQLite keeps the desk's tables, and tells them.
+//!
+//! A clause sees of a keeper its connection, how long the lists of its tables are, where it knows, and how often it has
+//! failed. `specs/Telling.antt` says which tables a connection tells.
+#![tactic(auto)]
+
+mod committing;
+mod fault;
+mod files;
+mod loading;
+mod open;
+mod renewing;
+mod tables;
+
+pub use files::{FileKeeper, SqlKeeper};
+pub use open::OpenTables;
+pub use tables::{NeverUnclean, SqlTables};

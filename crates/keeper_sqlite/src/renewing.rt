@@ -1,0 +1,76 @@
+//! The first rows are put, and rows of the old version anew.
+ghost use Rattle.std.specs.Prelude.{◌≡◌, false, OnOk};
+ghost use Rattle.desk_words.specs.Tables.{AreTables, empty_rows, rows_of};
+ghost use Rattle.sqlite.specs.Held.{state};
+ghost use Rattle.row_store.specs.Calls.{Lasts};
+ghost use Rattle.keeper_sqlite.specs.Steps.{IsFound, IsHeld, KeepsTold};
+
+use crate::fault::{pack_fail, store_fail};
+use crate::loading::{Age, Found};
+use desk_packing::{migrated, pack_empty};
+use desk_words::Tables;
+use keeper_core::KeepFail;
+use row_store::put_rows;
+use sqlite::{Alter, Connection};
+use std::alloc::Global;
+
+/// Makes the rows those of this version, in one transaction.
+pub fn renew<S: Alter>(
+    alloc: Global,
+    conn: &mut Connection<S>,
+    found: &Found,
+) -> Result<(), KeepFail>
+    requires autocommit { conn.old.in_transaction ≡ false }
+    requires found { IsFound found.now.age (state S.Store conn.old) (rows_of found.now.tables) }
+    requires whole { AreTables (rows_of found.now.tables) }
+    requires lasts { Lasts (state S.Store conn.old) }
+    ensures held { OnOk result (IsHeld (state S.Store conn.new) (rows_of found.now.tables)) }
+    ensures keeps { KeepsTold (state S.Store conn.old) (state S.Store conn.new) }
+    ensures lasts { OnOk result (Lasts (state S.Store conn.new)) }
+{
+    match found.age {
+        Age::Blank => put_first(alloc, conn),
+        Age::Old => migrate(alloc, conn, &found.tables),
+        Age::New => Ok(()),
+    }
+}
+
+/// Puts the rows of a new desk.
+fn put_first<S: Alter>(alloc: Global, conn: &mut Connection<S>) -> Result<(), KeepFail>
+    requires autocommit { conn.old.in_transaction ≡ false }
+    requires found { IsFound Age.Blank (state S.Store conn.old) empty_rows }
+    requires lasts { Lasts (state S.Store conn.old) }
+    ensures held { OnOk result (IsHeld (state S.Store conn.new) empty_rows) }
+    ensures keeps { KeepsTold (state S.Store conn.old) (state S.Store conn.new) }
+    ensures lasts { OnOk result (Lasts (state S.Store conn.new)) }
+{
+    let rows = pack_empty(alloc)?;
+    match put_rows(conn, rows.as_slice()) {
+        Ok(()) => Ok(()),
+        Err(error) => Err(store_fail(error)),
+    }
+}
+
+/// Puts rows of the old version anew.
+fn migrate<S: Alter>(
+    alloc: Global,
+    conn: &mut Connection<S>,
+    tables: &Tables,
+) -> Result<(), KeepFail>
+    requires autocommit { conn.old.in_transaction ≡ false }
+    requires found { IsFound Age.Old (state S.Store conn.old) (rows_of tables.now) }
+    requires whole { AreTables (rows_of tables.now) }
+    requires lasts { Lasts (state S.Store conn.old) }
+    ensures held { OnOk result (IsHeld (state S.Store conn.new) (rows_of tables.now)) }
+    ensures keeps { KeepsTold (state S.Store conn.old) (state S.Store conn.new) }
+    ensures lasts { OnOk result (Lasts (state S.Store conn.new)) }
+{
+    let rows = match migrated(alloc, tables) {
+        Ok(rows) => rows,
+        Err(fault) => return Err(pack_fail(fault)),
+    };
+    match put_rows(conn, rows.as_slice()) {
+        Ok(()) => Ok(()),
+        Err(error) => Err(store_fail(error)),
+    }
+}

@@ -1,0 +1,121 @@
+//! A keeper over an open connection in memory. It tells its tables from the beginning.
+ghost use Rattle.std.specs.Prelude.{◌≡◌, ◌≤◌, false, None, Err, IfOk, OnOk, OnErr, IsSome};
+ghost use Rattle.desk_words.specs.Tables.{AreTables, rows_of};
+ghost use Rattle.keeper_core.specs.Keeping.{ChangeTold, CountsFailures, FailsRise, FitTold};
+ghost use Rattle.keeper_core.specs.Keeping.{IsLoaded, NeverFails, StayTold};
+ghost use Rattle.row_store.specs.Calls.{Becomes, Lasts, Leaves, Stays};
+ghost use Rattle.sqlite.specs.Held.{state};
+ghost use Rattle.keeper_sqlite.specs.Steps.{ChangesTables, IsHeld, KeepsTold};
+ghost use Rattle.keeper_sqlite.specs.Telling.{told};
+
+use crate::open::OpenTables;
+use desk_base::List;
+use desk_words::{Change, Tables};
+use keeper_core::{KeepFail, Keeper};
+use sqlite::{Alter, Connection, MemStore};
+use std::marker::Model;
+
+/// A store that returns what was written, whatever happens. A file is none, since a disk may lie.
+pub trait NeverUnclean: Alter {
+    ghost use Rattle.std.specs.Prelude.{IsTrue};
+
+    /// No wrong answer is taken as true.
+    ghost never_unclean: { (s : Self) → IsTrue (Self.Store.view s).is_clean };
+}
+
+impl NeverUnclean for MemStore {
+    ghost use Rattle.std.specs.Prelude.{refl};
+
+    ghost never_unclean = { λ s. refl };
+}
+
+/// A keeper over an open connection of a store that returns what was written.
+#[derive(Drop)]
+pub struct SqlTables<S: NeverUnclean> {
+    inner: OpenTables<S>,
+}
+
+impl<S: NeverUnclean> Model for SqlTables<S> {
+    ghost use Rattle.keeper_sqlite.specs.Keeping.{Kept, kept_code};
+
+    ghost Value = { Kept S };
+
+    ghost coded = { kept_code S.code };
+
+    ghost view = { λ k. k.inner };
+}
+
+impl<S: NeverUnclean> SqlTables<S> {
+    /// The keeper over this connection, which tells the tables that stand in it.
+    pub fn over(connection: Connection<S>) -> SqlTables<S>
+        requires { connection.in_transaction ≡ false }
+        ensures { result ≡ record { connection = connection; lengths = None; faults = 0 } }
+    {
+        SqlTables {
+            inner: OpenTables::over(connection),
+        }
+    }
+
+    /// Gives the connection back.
+    pub fn into_connection(self) -> Connection<S>
+        ensures given { result ≡ self.connection }
+        ensures autocommit { result.in_transaction ≡ false }
+    {
+        let SqlTables { inner } = self;
+        inner.into_connection()
+    }
+}
+
+impl<S: NeverUnclean> Keeper for SqlTables<S> {
+    ghost tables = { λ k. told (state S.Store k.connection) };
+
+    ghost faults = { λ k. k.faults };
+
+    ghost is_steady = { λ _. ⊥ };
+
+    /// Loads the tables. Where it is refused, `commit` is refused until a later `load` succeeds.
+    fn load(&mut self) -> Result<Tables, KeepFail>
+        ensures loaded { IfOk result (λ made. IsLoaded (told (state S.Store self.old.connection)) (told
+            (state S.Store self.new.connection)) (rows_of made)) }
+        ensures whole { IfOk result (λ made. AreTables (rows_of made)) }
+        ensures unchanged { OnErr result (StayTold (told (state S.Store self.old.connection)) (told
+            (state S.Store self.new.connection))) }
+        ensures later { self.old.faults ≤ self.new.faults }
+        ensures cause { FailsRise self.old.faults self.new.faults result }
+        ensures steady { ⊥ → NeverFails result × ⊥ }
+
+        // What stands in the table then, what a crash leaves, and the count of faults.
+        ensures held { IfOk result (λ made. IsHeld (state S.Store self.new.connection) (rows_of made)) }
+        ensures keeps { KeepsTold (state S.Store self.old.connection) (state S.Store self.new.connection) }
+        ensures lasts { OnOk result (Lasts (state S.Store self.new.connection)) }
+        ensures faults { CountsFailures self.old.faults self.new.faults result }
+    {
+        self.inner.load_known()
+    }
+
+    /// Commits the changes in one transaction. Before tables were loaded it is a failure, and nothing is touched.
+    fn commit(&mut self, changes: &List<Change>) -> Result<(), KeepFail>
+        requires { FitTold (told (state S.Store self.old.connection)) changes.now }
+        ensures committed { OnOk result (ChangeTold (told (state S.Store self.old.connection)) (told
+            (state S.Store self.new.connection)) changes.now) }
+        ensures unchanged { OnErr result (StayTold (told (state S.Store self.old.connection)) (told
+            (state S.Store self.new.connection))) }
+        ensures later { self.old.faults ≤ self.new.faults }
+        ensures cause { FailsRise self.old.faults self.new.faults result }
+        ensures steady { ⊥ → NeverFails result × ⊥ }
+
+        // What stands in the table then, what a crash leaves, and the count of faults.
+        ensures put { OnOk result (Becomes (ChangesTables changes.now) (state S.Store self.old.connection)
+            (state S.Store self.new.connection)) }
+        ensures stays { OnErr result (Stays (state S.Store self.old.connection) (state S.Store self.new.connection)) }
+        ensures crash { IsSome self.old.lengths
+            → Leaves (ChangesTables changes.now) (state S.Store self.old.connection)
+            (state S.Store self.new.connection) }
+        ensures lasts { OnOk result (Lasts (state S.Store self.new.connection)) }
+        ensures early { self.old.lengths ≡ None
+            → (result ≡ Err KeepFail.Failed) × (self.new.connection ≡ self.old.connection) }
+        ensures faults { CountsFailures self.old.faults self.new.faults result }
+    {
+        self.inner.commit_known(changes)
+    }
+}
