@@ -1,36 +1,36 @@
-//! The program `fixdesk`: its words and standard streams, and tables in memory, handed to `fixdesk_run` with the desk.
+//! The program `fixdesk`: its words, standard streams, and the tables in `desk.db`, handed to `fixdesk_run` with the
+//! desk.
 #![tactic(auto)]
 
-use desk_base::{Both, List, NoMemory, StdSink, StdSource};
-use desk_words::Tables;
+use desk_base::{Both, StdSink, StdSource, Str};
 use fixdesk_run::{Status, run};
-use keeper_core::MemKeeper;
+use keeper_sqlite::FileKeeper;
 use session_machine::Desk;
-use std::alloc::{AllocError, Global};
+use sqlite::{Start, Unknown};
+use std::alloc::AllocError;
 use std::env;
 use std::io::ErrorKind;
 use std::process::ExitCode;
 
 fn main(rt: HostRuntime) -> ExitCode {
-    let mut link = Both {
-        source: StdSource::new(rt.stdin()),
-        sink: StdSink::new(rt.stdout()),
-    };
     let words = match env::args(&rt) {
         Ok(words) => words.skip(1).collect::<Vec<_>>(rt.alloc()),
         Err(error) if error.kind() == ErrorKind::OutOfMemory => Err(AllocError),
         // Words that are not UTF-8 are no command, like no words at all.
         Err(_) => Ok(Vec::new(rt.alloc())),
     };
-    match (words, keeper(rt.alloc())) {
-        (Ok(words), Ok(mut keeper)) => {
-            ExitCode::from(run::<Desk, _, _, _>(rt.alloc(), &words, &mut keeper, &mut link))
-        }
+    match (words, Str::new(rt.alloc(), "desk.db")) {
+        (Ok(words), Ok(path)) => ExitCode::from(run_over(&rt, &words, path, Unknown)),
         _ => ExitCode::from(Status::NoMemory.code()),
     }
 }
 
-/// What keeps the tables while the program runs: none stand at its beginning, and none are left behind it.
-fn keeper(alloc: Global) -> Result<MemKeeper, NoMemory> {
-    Ok(MemKeeper::new(Tables::empty(alloc)?, List::new(alloc)))
+/// Runs over the files at a path, which held at first what `S` says.
+fn run_over<S: Start>(rt: &HostRuntime, words: &[String], path: Str, start: S) -> u8 {
+    let mut link = Both {
+        source: StdSource::new(rt.stdin()),
+        sink: StdSink::new(rt.stdout()),
+    };
+    let mut keeper = FileKeeper::over(rt, path, start);
+    run::<Desk, _, _, _>(rt.alloc(), words, &mut keeper, &mut link)
 }

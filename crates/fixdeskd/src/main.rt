@@ -1,40 +1,35 @@
-//! The program `fixdeskd`: its words, a door on the loopback address, standard output, and tables in memory, handed to
-//! `fixdesk_run` with the desk.
+//! The program `fixdeskd`: its words, a door on the loopback address, standard output, and the tables in `desk.db`,
+//! handed to `fixdesk_run` with the desk.
 #![tactic(auto)]
 
-use desk_base::{List, NoMemory, StdSink};
-use desk_words::Tables;
+use desk_base::{StdSink, Str};
 use fixdesk_run::{Status, serve};
-use keeper_core::MemKeeper;
+use keeper_sqlite::FileKeeper;
 use session_machine::Desk;
-use std::alloc::{AllocError, Global};
+use sqlite::{Start, Unknown};
+use std::alloc::AllocError;
 use std::env;
 use std::io::ErrorKind;
 use std::process::ExitCode;
 use tcp_door::TcpDoor;
 
 fn main(rt: HostRuntime) -> ExitCode {
-    let mut door = TcpDoor::new(&rt);
-    let mut out = StdSink::new(rt.stdout());
     let words = match env::args(&rt) {
         Ok(words) => words.skip(1).collect::<Vec<_>>(rt.alloc()),
         Err(error) if error.kind() == ErrorKind::OutOfMemory => Err(AllocError),
         // Words that are not UTF-8 are no port and count, like no words at all.
         Err(_) => Ok(Vec::new(rt.alloc())),
     };
-    match (words, keeper(rt.alloc())) {
-        (Ok(words), Ok(mut keeper)) => ExitCode::from(serve::<Desk, _, _, _>(
-            rt.alloc(),
-            &words,
-            &mut keeper,
-            &mut door,
-            &mut out,
-        )),
+    match (words, Str::new(rt.alloc(), "desk.db")) {
+        (Ok(words), Ok(path)) => ExitCode::from(serve_over(&rt, &words, path, Unknown)),
         _ => ExitCode::from(Status::NoMemory.code()),
     }
 }
 
-/// What keeps the tables while the program runs: none stand at its beginning, and none are left behind it.
-fn keeper(alloc: Global) -> Result<MemKeeper, NoMemory> {
-    Ok(MemKeeper::new(Tables::empty(alloc)?, List::new(alloc)))
+/// Serves over the files at a path, which held at first what `S` says.
+fn serve_over<S: Start>(rt: &HostRuntime, words: &[String], path: Str, start: S) -> u8 {
+    let mut door = TcpDoor::new(rt);
+    let mut out = StdSink::new(rt.stdout());
+    let mut keeper = FileKeeper::over(rt, path, start);
+    serve::<Desk, _, _, _>(rt.alloc(), words, &mut keeper, &mut door, &mut out)
 }

@@ -1,0 +1,36 @@
+//! The program `fixdesk` with its tables in memory: words and standard streams, handed to `fixdesk_run` with the desk.
+#![tactic(auto)]
+
+use desk_base::{Both, List, NoMemory, StdSink, StdSource};
+use desk_words::Tables;
+use fixdesk_run::{Status, run};
+use keeper_core::MemKeeper;
+use session_machine::Desk;
+use std::alloc::{AllocError, Global};
+use std::env;
+use std::io::ErrorKind;
+use std::process::ExitCode;
+
+fn main(rt: HostRuntime) -> ExitCode {
+    let mut link = Both {
+        source: StdSource::new(rt.stdin()),
+        sink: StdSink::new(rt.stdout()),
+    };
+    let words = match env::args(&rt) {
+        Ok(words) => words.skip(1).collect::<Vec<_>>(rt.alloc()),
+        Err(error) if error.kind() == ErrorKind::OutOfMemory => Err(AllocError),
+        // Words that are not UTF-8 are no command, like no words at all.
+        Err(_) => Ok(Vec::new(rt.alloc())),
+    };
+    match (words, keeper(rt.alloc())) {
+        (Ok(words), Ok(mut keeper)) => {
+            ExitCode::from(run::<Desk, _, _, _>(rt.alloc(), &words, &mut keeper, &mut link))
+        }
+        _ => ExitCode::from(Status::NoMemory.code()),
+    }
+}
+
+/// What keeps the tables while the program runs: none stand at its beginning, and none are left behind it.
+fn keeper(alloc: Global) -> Result<MemKeeper, NoMemory> {
+    Ok(MemKeeper::new(Tables::empty(alloc)?, List::new(alloc)))
+}
