@@ -97,6 +97,7 @@ module _ (kit : Kit) (valid : IsValid kit) (end : State) where
   -- ---- a run that ends elsewhere departs
 
   module _ (leads : List Lead) where
+    -- some attribute can be departed at
     abbrev Departs : State → Type 0
     Departs state = (attribute : ℕ) × CanDepart kit end state attribute
 
@@ -207,6 +208,7 @@ module _ (kit : Kit) (valid : IsValid kit) (end : State) where
           fires.agrees;
     }
 
+    -- what a supported run covers is covered by a supported run from a state further on
     pub follows : (state further : State) (run : List Step) (left_out : ℕ) → Fits kit state → Fits kit further
         → IsInside kit state further → IsLedTo kit further end leads → IsSupportedRun kit end state run
         → ¬ IsCovered (end_of kit state run) left_out → ¬ IsCovered further left_out

@@ -1,10 +1,9 @@
 -- What the leads of the rules tell of the steps that dissent.
-use Rattle.std.proofs.Common.{◌≡◌, ◌≢◌, ◌⊎◌, ◌<◌, ◌≤◌, ◌+◌, ◌∙◌, ℕ, List, [], ◌∷◌, ◌++◌, length, get_or, sym, refl}
+use Rattle.std.proofs.Common.{◌≡◌, ◌≢◌, ◌⊎◌, ◌<◌, ◌≤◌, ◌+◌, ◌∙◌, ℕ, List, length, get_or, set, sym, refl}
 use Rattle.std.proofs.Common.{subst, eqb, eqb-true, inl, inr, arith}
 use Rattle.std.specs.Prelude.{IsSome, MatchOption, Option, Some, None}
 use Rattle.std.proofs.lemmas.Bool.{cases_Bool, eqb-false}
-use Rattle.std.proofs.Math.ListN.{get_or-append}
-use Rattle.std.proofs.Math.Seq.{get_or-append_seam}
+use Rattle.std.proofs.lemmas.List.{get_or-set_other, get_or-set_same}
 use Rattle.fix_model.specs.declared.kit.Kit.{Kit}
 use Rattle.fix_model.specs.declared.state.State.{State}
 use Rattle.fix_model.specs.declared.state.Step.{Step}
@@ -20,16 +19,15 @@ use Rattle.fix_engine.specs.declared.leads.Lead.{Lead}
 use Rattle.fix_engine.specs.declared.leads.Lead.TheVariants.{Nothing, Keeps, Leaves}
 use Rattle.fix_engine.specs.Leads.{AreLeads, IsLead, leaving_row}
 
--- what holds at each place of a list, and of one item more, holds at each place with it
-pub each-push : {A : Type 0} (P : ℕ → A → Type 0) (items : List A) (last d : A)
-    → ((place : ℕ) → place < length items → P place (get_or items place d)) → P (length items) last → (place : ℕ)
-    → place < length items + 1 → P place (get_or (items ++ last ∷ []) place d)
-each-push P items last d each new place within = elim (cases_Bool (eqb place (length items))) [
-  | inl same ↦ rw (eqb-true place (length items) same, get_or-append_seam items last [] d) new
+-- what holds at the first places of a list, and of an item that is set at the next, holds at these places with it
+pub each-set : {A : Type 0} (P : ℕ → A → Type 0) (items : List A) (count : ℕ) (item d : A) → count < length items
+    → ((place : ℕ) → place < count → P place (get_or items place d)) → P count item → (place : ℕ) → place < count + 1
+    → P place (get_or (set items count item) place d)
+each-set P items count item d within each new place below = elim (cases_Bool (eqb place count)) [
+  | inl same ↦ rw (eqb-true place count same, get_or-set_same items count item d within) new
   | inr other ↦
-      let apart = eqb-false place (length items) other in
-      let before : place < length items = omega arith in
-      rw (get_or-append items (last ∷ []) d place before) (each place before)
+      let apart = eqb-false place count other in
+      rw (get_or-set_other items count place item d apart) (each place (omega arith))
 ]
 
 module _ (kit : Kit) (end : State) (place row : ℕ) where

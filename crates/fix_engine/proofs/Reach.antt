@@ -22,7 +22,7 @@ use Rattle.fix_model.proofs.States.{Fits-after}
 use Rattle.fix_engine.specs.declared.leads.Lead.{Lead}
 use Rattle.fix_engine.specs.declared.leads.Lead.TheVariants.{Nothing, Keeps as KeepsThere, Leaves}
 use Rattle.fix_engine.specs.Departures.{AreDepartures, CanDepart, IsClosed, IsLedTo, IsLeft, IsLeftSomehow}
-use Rattle.fix_engine.specs.Departures.{IsNextRule, IsReach, IsSupportedRun, Keeps, Supports}
+use Rattle.fix_engine.specs.Departures.{IsNextRule, IsReach, IsSupportedRun, Keeps, LeavesBy, Supports}
 use Rattle.fix_engine.specs.Flags.{HasFlags, IsFlagged}
 use Rattle.fix_engine.specs.Leads.{AreLeads, IsLead, is_keeping, leaving_row}
 use Rattle.fix_engine.proofs.Ends.{IsEnabled-inside, RowAgrees-inside, cell_at-head, cell_at-other, head-within}
@@ -362,6 +362,12 @@ module _ (kit : Kit) (valid : IsValid kit) (end : State) where
               depart.departs;
         },
       )
+
+-- ---- the heads that are left
+
+-- one of the first rules has this head, and a row that gives it another value than it has at the end
+abbrev pub IsLeftBefore : Kit → List Lead → ℕ → ℕ → Type 0
+IsLeftBefore kit leads count attribute = (place : ℕ) × (place < count) × LeavesBy kit leads attribute place
 
 -- a test that tells one fact tells another that comes with it
 pub tells-same : {P Q : Type 0} (test : Bool) → MatchBool test P (¬ P) → P ↔ Q → IsTrue test ↔ Q

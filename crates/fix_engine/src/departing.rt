@@ -4,10 +4,11 @@ ghost use Rattle.fix_model.specs.declared.state.State.{State as StateOf};
 ghost use Rattle.fix_model.specs.Rules.{rule_at};
 ghost use Rattle.fix_model.specs.States.{Fits, IsCovered};
 ghost use Rattle.fix_model.specs.Valid.{IsValid};
-ghost use Rattle.fix_engine.specs.Departures.{AreDepartures, CanDepart, GoesOn, IsClosed, IsLedTo, IsLeft, IsLeftSomehow, IsNextRule, IsReach, LeavesBy};
-ghost use Rattle.fix_engine.specs.Flags.{HasFlags};
+ghost use Rattle.fix_engine.specs.Departures.{AreDepartures, CanDepart, GoesOn, IsClosed, IsLedTo, IsLeft};
+ghost use Rattle.fix_engine.specs.Departures.{IsLeftSomehow, IsNextRule, IsReach, LeavesBy};
+ghost use Rattle.fix_engine.specs.Flags.{HasFlags, IsFlagged};
 
-use crate::flags::{flag_covered, has_flags, is_flagged};
+use crate::flags::{flag_covered, flag_none, has_flags, is_flagged};
 use crate::leads::Leads;
 use fix_model::{Book, Rule, State};
 
@@ -30,10 +31,30 @@ impl Leads {
         ensures departures_stay { vec_capacity departures.old ≤ vec_capacity departures.new }
         ensures reach_stays { vec_capacity reach.old ≤ vec_capacity reach.new }
     {
-        departures.clear();
+        self.flag_left(departures, book);
         'attributes: for attribute in 0..book.width() {
-            let departs = self.can_depart(reach, book, state, attribute);
-            departures.push(departs).unwrap();
+            if is_flagged(departures, attribute) {
+                let departs = self.can_depart(reach, book, state, attribute);
+                departures[usize::from(attribute)] = departs;
+            }
+        }
+    }
+
+    /// Flags the heads of the rules that have a row that gives them another value than they have at the end. A run can
+    /// depart at no other attribute.
+    fn flag_left<L, B: Book<L>>(&self, flags: &mut Vec<bool>, book: &B)
+        requires room { (B.kit book.now).width ≤ vec_capacity flags.old }
+        ensures left { (attribute : ℕ) → IsFlagged flags.new.items attribute
+            ↔ IsLeftSomehow (B.kit book.now) self.now.leads.items attribute }
+        ensures whole { length flags.new.items ≡ (B.kit book.now).width }
+        ensures room { vec_capacity flags.old ≤ vec_capacity flags.new }
+    {
+        flag_none(flags, book.width());
+        'rules: for rule in 0..book.rules().len() as u16 {
+            if self.lead(rule).leaving_row().is_some() {
+                let head = head_of(book, rule);
+                flags[usize::from(head)] = true;
+            }
         }
     }
 
@@ -55,28 +76,12 @@ impl Leads {
         if state.covers(attribute) {
             return false;
         }
-        if !self.is_left_somehow(book, attribute) {
-            return false;
-        }
         self.find_reach(reach, book, state, attribute);
         self.is_left(reach, book, attribute)
     }
 
-    /// Whether some rule with this head has a row that gives it another value than it has at the end.
-    fn is_left_somehow<L, B: Book<L>>(&self, book: &B, attribute: u16) -> bool
-        ensures { MatchBool result (IsLeftSomehow (B.kit book.now) self.now.leads.items attribute)
-            (¬ IsLeftSomehow (B.kit book.now) self.now.leads.items attribute) }
-    {
-        let count = book.rules().len() as u16;
-        'rules: for rule in 0..count {
-            if self.leaves_by(book, attribute, rule) {
-                return true;
-            }
-        }
-        false
-    }
-
-    /// Whether some such rule has its keys and conditions flagged.
+    /// Whether some rule with this head, whose keys and conditions are flagged, has a row that gives it another value than
+    /// it has at the end.
     fn is_left<L, B: Book<L>>(&self, flags: &[bool], book: &B, attribute: u16) -> bool
         ensures { MatchBool result (IsLeft (B.kit book.now) self.now.leads.items flags.now attribute)
             (¬ IsLeft (B.kit book.now) self.now.leads.items flags.now attribute) }

@@ -1,9 +1,19 @@
 //! Sets of attributes, as a flag for each.
-ghost use Rattle.std.specs.Prelude.{◌≡◌, ◌≢◌, ◌≤◌, ◌↔◌, ℕ, All, length, map, IsTrue, MatchBool, vec_capacity};
+ghost use Rattle.std.specs.Prelude.{◌≡◌, ◌≢◌, ◌≤◌, ◌↔◌, ℕ, All, length, map, replicate, false, IsTrue, MatchBool, vec_capacity};
 ghost use Rattle.fix_model.specs.States.{is_covering};
 ghost use Rattle.fix_engine.specs.Flags.{HasFlags, IsFlagged};
 
 use fix_model::{Cell, Rule, State};
+
+/// Flags none of so many attributes.
+pub fn flag_none(flags: &mut Vec<bool>, width: u16)
+    requires { width ≤ vec_capacity flags.old }
+    ensures none { flags.new.items ≡ replicate width false }
+    ensures room { vec_capacity flags.old ≤ vec_capacity flags.new }
+{
+    flags.clear();
+    flags.resize(usize::from(width), false).unwrap();
+}
 
 /// Flags the covered attributes.
 pub fn flag_covered(flags: &mut Vec<bool>, state: &State)

@@ -46,7 +46,8 @@ impl Looks {
         }
     }
 
-    /// What a look for the rule finds. It is made where it was not made yet, and remembered.
+    /// What a look for the rule finds. It is made where it was not made yet, for this rule or another that shares it, and
+    /// remembered for all of these.
     pub(crate) fn look_up<L, B: Book<L>>(
         &mut self,
         book: &B,
@@ -62,7 +63,7 @@ impl Looks {
             (rule_at (B.kit book.now) rule) result }
         ensures looks { LooksAround (B.kit book.now) state.now self.old self.new counts.old counts.new }
     {
-        let place = usize::from(rule);
+        let place = usize::from(book.earliest(rule));
         match self.remembered[place] {
             Remembered::Done(answer) => answer,
             Remembered::Pending => {

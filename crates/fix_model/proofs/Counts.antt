@@ -53,6 +53,7 @@ pub uncovered_count-step : (kit : Kit) (state : State) (step : Step) → IsValid
 uncovered_count-step kit state step valid fits fires = uncovered_count-after kit state step
     (head_within kit state step.rule valid fits fires.rule_within) fires
 
+-- what passes a test is no more than all
 length-filter-le : {A : Type 0} (test : A → Bool) (items : List A) → length (filter test items) ≤ length items
 length-filter-le test [] = omega arith
 length-filter-le test (first ∷ items) = elim (cases_Bool (test first)) [

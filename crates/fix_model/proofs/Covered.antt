@@ -64,10 +64,12 @@ module _ (kit : Kit) (rule : Rule) where
         (agrees.alike k d h);
   }
 
+  -- values that are the same at the keys are so the other way round
   turned : (values others : ℕ → List ℕ) → All (λ key. values key.0 ≡ others key.0) rule.keys
       → All (λ key. others key.0 ≡ values key.0) rule.keys
   turned values others same k d h = sym (same k d h)
 
+  -- the first row that agrees is the same where the values at the keys are
   first-values : (values others : ℕ → List ℕ) → All (λ key. values key.0 ≡ others key.0) rule.keys → (row : ℕ)
       → IsFirstRow kit values rule row → IsFirstRow kit others rule row
   first-values values others same row first = record {
@@ -75,6 +77,7 @@ module _ (kit : Kit) (rule : Rule) where
     least = λ other agrees. first.least other (RowAgrees-values others values (turned values others same) other agrees);
   }
 
+  -- and so is all that a look finds
   hit-values : (values others : ℕ → List ℕ) → All (λ key. values key.0 ≡ others key.0) rule.keys
       → (first : ℕ) (other : Option ℕ) → IsHit kit values rule (record { first = first; other = other })
       → IsHit kit others rule (record { first = first; other = other })

@@ -38,16 +38,19 @@ opposite (inr n) = inl n
 
 -- a fact about each item is decided where it is for one item
 module _ {A : Type 0} (P : A → Type 0) (decide : (a : A) → Decided (P a)) where
+  -- the fact about each item, by recursion on the list
   by_recursion : (items : List A) → Decided (list.AllByRecursion P items)
   by_recursion [] = inl tt
   by_recursion (a ∷ items) = both (decide a) (by_recursion items)
 
+  -- and by its places
   pub decide_all : (items : List A) → Decided (All P items)
   decide_all items = elim (by_recursion items) [
     | inl each ↦ inl (All-from_recursion P items each)
     | inr none ↦ inr (λ each. none (recursion_from_All P items each))
   ]
 
+  -- where neither the first item nor a later one has the fact, no item has it
   not_here : (a : A) (items : List A) → ¬ P a → ¬ list.Any P items → (place : ℕ) (x : A) → place < length (a ∷ items)
       → get_or (a ∷ items) place x ≡ x → ¬ P x
   not_here a items first later zero x within is p = first (subst P (sym is) p)
@@ -86,13 +89,16 @@ decide_equal one other = elim (cases_Bool (pointwise nat_eq one other)) [
   | inr differ ↦ inr (other_text one other (sym differ))
 ]
 
+-- whether a test passes
 decide_test : (test : Bool) → Decided (IsTrue test)
 decide_test true = inl refl
 decide_test false = inr (λ h. cc)
 
+-- whether two texts are alike
 decide_alike : (folded : Bool) (one other : List ℕ) → Decided (AreAlike folded one other)
 decide_alike folded one other = decide_equal (compared folded one) (compared folded other)
 
+-- whether a pattern matches a text
 decide_match : (folded : Bool) (pat : Pat) (text : List ℕ) → Decided (Matches folded pat text)
 decide_match folded (Is constant) text = decide_alike folded constant text
 decide_match folded (IsNot constant) text = opposite (decide_alike folded constant text)
@@ -102,6 +108,7 @@ decide_match folded (NoneOf texts) text = opposite (decide_any (λ one. AreAlike
     (λ one. decide_alike folded one text) texts)
 decide_match folded Any text = inl tt
 
+-- whether a number is below another
 pub decide_less : (m n : ℕ) → Decided (m < n)
 decide_less m n = elim (cases_Bool (leb n m)) [
   | inl past ↦ inr (λ h. absurd (let e = leb-true n m past in omega arith))
@@ -109,6 +116,7 @@ decide_less m n = elim (cases_Bool (leb n m)) [
 ]
 
 module _ (kit : Kit) (state : State) where
+  -- whether a row is usable
   decide_usable : (rule : Rule) (row : ℕ) → Decided (IsUsable kit rule row)
   decide_usable rule row = elim (both (decide_less row (length (master_of kit rule).rows))
       (both (decide_all (λ key. master_text kit rule row key.1 ≢ [])
@@ -118,6 +126,7 @@ module _ (kit : Kit) (state : State) where
         | inr none ↦ inr (λ u. none (u.row_within, (u.keys, u.from)))
       ]
 
+  -- whether a row agrees
   decide_agrees : (rule : Rule) (row : ℕ) → Decided (RowAgrees kit (value_at kit state) rule row)
   decide_agrees rule row =
       let alike = λ (key : ℕ × ℕ). AreAlike (is_folded kit key.0) (value_at kit state key.0)
@@ -129,6 +138,7 @@ module _ (kit : Kit) (state : State) where
         | inr none ↦ inr (λ a. none (a.usable, a.alike))
       ]
 
+  -- whether a rule is enabled
   decide_enabled : (rule : Rule) → Decided (IsEnabled kit state rule)
   decide_enabled rule =
       let covered = λ (attribute : ℕ). decide_test (is_covering (cell_at state attribute)) in
@@ -150,6 +160,7 @@ module _ (kit : Kit) (state : State) where
         | inr none ↦ inr (λ f. none (f.rule_within, (f.enabled, (f.uncovered, f.agrees))))
       ]
 
+  -- whether a step of the rule fires, and which
   row_of : (place : ℕ) → ((step : Step) × Fires kit state step)
       ⊎ ((row : ℕ) → ¬ Fires kit state (record { rule = place; row = row }))
   row_of place = elim (decide_below (λ row. Fires kit state (record { rule = place; row = row }))
@@ -158,6 +169,7 @@ module _ (kit : Kit) (state : State) where
         | inr none ↦ inr (λ row fires. none row fires.agrees.usable.row_within fires)
       ]
 
+  -- whether a step of the first rules fires, and which
   some_below : (bound : ℕ) → ((step : Step) × Fires kit state step)
       ⊎ ((place row : ℕ) → place < bound → ¬ Fires kit state (record { rule = place; row = row }))
   some_below zero = inr (λ place row h. absurd (omega arith))

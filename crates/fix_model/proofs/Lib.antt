@@ -12,5 +12,6 @@ pub mod Pairs
 pub mod Plain
 pub mod Ranges
 pub mod Runs
+pub mod SharedLooks
 pub mod States
 pub mod Twins

@@ -23,6 +23,7 @@ module _ (kit : Kit) (unfolded : IsUnfolded kit) where
     | inr within ↦ unfolded attribute false (leb-false (length kit.folded) attribute within)
   ]
 
+  -- alike is equal
   pub AreAlike-exact : (attribute : ℕ) (one other : List ℕ) → AreAlike (is_folded kit attribute) one other
       ↔ (one ≡ other)
   AreAlike-exact attribute one other = (
@@ -30,6 +31,7 @@ module _ (kit : Kit) (unfolded : IsUnfolded kit) where
     λ equal. subst (λ flag. AreAlike flag one other) (sym (is_folded-none attribute)) equal,
   )
 
+  -- a pattern that matches without folding matches by equality
   exactly : (pat : Pat) (text : List ℕ) → Matches false pat text → MatchesExactly pat text
   exactly (Is constant) text m = m
   exactly (IsNot constant) text m = m
@@ -37,6 +39,7 @@ module _ (kit : Kit) (unfolded : IsUnfolded kit) where
   exactly (NoneOf texts) text m = m
   exactly Any text m = m
 
+  -- and the other way round
   loosely : (pat : Pat) (text : List ℕ) → MatchesExactly pat text → Matches false pat text
   loosely (Is constant) text m = m
   loosely (IsNot constant) text m = m
@@ -44,6 +47,7 @@ module _ (kit : Kit) (unfolded : IsUnfolded kit) where
   loosely (NoneOf texts) text m = m
   loosely Any text m = m
 
+  -- so a step fires exactly by equality
   pub Fires-exact : (state : State) (step : Step) → Fires kit state step ↔ FiresExactly kit state step
   Fires-exact state step =
       let rule = rule_at kit step.rule in (

@@ -5,7 +5,7 @@ use Rattle.fix_model.specs.declared.kit.Kit.{Kit}
 use Rattle.fix_model.specs.declared.rule.Rule.{Rule}
 use Rattle.fix_model.specs.declared.state.State.{State}
 use Rattle.fix_model.specs.Application.{RowAgrees, RowAgreesAt}
-use Rattle.fix_model.specs.Rules.{from_text}
+use Rattle.fix_model.specs.Rules.{from_text, rule_at}
 use Rattle.fix_model.specs.States.{cell_at, is_covering, value_at}
 
 -- the row is the least of those that agree
@@ -45,6 +45,14 @@ IsMissed kit values rule = (row : ℕ) → ¬ RowAgrees kit values rule row
 -- what a look answers: nothing exactly where no row agrees
 abbrev pub IsFound : Kit → (ℕ → List ℕ) → Rule → Option Hit → Type 0
 IsFound kit values rule answer = MatchOption answer (IsMissed kit values rule) (IsHit kit values rule)
+
+-- the rule shares its look with one that comes no later: they have the same keys, conditions, master and `from`
+pub record SharesLook (kit : Kit) (rule earlier : ℕ) : Type 0 where
+  pub up_to : earlier ≤ rule
+  pub keys : (rule_at kit rule).keys ≡ (rule_at kit earlier).keys
+  pub conds : (rule_at kit rule).conds ≡ (rule_at kit earlier).conds
+  pub master : (rule_at kit rule).master ≡ (rule_at kit earlier).master
+  pub from : (rule_at kit rule).from ≡ (rule_at kit earlier).from
 
 -- those of some keys whose attributes are covered
 abbrev pub covered_among : State → List (ℕ × ℕ) → List (ℕ × ℕ)

@@ -1,7 +1,7 @@
 //! Look-ups over one valid kit.
 ghost use Rattle.std.specs.Prelude.{◌≡◌, ◌+◌, ◌-◌, ◌^◌, ◌<◌, ◌≤◌, ◌↔◌, All, min, length, IsTrue, slice_index_or};
 ghost use Rattle.fix_model.specs.declared.kit.Kit.{Kit as KitOf};
-ghost use Rattle.fix_model.specs.Hit.{IsFound, SomeRowAgrees};
+ghost use Rattle.fix_model.specs.Hit.{IsFound, SharesLook, SomeRowAgrees};
 ghost use Rattle.fix_model.specs.Rules.{rule_at, step_text, IsStepOf, is_folded};
 ghost use Rattle.fix_model.specs.States.{Fits, IsCovered, value_at};
 ghost use Rattle.fix_model.specs.Application.{AreMatched, IsEnabled, covers_left_side};
@@ -44,6 +44,12 @@ pub trait Book<L> {
     fn text(&self, step: Step) -> &Text
         requires { IsStepOf (kit self.now) step }
         ensures { result.now ≡ step_text (kit self.now) step };
+
+    /// The rule itself, or an earlier one with the same keys, conditions, master and `from`, so that one look serves
+    /// both. How early it is stays open.
+    fn earliest(&self, rule: u16) -> u16
+        requires { rule < length (kit self.now).rules }
+        ensures { SharesLook (kit self.now) rule result };
 
     /// Looks for the usable rows of the rule that agree with the state at all its keys, and counts one
     /// look. There is nothing exactly where no row agrees.

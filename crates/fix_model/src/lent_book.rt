@@ -60,6 +60,10 @@ impl<'a, L> Book<L> for LentBook<'a> {
         self.inside.step_text(step)
     }
 
+    fn earliest(&self, rule: u16) -> u16 {
+        rule
+    }
+
     fn find(&self, rule: u16, state: &State, counts: &mut Steps<L>) -> Option<Hit> {
         counts.look();
         let rule = self.inside.rule(rule);

@@ -55,6 +55,10 @@ impl<L> Book<L> for ListBook {
         self.inside.step_text(step)
     }
 
+    fn earliest(&self, rule: u16) -> u16 {
+        rule
+    }
+
     fn find(&self, rule: u16, state: &State, counts: &mut Steps<L>) -> Option<Hit> {
         self.inside.lend().find(rule, state, counts)
     }

@@ -37,11 +37,11 @@ turned_greater : (one other : List (List ℕ)) → key_order one other ≡ Great
 turned_greater one other greater = key_order-total.antisymm other one ∙ ap ordering_reverse greater
 
 -- and a key that is before another has it behind itself
-turned_less : (one other : List (List ℕ)) → key_order one other ≡ Less → key_order other one ≡ Greater
+pub turned_less : (one other : List (List ℕ)) → key_order one other ≡ Less → key_order other one ≡ Greater
 turned_less one other less = key_order-total.antisymm other one ∙ ap ordering_reverse less
 
 -- of two numbers the first is smaller, or the second is not greater
-below_or : (one other : ℕ) → (one < other) ⊎ (other ≤ one)
+pub below_or : (one other : ℕ) → (one < other) ⊎ (other ≤ one)
 below_or one other = elim (cases_Bool (leb other one)) [
   | inl within ↦ inr (leb-true other one within)
   | inr below ↦ inl (leb-false other one below)

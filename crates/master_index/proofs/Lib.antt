@@ -1,4 +1,5 @@
 pub mod Ascending
+pub mod Fronts
 pub mod Grouping
 pub mod Halving
 pub mod Keys

@@ -1,4 +1,4 @@
--- The entries of each owner, one owner more at a time, and of each rule.
+-- The part of each owner, one owner more at a time, and of each rule.
 use Rattle.std.proofs.Common.{◌≡◌, ◌<◌, ◌≤◌, ◌+◌, ◌++◌, ◌∷◌, ℕ, List, [], length, get_or, inl, inr, sym, arith}
 use Rattle.std.proofs.Common.{length-append}
 use Rattle.std.specs.Prelude.{All, is_none}
@@ -14,25 +14,27 @@ use Rattle.fix_model.specs.declared.rule.Rule.{Rule}
 use Rattle.fix_model.specs.Application.{IsUsable}
 use Rattle.fix_model.specs.Comparison.{row_key}
 use Rattle.fix_model.specs.Rules.{from_text, rule_at}
-use Rattle.fix_model.proofs.Hits.{IsHitOf-iff, IsHitOf-text}
-use Rattle.master_index.specs.Sorted.{AreEntriesOf, AreSortedBefore}
 use Rattle.fix_model.specs.Entries.{earlier_twin}
+use Rattle.fix_model.proofs.Hits.{IsHitOf-iff, IsHitOf-text}
+use Rattle.master_index.specs.declared.part.Part.{Part}
 use Rattle.master_index.specs.declared.triples.Triples.{Triples}
+use Rattle.master_index.specs.Parts.{ArePartsBefore, IsPartOf}
+use Rattle.master_index.specs.Sorted.{AreEntriesOf}
 use Rattle.master_index.specs.Triples.{AreTriplesOf, ShareTriple}
 use Rattle.master_index.proofs.Sharing.{from_text-shared, IsUsable-shared, masters, row_key-shared, ShareTriple-sym}
 
--- one owner more has its entries
-pub AreSortedBefore-next : (kit : Kit) (owners : List ℕ) (count : ℕ) (parts : List (List Hit)) (entries : List Hit)
-    → AreSortedBefore kit owners count parts → AreEntriesOf kit (rule_at kit (get_or owners count 0)) entries
-    → AreSortedBefore kit owners (count + 1) (parts ++ entries ∷ [])
-AreSortedBefore-next kit owners count parts entries before are = record {
-  size = omega (arith, length-append parts (entries ∷ []), before.size);
-  each = λ place below.
+-- one owner more has its part
+pub ArePartsBefore-next : (kit : Kit) (owners : List ℕ) (count : ℕ) (parts : List Part) (part : Part)
+    → ArePartsBefore kit owners count parts → IsPartOf kit (rule_at kit (get_or owners count 0)) part
+    → ArePartsBefore kit owners (count + 1) (parts ++ part ∷ [])
+ArePartsBefore-next kit owners count parts part before is = record {
+  size = omega (arith, length-append parts (part ∷ []), before.size);
+  each = λ place d below.
       let up_to : place ≤ count = omega arith in
       elim (eq-or-lt_of_le up_to) [
-        | inl here ↦ rw (here, ← before.size, get_or-append_seam parts entries [] []) (rw before.size are)
-        | inr earlier ↦ rw (get_or_append_left parts (entries ∷ []) [] place (omega (arith, before.size)))
-            (before.each place earlier)
+        | inl here ↦ rw (here, ← before.size, get_or-append_seam parts part [] d) (rw before.size is)
+        | inr earlier ↦ rw (get_or_append_left parts (part ∷ []) d place (omega (arith, before.size)))
+            (before.each place d earlier)
       ];
 }
 
@@ -61,6 +63,18 @@ AreEntriesOf-shared kit rule other entries shares are =
           (found.0, found.1, found.2, found.3, rw (keys found.1.first, keys row) found.4);
       few = rw (masters kit rule other shares) are.few;
     }
+
+-- and its part is theirs too
+pub IsPartOf-shared : (kit : Kit) (rule other : Rule) (part : Part) → ShareTriple kit rule other
+    → IsPartOf kit other part → IsPartOf kit rule part
+IsPartOf-shared kit rule other part shares is = record {
+  entries = AreEntriesOf-shared kit rule other part.entries shares is.entries;
+  fronts = record {
+    whole = is.fronts.whole;
+    each = λ place d h. rw (row_key-shared kit rule other shares (get_or part.entries place d).first)
+        (is.fronts.each place d h);
+  };
+}
 
 -- owners are rules of the kit
 pub owners-within : (kit : Kit) (triples : Triples) → AreTriplesOf kit triples

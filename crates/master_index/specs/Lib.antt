@@ -1,7 +1,10 @@
 pub mod Counts
+pub mod Earliest
+pub mod Fronts
 pub mod Held
 pub mod Index
 pub mod Lending
+pub mod Parts
 pub mod RowMap
 pub mod Sorted
 pub mod Triples

@@ -1,5 +1,5 @@
 -- The entries of a triple: what there is to find at each key that its usable rows have, in the order of the keys.
-use Rattle.std.specs.Prelude.{◌≡◌, ◌≢◌, ◌⊎◌, ℕ, ◌≤◌, ◌<◌, ◌-◌, List, [], length, All, AllPairs, Any, Some, None}
+use Rattle.std.specs.Prelude.{◌≡◌, ◌≢◌, ◌⊎◌, ℕ, ◌≤◌, ◌<◌, ◌-◌, List, length, All, AllPairs, Any, Some, None}
 use Rattle.std.specs.Prelude.{slice_index, slice_index_or}
 use Rattle.std.specs.List.{Contains}
 use Rattle.std.specs.List.Sorted.{IsSorted}
@@ -12,7 +12,7 @@ use Rattle.fix_model.specs.declared.rule.Rule.{Rule}
 use Rattle.fix_model.specs.Application.{IsUsable}
 use Rattle.fix_model.specs.Comparison.{key_order, row_key}
 use Rattle.fix_model.specs.Hit.{IsHitOf}
-use Rattle.fix_model.specs.Rules.{from_text, master_of, rule_at}
+use Rattle.fix_model.specs.Rules.{from_text, master_of}
 
 -- rows by their keys, and rows with one key by their numbers
 abbrev pub row_order : (ℕ → List (List ℕ)) → ℕ → ℕ → Ordering
@@ -58,9 +58,3 @@ IsGrown text entry row grown =
 abbrev pub AreEntriesOf : Kit → Rule → List Hit → Type 0
 AreEntriesOf kit rule =
     AreEntries (row_key kit rule) (from_text kit rule) (IsUsable kit rule) (length (master_of kit rule).rows)
-
--- each of the first owners has its entries
-pub record AreSortedBefore (kit : Kit) (owners : List ℕ) (count : ℕ) (parts : List (List Hit)) : Type 0 where
-  pub size : length parts ≡ count
-  pub each : (place : ℕ) → place < count
-      → AreEntriesOf kit (rule_at kit (slice_index owners place)) (slice_index_or parts place [])

@@ -70,6 +70,10 @@ impl<L> Book<L> for MapBook {
         self.inside.step_text(step)
     }
 
+    fn earliest(&self, rule: u16) -> u16 {
+        rule
+    }
+
     fn find(&self, rule: u16, state: &State, counts: &mut Steps<L>) -> Option<Hit> {
         counts.look();
         let this = self.inside.rule(rule);

@@ -6,10 +6,11 @@ ghost use Rattle.fix_model.specs.Rules.{master_of, rule_at};
 ghost use Rattle.fix_model.specs.States.{Fits, IsCovered, value_at};
 ghost use Rattle.fix_model.specs.Valid.{IsValid};
 ghost use Rattle.master_index.specs.Counts.{RisesByDigits};
-ghost use Rattle.master_index.specs.Sorted.{AreEntriesOf, AreSortedBefore};
+ghost use Rattle.master_index.specs.Parts.{ArePartsBefore, IsPartOf};
 
-use crate::entries::entries_of;
+use crate::earliest::earliest_of;
 use crate::error::BuildFault;
+use crate::part::Part;
 use crate::search::entry_at;
 use crate::triples::Triples;
 use desk_base::{List, MAX_ENTRIES, NoMemory, Steps, Text};
@@ -24,14 +25,16 @@ use std::marker::Model;
 pub struct SortedBook {
     inside: Kit,
     triples: Triples,
-    parts: List<List<Hit>>,
+    parts: List<Part>,
+    earliest: List<u16>,
 }
 
 impl Model for SortedBook {
     ghost use Rattle.std.specs.Prelude.{length};
     ghost use Rattle.fix_model.specs.declared.kit.Kit.{Kit};
     ghost use Rattle.fix_model.specs.Valid.{IsValid};
-    ghost use Rattle.master_index.specs.Sorted.{AreSortedBefore};
+    ghost use Rattle.master_index.specs.Earliest.{ShareLooksBefore};
+    ghost use Rattle.master_index.specs.Parts.{ArePartsBefore};
     ghost use Rattle.master_index.specs.Triples.{AreTriplesOf};
 
     ghost Value = { Kit };
@@ -39,7 +42,8 @@ impl Model for SortedBook {
     ghost view = { λ b. b.inside };
 
     ghost invariant = { λ b. IsValid b.inside × AreTriplesOf b.inside b.triples
-        × AreSortedBefore b.inside b.triples.owners (length b.triples.owners) b.parts };
+        × ArePartsBefore b.inside b.triples.owners (length b.triples.owners) b.parts
+        × ShareLooksBefore b.inside (length b.inside.rules) b.earliest };
 }
 
 impl SortedBook {
@@ -67,31 +71,33 @@ impl SortedBook {
     {
         let triples = Triples::of(alloc, &kit)?;
         let parts = sorted_parts(alloc, &kit, triples.owners())?;
+        let earliest = earliest_of(alloc, &kit)?;
         Ok(SortedBook {
             inside: kit,
             triples,
             parts,
+            earliest,
         })
     }
 
-    /// The entries of a rule's triple.
-    fn entries(&self, rule: u16) -> &[Hit]
+    /// The part of a rule's triple.
+    fn part(&self, rule: u16) -> &Part
         requires { rule < length self.now.rules }
-        ensures { AreEntriesOf self.now (rule_at self.now rule) result.now }
+        ensures { IsPartOf self.now (rule_at self.now rule) result.now }
     {
-        self.parts.as_slice()[self.triples.place(rule)].as_slice()
+        &self.parts.as_slice()[self.triples.place(rule)]
     }
 }
 
-/// The entries of the triples of these rules.
-fn sorted_parts(alloc: Global, kit: &Kit, owners: &[u16]) -> Result<List<List<Hit>>, NoMemory>
+/// The parts of the triples of these rules.
+fn sorted_parts(alloc: Global, kit: &Kit, owners: &[u16]) -> Result<List<Part>, NoMemory>
     requires valid { IsValid kit.now }
     requires owners { All (λ rule. rule < length kit.now.rules) owners.now }
-    ensures { IfOk result (AreSortedBefore kit.now owners.now (length owners.now)) }
+    ensures { IfOk result (ArePartsBefore kit.now owners.now (length owners.now)) }
 {
     let mut parts = List::new(alloc);
     'owners: for owner in owners {
-        parts.push(entries_of(alloc, kit, kit.rule(*owner))?)?;
+        parts.push(Part::of(alloc, kit, kit.rule(*owner))?)?;
     }
     Ok(parts)
 }
@@ -115,6 +121,10 @@ impl<L> Book<L> for SortedBook {
         self.inside.step_text(step)
     }
 
+    fn earliest(&self, rule: u16) -> u16 {
+        self.earliest.as_slice()[usize::from(rule)]
+    }
+
     fn find(&self, rule: u16, state: &State, counts: &mut Steps<L>) -> Option<Hit>
         requires rule_within { rule < length self.now.rules }
         requires fits { Fits self.now state.now }
@@ -127,7 +137,7 @@ impl<L> Book<L> for SortedBook {
         ensures digits { RisesByDigits (length (master_of self.now (rule_at self.now rule)).rows) counts.old counts.new }
     {
         counts.look();
-        entry_at(&self.inside, rule, self.entries(rule), state, counts)
+        entry_at(&self.inside, rule, self.part(rule), state, counts)
     }
 
     fn agrees(&self, rule: u16, state: &State, counts: &mut Steps<L>) -> bool {

@@ -1,13 +1,15 @@
 //! The usable rows of a master in the order of their keys.
-ghost use Rattle.std.specs.Prelude.{◌≡◌, ◌<◌, ◌≤◌, ◌↔◌, ℕ, All, length, IfOk, IsTrue};
+ghost use Rattle.std.specs.Prelude.{◌≡◌, ◌<◌, ◌≤◌, ◌↔◌, ℕ, All, length, slice_index, IfOk, IsTrue};
 ghost use Rattle.std.specs.List.{Contains};
 ghost use Rattle.desk_base.specs.Grid.{cell_text};
 ghost use Rattle.fix_model.specs.Application.{IsUsable};
 ghost use Rattle.fix_model.specs.Comparison.{key_order, row_key};
 ghost use Rattle.fix_model.specs.Rules.{master_of};
 ghost use Rattle.fix_model.specs.Valid.{IsValid, IsValidRule};
+ghost use Rattle.master_index.specs.Fronts.{AreRowFronts};
 ghost use Rattle.master_index.specs.Sorted.{AreSortedRows, row_order};
 
+use crate::front::row_front;
 use desk_base::{Grid, NoMemory};
 use fix_model::{Kit, Rule, is_usable, text_order};
 use std::alloc::Global;
@@ -19,8 +21,24 @@ pub(crate) fn sorted_rows(alloc: Global, kit: &Kit, rule: &Rule) -> Result<Vec<u
     requires rule_valid { IsValidRule kit.now rule.now }
     ensures { IfOk result (λ rows. AreSortedRows kit.now rule.now rows.items) }
 {
+    let fronts = row_fronts(alloc, kit, rule)?;
+    sorted_by_fronts(alloc, kit, rule, fronts.as_slice())
+}
+
+/// The same, with the fronts of all rows.
+fn sorted_by_fronts(
+    alloc: Global,
+    kit: &Kit,
+    rule: &Rule,
+    fronts: &[u64],
+) -> Result<Vec<u32>, NoMemory>
+    requires valid { IsValid kit.now }
+    requires rule_valid { IsValidRule kit.now rule.now }
+    requires fronts { AreRowFronts (row_key kit.now rule.now) fronts.now }
+    ensures { IfOk result (λ rows. AreSortedRows kit.now rule.now rows.items) }
+{
     let mut rows = usable_rows(alloc, kit, rule)?;
-    rows.sort_unstable_by(|one, other| row_order(kit, rule, *one, *other));
+    rows.sort_unstable_by(|one, other| row_order(kit, rule, fronts, *one, *other));
     Ok(rows)
 }
 
@@ -41,14 +59,42 @@ fn usable_rows(alloc: Global, kit: &Kit, rule: &Rule) -> Result<Vec<u32>, NoMemo
     Ok(rows)
 }
 
-/// The order of two rows by their keys, and by their numbers where the keys are alike. A cell past the
-/// last row is a blank.
-fn row_order(kit: &Kit, rule: &Rule, row: u32, other: u32) -> Ordering
+/// The fronts of the keys that the rows of a rule's master have.
+fn row_fronts(alloc: Global, kit: &Kit, rule: &Rule) -> Result<Vec<u64>, NoMemory>
     requires valid { IsValid kit.now }
     requires rule_valid { IsValidRule kit.now rule.now }
+    ensures { IfOk result (λ fronts. AreRowFronts (row_key kit.now rule.now) fronts.items) }
+{
+    let mut fronts = Vec::new(alloc);
+    'rows: for row in 0..kit.master(rule).rows() {
+        fronts.push(row_front(kit, rule, row))?;
+    }
+    Ok(fronts)
+}
+
+/// The order of two rows by their keys, and by their numbers where the keys are alike. A cell past the
+/// last row is a blank.
+fn row_order(kit: &Kit, rule: &Rule, fronts: &[u64], row: u32, other: u32) -> Ordering
+    requires valid { IsValid kit.now }
+    requires rule_valid { IsValidRule kit.now rule.now }
+    requires fronts { AreRowFronts (row_key kit.now rule.now) fronts.now }
     ensures { result ≡ row_order (row_key kit.now rule.now) row other }
 {
+    let order = front_at(fronts, row).cmp(&front_at(fronts, other));
+    if order.is_ne() {
+        return order;
+    }
     key_order(kit, rule, row, other).then(row.cmp(&other))
+}
+
+/// The front of a row's key, that of a blank past the last row.
+fn front_at(fronts: &[u64], row: u32) -> u64
+    ensures { result ≡ slice_index fronts.now row }
+{
+    match fronts.get(row as usize) {
+        Some(front) => *front,
+        None => 0,
+    }
 }
 
 /// The order of two rows by their keys.

@@ -3,6 +3,8 @@ use Rattle.std.proofs.Common.{◌≡◌, ◌≢◌, ◌⊎◌, ◌<◌, ◌+◌,
 use Rattle.std.proofs.Common.{length, get_or, map, set, replicate, eqb, eqb-true, inl, inr, sym, ap, refl, arith}
 use Rattle.std.specs.Prelude.{◌↔◌, All, Contains}
 use Rattle.std.proofs.lemmas.Bool.{cases_Bool, eqb-false}
+use Rattle.std.proofs.Math.ListN.{get_or-append}
+use Rattle.std.proofs.Math.Seq.{get_or-append_seam}
 use Rattle.std.proofs.lemmas.List.{get_or-map, get_or-set_same, get_or-set_other, get_or_default, length-map}
 use Rattle.std.proofs.lemmas.List.{replicate-append-replicate}
 use Rattle.std.proofs.lemmas.List.Elements.{Contains-append_left, Contains-append_right, Contains-append_cases}
@@ -120,4 +122,16 @@ Contains-mapped name P [] one all h = absurd (omega (arith, h.1))
 Contains-mapped name P (item ∷ items) one all h = elim (Contains-cases (name item) one (map name items) h) [
   | inl is ↦ rw is (all zero item (omega arith))
   | inr behind ↦ Contains-mapped name P items one (λ k d below. all (suc k) d (omega (arith, below))) behind
+]
+
+-- what holds at each place of a list, and of one item more, holds at each place with it
+pub each-push : {A : Type 0} (P : ℕ → A → Type 0) (items : List A) (last d : A)
+    → ((place : ℕ) → place < length items → P place (get_or items place d)) → P (length items) last → (place : ℕ)
+    → place < length items + 1 → P place (get_or (items ++ last ∷ []) place d)
+each-push P items last d each new place within = elim (cases_Bool (eqb place (length items))) [
+  | inl same ↦ rw (eqb-true place (length items) same, get_or-append_seam items last [] d) new
+  | inr other ↦
+      let apart = eqb-false place (length items) other in
+      let before : place < length items = omega arith in
+      rw (get_or-append items (last ∷ []) d place before) (each place before)
 ]

@@ -18,90 +18,91 @@ pub halves-init : goal.halves-init
 halves-init g c =
     let kit = c.args.kit.now in
     let rule = rule_at kit c.args.rule in
-    let entries = c.args.entries.now in
-    record {
+    let entries = c.args.part.now.entries in
+    rw c.as_slice-entries.ensures (record {
       narrowed = IsNarrowed-whole (row_key kit rule) entries (sought_key kit (value_at kit c.args.state.now) rule);
       halved = IsHalved-none (length entries) (length entries - 0) c.args.counts.now (omega arith)
           (omega (arith, c.compares-made.ensures, c.compares-made.type_inv));
-    }
+    })
 
 pub halves-preserved-in-Less : goal.halves-preserved-in-Less
 halves-preserved-in-Less g c =
     let kit = c.args.kit.now in
     let rule = rule_at kit c.args.rule in
-    let entries = c.args.entries.now in
+    let entries = c.args.part.now.entries in
     let left = c.halves.high - c.halves.low in
     let half = halves left in
     let middle = c.halves.low + left / 2 in
     let inside : middle < c.halves.high = omega (arith, half.0, half.1) in
     let from : c.halves.low ≤ middle = omega arith in
-    let less = sym c.compare.ensures.order ∙ c.in-Less.is in
+    let less = rw c.as_slice-entries.ensures at (sym c.compare_by_fronts.ensures.order ∙ c.in-Less.is) in
     record {
       narrowed = IsNarrowed-less (row_key kit rule) (from_text kit rule) (IsUsable kit rule)
-          (length (master_of kit rule).rows) entries c.requires.entries
+          (length (master_of kit rule).rows) entries c.requires.part.entries
           (sought_key kit (value_at kit c.args.state.now) rule) c.halves.low c.halves.high middle nothing
           c.halves.invariant.narrowed from inside less;
       halved = IsHalved-once (length entries) left (c.halves.high - (middle + 1)) c.args.counts.now c.halves.counts
-          c.compare.new.counts c.halves.invariant.halved (omega arith) (omega (arith, half.0, half.1))
-          c.compare.ensures.compares;
+          c.compare_by_fronts.new.counts c.halves.invariant.halved (omega arith) (omega (arith, half.0, half.1))
+          c.compare_by_fronts.ensures.compares;
     }
 
 pub halves-preserved : goal.halves-preserved
 halves-preserved g c =
     let kit = c.args.kit.now in
     let rule = rule_at kit c.args.rule in
-    let entries = c.args.entries.now in
+    let entries = c.args.part.now.entries in
     let left = c.halves.high - c.halves.low in
     let half = halves left in
     let middle = c.halves.low + left / 2 in
     let inside : middle < c.halves.high = omega (arith, half.0, half.1) in
     let from : c.halves.low ≤ middle = omega arith in
-    let greater = sym c.compare.ensures.order ∙ c.in-Greater.is in
+    let greater = rw c.as_slice-entries.ensures at (sym c.compare_by_fronts.ensures.order ∙ c.in-Greater.is) in
     record {
       narrowed = IsNarrowed-greater (row_key kit rule) (from_text kit rule) (IsUsable kit rule)
-          (length (master_of kit rule).rows) entries c.requires.entries
+          (length (master_of kit rule).rows) entries c.requires.part.entries
           (sought_key kit (value_at kit c.args.state.now) rule) c.halves.low c.halves.high middle nothing
           c.halves.invariant.narrowed from inside greater;
       halved = IsHalved-once (length entries) left (middle - c.halves.low) c.args.counts.now c.halves.counts
-          c.compare.new.counts c.halves.invariant.halved (omega arith) (omega (arith, half.0, half.1))
-          c.compare.ensures.compares;
+          c.compare_by_fronts.new.counts c.halves.invariant.halved (omega arith) (omega (arith, half.0, half.1))
+          c.compare_by_fronts.ensures.compares;
     }
 
 pub returns-in-Equal : goal.returns-in-Equal
 returns-in-Equal g c =
     let kit = c.args.kit.now in
     let rule = rule_at kit c.args.rule in
-    let entries = c.args.entries.now in
+    let entries = c.args.part.now.entries in
     let left = c.halves.high - c.halves.low in
     let half = halves left in
     let middle = c.halves.low + left / 2 in
     let inside : middle < length entries = omega (arith, half.0, half.1, c.halves.invariant.narrowed.within) in
+    let same = rw c.as_slice-entries.ensures at (sym c.compare_by_fronts.ensures.order ∙ c.in-Equal.is) in
     let halved = IsHalved-once (length entries) left (middle - c.halves.low) c.args.counts.now c.halves.counts
-    c.compare.new.counts c.halves.invariant.halved (omega arith) (omega (arith, half.0, half.1))
-    c.compare.ensures.compares in
-    record {
-      found = IsHit-entry kit (value_at kit c.args.state.now) rule entries c.requires.entries middle nothing inside
-          (sym c.compare.ensures.order ∙ c.in-Equal.is);
+    c.compare_by_fronts.new.counts c.halves.invariant.halved (omega arith) (omega (arith, half.0, half.1))
+    c.compare_by_fronts.ensures.compares in
+    rw c.as_slice-entries.ensures (record {
+      found = IsHit-entry kit (value_at kit c.args.state.now) rule entries c.requires.part.entries middle nothing
+          inside same;
       looks = halved.looks;
-      rises = compares-halved (length entries) (middle - c.halves.low) c.args.counts.now c.compare.new.counts halved
-          (omega (arith, c.compares-made.ensures, c.compares-made.type_inv));
-      digits = RisesByDigits-halved (length entries) _ (middle - c.halves.low) c.args.counts.now c.compare.new.counts
-          halved c.requires.entries.few;
-    }
+      rises = compares-halved (length entries) (middle - c.halves.low) c.args.counts.now
+          c.compare_by_fronts.new.counts halved (omega (arith, c.compares-made.ensures, c.compares-made.type_inv));
+      digits = RisesByDigits-halved (length entries) _ (middle - c.halves.low) c.args.counts.now
+          c.compare_by_fronts.new.counts halved c.requires.part.entries.few;
+    })
 
 pub returns : goal.returns
 returns g c =
     let kit = c.args.kit.now in
     let rule = rule_at kit c.args.rule in
-    let entries = c.args.entries.now in
+    let entries = c.args.part.now.entries in
     let left = c.halves.high - c.halves.low in
     let halved = c.halves.invariant.halved in
     record {
-      found = IsMissed-narrowed kit (value_at kit c.args.state.now) rule entries c.requires.entries c.halves.low
+      found = IsMissed-narrowed kit (value_at kit c.args.state.now) rule entries c.requires.part.entries c.halves.low
           c.halves.high c.halves.invariant.narrowed c.halves-test.false;
       looks = halved.looks;
       rises = compares-halved (length entries) left c.args.counts.now c.halves.counts halved
           (omega (arith, c.compares-made.ensures, c.compares-made.type_inv));
       digits = RisesByDigits-halved (length entries) _ left c.args.counts.now c.halves.counts halved
-          c.requires.entries.few;
+          c.requires.part.entries.few;
     }

@@ -9,9 +9,9 @@ abbrev pub invariant-halves : goal.invariant-halves
 invariant-halves g l =
     let rule = rule_at l.kit l.rule in
     record {
-      narrowed : IsNarrowed (row_key l.kit rule) l.entries (sought_key l.kit (value_at l.kit l.state) rule) l.low
+      narrowed : IsNarrowed (row_key l.kit rule) l.part.entries (sought_key l.kit (value_at l.kit l.state) rule) l.low
           l.high;
-      halved : IsHalved (length l.entries) (l.high - l.low) l.fn.counts l.counts;
+      halved : IsHalved (length l.part.entries) (l.high - l.low) l.fn.counts l.counts;
     }
 
 abbrev pub decreases-halves : goal.decreases-halves

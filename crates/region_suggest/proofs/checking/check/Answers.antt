@@ -3,8 +3,8 @@ use Rattle.std.proofs.lemmas.List.{get_or_read}
 use Rattle.fix_model.specs.declared.region.RowVerdict.{RowVerdict}
 use Rattle.fix_model.specs.declared.state.State.{State}
 use Rattle.fix_model.specs.Regions.{IsRowVerdict, IsVerdict, row_state}
-use Rattle.fix_engine.proofs.Leaving.{each-push}
 use Rattle.region_suggest.specs.Verdicts.{row_at}
+use Rattle.region_suggest.proofs.Lists.{each-push}
 use Rattle.region_suggest.proofs.checking.check.Goals as goal
 
 pub rows-preserved : goal.rows-preserved

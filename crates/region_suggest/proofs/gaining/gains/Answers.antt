@@ -4,9 +4,9 @@ use Rattle.std.proofs.lemmas.Bool.{cases_Bool}
 use Rattle.std.proofs.lemmas.List.{map-append}
 use Rattle.fix_model.specs.States.{cell_at, is_covering}
 use Rattle.fix_model.proofs.Ranges.{filter-range-fails, filter-range-passes}
-use Rattle.fix_engine.proofs.Leaving.{each-push}
 use Rattle.region_suggest.specs.Gains.{IsGain}
 use Rattle.region_suggest.proofs.gaining.gains.Goals as goal
+use Rattle.region_suggest.proofs.Lists.{each-push}
 use Rattle.region_suggest.proofs.gaining.gains.Goals.{then-not-covers+in_ok-gain+in_ok-push, else-not-covers}
 
 pub attributes-preserved : goal.attributes-preserved

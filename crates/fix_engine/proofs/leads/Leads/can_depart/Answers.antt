@@ -1,5 +1,4 @@
-use Rattle.fix_engine.proofs.Reach.{CanDepart-left, IsLeftSomehow-CanDepart, no_departure-covered, tells-none}
-use Rattle.fix_engine.proofs.Reach.{tells-same}
+use Rattle.fix_engine.proofs.Reach.{CanDepart-left, no_departure-covered, tells-none, tells-same}
 use Rattle.fix_engine.proofs.leads.Leads.can_depart.Goals as goal
 
 -- nothing departs at what is covered
@@ -8,14 +7,6 @@ returns-then-covers-clause-departs g c = λ end led.
     let kit = g.B.Book.kit c.args.book.now in
     tells-none (no_departure-covered kit c.requires.valid end c.args.state.now c.args.attribute
     (c.covers.ensures.0 c.if-covers.true))
-
--- nor at an attribute that no rule gives another value
-pub returns-then-not-is_left_somehow-clause-departs : goal.returns-then-not-is_left_somehow-clause-departs
-returns-then-not-is_left_somehow-clause-departs g c = λ end led.
-    let kit = g.B.Book.kit c.args.book.now in
-    tells-none (λ depart. c.if-not-is_left_somehow.ensures
-    (IsLeftSomehow-CanDepart kit c.requires.valid end c.args.self.now.leads.items c.args.state.now c.args.attribute
-    c.requires.fits led depart))
 
 -- and elsewhere the flags tell
 pub returns-clause-departs : goal.returns-clause-departs

@@ -1,38 +1,70 @@
-use Rattle.std.proofs.Common.{◌≡◌, ◌<◌, ◌≤◌, ℕ, Bool, [], ◌∷◌, ◌++◌, ap, length, length-append, false, inl, inr, arith}
+use Rattle.std.proofs.Common.{◌≡◌, ◌≢◌, ◌<◌, ◌≤◌, ◌∙◌, ℕ, Bool, length, length-set, false, inl, inr, arith, below_more}
 use Rattle.std.specs.Prelude.{◌↔◌, IsTrue}
 use Rattle.std.proofs.Math.ListN.{get_or-eq_default}
+use Rattle.std.proofs.lemmas.List.{get_or-set_other}
 use Rattle.fix_model.proofs.Deciding.{decide_less}
 use Rattle.fix_engine.specs.Departures.{CanDepart}
-use Rattle.fix_engine.proofs.Leaving.{each-push}
-use Rattle.fix_engine.proofs.Reach.{CanDepart-within}
+use Rattle.fix_engine.specs.Flags.{IsFlagged}
+use Rattle.fix_engine.proofs.Leaving.{each-set}
+use Rattle.fix_engine.proofs.Reach.{CanDepart-within, IsLeftSomehow-CanDepart}
 use Rattle.fix_engine.proofs.leads.Leads.find_departures.Goals as goal
+use Rattle.fix_engine.proofs.leads.Leads.find_departures.Goals.{then-is_flagged, else-is_flagged}
 
 pub attributes-preserved : goal.attributes-preserved
 attributes-preserved g c =
     let kit = g.B.Book.kit c.args.book.now in
     let before = c.attributes.invariant in
     let flags = c.attributes.departures.items in
-    let flag = c.can_depart-departs.result in
-    let pushed : c.push.new.self.items ≡ flags ++ flag ∷ [] = rw c.unwrap.ensures at c.push.ensures.items in
-    record {
-      whole = omega (arith, ap length pushed, length-append flags (flag ∷ []), before.whole);
-      each = λ end led attribute within.
-          rw pushed (each-push (λ (place : ℕ) (one : Bool). IsTrue one ↔ CanDepart kit end c.args.state.now place) flags
-          flag false
-          (λ place h. before.each end led place (rw before.whole at h))
-          (rw before.whole (c.can_depart-departs.ensures.departs end led)) attribute (rw before.whole within));
-      departures_stay = omega (arith, before.departures_stay, c.push.ensures.capacity);
-      reach_stays = omega (arith, before.reach_stays, c.can_depart-departs.ensures.room);
-    }
+    let here = c.attributes.attribute in
+    let within : here < length flags =
+    omega (
+      arith,
+      before.whole,
+      c.attributes.auto.attribute-end,
+      c.attributes-test.true,
+      c.width-attribute-end.ensures.width,
+    ) in
+    elim c.if-is_flagged.branch [
+      | then-is_flagged w ↦
+          let flag = w.can_depart-departs.result in
+          rw (w.departures-is, w.reach-is, w.from.ensures) (record {
+            whole = length-set flags here flag ∙ before.whole;
+            each = λ end led.
+                each-set (λ (place : ℕ) (one : Bool). IsTrue one ↔ CanDepart kit end c.args.state.now place) flags here
+                flag false within (before.each end led) (w.can_depart-departs.ensures.departs end led);
+            ahead = λ place beyond left.
+                let apart : place ≢ here = omega arith in
+                rw (get_or-set_other flags here place flag false apart) (before.ahead place (omega arith) left);
+            departures_stay = before.departures_stay;
+            reach_stays = omega (arith, before.reach_stays, w.can_depart-departs.ensures.room);
+          })
+      | else-is_flagged w ↦
+          let unflagged : ¬ IsFlagged flags here = λ flagged. (let told = c.is_flagged.ensures.1
+          (rw c.deref.ensures.value flagged) in absurd (let is = w.if-is_flagged.false in cc)) in
+          rw (w.departures-is, w.reach-is) (record {
+            whole = before.whole;
+            each = λ end led. below_more
+                (λ (place : ℕ). IsFlagged flags place ↔ CanDepart kit end c.args.state.now place) here
+                (before.each end led) (
+                  (λ flagged. absurd (unflagged flagged)),
+                  λ depart. absurd (unflagged (before.ahead here (omega arith)
+                      (IsLeftSomehow-CanDepart kit c.requires.valid end c.args.self.now.leads.items c.args.state.now
+                      here c.requires.fits led depart))),
+                );
+            ahead = λ place beyond. before.ahead place (omega arith);
+            departures_stay = before.departures_stay;
+            reach_stays = before.reach_stays;
+          })
+    ]
 
 pub returns-clause-departures : goal.returns-clause-departures
 returns-clause-departures g c = λ end led.
     let kit = g.B.Book.kit c.args.book.now in
     let flags = c.attributes.departures.items in
-    let whole : length flags ≡ kit.width =
+    let whole : length flags ≡ kit.width = c.attributes.invariant.whole in
+    let last : c.attributes.attribute ≡ kit.width =
     omega (
       arith,
-      c.attributes.invariant.whole,
       c.attributes.auto.attribute-end,
       c.attributes-test.false,
       c.width-attribute-end.ensures.width,
@@ -40,7 +72,7 @@ returns-clause-departures g c = λ end led.
     record {
       whole = whole;
       each = λ attribute. elim (decide_less attribute kit.width) [
-        | inl within ↦ c.attributes.invariant.each end led attribute (rw (← c.attributes.invariant.whole, whole) within)
+        | inl within ↦ c.attributes.invariant.each end led attribute (rw last within)
         | inr past ↦
             let beyond : length flags ≤ attribute = past_end attribute kit.width (length flags) whole past in
             let none = get_or-eq_default flags false beyond in (

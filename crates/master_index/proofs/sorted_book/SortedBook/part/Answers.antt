@@ -1,9 +1,8 @@
-use Rattle.std.proofs.Common.{◌≡◌, ◌<◌, [], length, get_or, arith}
-use Rattle.std.proofs.lemmas.List.{get_or_read}
+use Rattle.std.proofs.Common.{◌≡◌, ◌<◌, length, get_or, arith}
 use Rattle.fix_model.specs.Rules.{rule_at}
 use Rattle.master_index.specs.Triples.{owner_of}
-use Rattle.master_index.proofs.Parts.{AreEntriesOf-shared}
-use Rattle.master_index.proofs.sorted_book.SortedBook.entries.Goals as goal
+use Rattle.master_index.proofs.Parts.{IsPartOf-shared}
+use Rattle.master_index.proofs.sorted_book.SortedBook.part.Goals as goal
 
 pub place-requires : goal.place-requires
 place-requires c =
@@ -20,14 +19,12 @@ pub returns : goal.returns
 returns c =
     let kit = c.self.inside.inside in
     let triples = c.self.inside.triples in
-    let parts = c.self.inside.parts in
     let within : c.args.rule < length kit.rules = rw (← c.self.view_is) at c.requires in
     let has = c.self.invariant.1.each c.args.rule within in
     let place = get_or triples.places c.args.rule 0 in
-    let inside : place < length parts = omega (arith, has.place_within, c.self.invariant.2.size) in
-    let item : c.index-as_slice-place.result ≡ get_or parts place [] = get_or_read parts place
-    c.index-as_slice-place.result inside (rw (c.as_slice.ensures, c.place.ensures) at c.index-as_slice-place.is)
-    [] in
-    let are = AreEntriesOf-shared kit (rule_at kit c.args.rule) (rule_at kit (owner_of triples c.args.rule))
-    (get_or parts place []) has.shares (c.self.invariant.2.each place has.place_within) in
-    rw (c.as_slice-2.ensures, item, ← c.self.view_is) are
+    let part = c.index-as_slice-place.result in
+    let item : part ≡ get_or c.self.inside.parts place part = rw (c.as_slice.ensures, c.place.ensures)
+    at c.index-as_slice-place.is in
+    let is = IsPartOf-shared kit (rule_at kit c.args.rule) (rule_at kit (owner_of triples c.args.rule))
+    (get_or c.self.inside.parts place part) has.shares (c.self.invariant.2.each place part has.place_within) in
+    rw (← c.self.view_is) (rw (← item) at is)

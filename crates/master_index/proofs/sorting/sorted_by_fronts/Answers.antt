@@ -6,7 +6,7 @@ use Rattle.fix_model.specs.Application.{IsUsable}
 use Rattle.fix_model.specs.Comparison.{row_key}
 use Rattle.master_index.specs.Sorted.{row_order}
 use Rattle.master_index.proofs.Grouping.{row_order-ranks}
-use Rattle.master_index.proofs.sorting.sorted_rows.Goals as goal
+use Rattle.master_index.proofs.sorting.sorted_by_fronts.Goals as goal
 
 pub returns : goal.returns
 returns c =
