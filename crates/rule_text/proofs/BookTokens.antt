@@ -28,8 +28,8 @@ use Rattle.rule_text.specs.Reading.{with_line, with_token, with_tokens, book_of}
 use Rattle.rule_text.specs.Printing.{attribute_text}
 use Rattle.rule_text.proofs.Walk.{IsChain}
 use Rattle.rule_text.proofs.Sentences.{rulebook-only}
-use Rattle.rule_text.proofs.Sound.{unless-Ok, same-draft, led, led_either, keyword-word, sign-mark, test-other}
-use Rattle.rule_text.proofs.Sound.{and_then-Ok}
+use Rattle.rule_text.proofs.Led.{unless-Ok, same-draft, led, led_either, keyword-word, sign-mark, and_then-Ok}
+use Rattle.rule_text.proofs.Behind.{test-other}
 use Rattle.rule_text.proofs.DraftTokens.{commas_behind, key_tokens, headed_tokens, asking_tokens, asked_tokens}
 use Rattle.rule_text.proofs.DraftTokens.{set_words, opened_tokens, open_tokens, draft_tokens, IsKeyed, HasParts}
 use Rattle.rule_text.proofs.DraftTokens.{more-item, more-comma, one-by-one, in-parts, conds_tokens-comma, more-cond}

@@ -4,10 +4,16 @@ pub mod Sentences
 pub mod Printed
 pub mod Walk
 pub mod Parts
+pub mod Led
+pub mod Held
+pub mod Behind
+pub mod Counting
 pub mod Sound
 pub mod Memory
 pub mod Spelled
 pub mod Steps
+pub mod AgainKeys
+pub mod AgainConditions
 pub mod Again
 pub mod DraftTokens
 pub mod BookTokens

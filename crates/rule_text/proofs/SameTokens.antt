@@ -28,7 +28,8 @@ use Rattle.rule_text.specs.Reading.{with_tokens, begins_rule, extra_rule, book_o
 use Rattle.rule_text.specs.Rulebooks.{IsRulebook}
 use Rattle.rule_text.specs.Printing.{printed}
 use Rattle.rule_text.proofs.Walk.{IsChain, IsChain-from_text}
-use Rattle.rule_text.proofs.Sound.{unless-Ok, and_then-Ok, extra-none, IsRulebook-from_text}
+use Rattle.rule_text.proofs.Led.{unless-Ok, and_then-Ok}
+use Rattle.rule_text.proofs.Sound.{extra-none, IsRulebook-from_text}
 use Rattle.rule_text.proofs.Again.{read_rules-printed}
 use Rattle.rule_text.proofs.BookTokens.{tokens-all}
 

@@ -23,7 +23,7 @@ use Rattle.rule_text.specs.Reading.{with_token, with_tokens, begins_rule}
 use Rattle.rule_text.specs.Rulebooks.{IsPlain}
 use Rattle.rule_text.specs.Printing.{doubled, string_text, column_text}
 use Rattle.rule_text.proofs.Tokens.{with_front, taken_from-gap, taken_from-token}
-use Rattle.rule_text.proofs.Sound.{and_then-Ok}
+use Rattle.rule_text.proofs.Led.{and_then-Ok}
 use Rattle.rule_text.proofs.Spelled.{Stops, piece_at-word, piece_at-string}
 
 -- from some bytes on, wherever they stand, reading goes on to the rest: by tokens that make the one draft
