@@ -41,7 +41,7 @@ impl<'r> Model for TcpSource<'r> {
 
 impl<'r> TcpSource<'r> {
     /// The source over this socket.
-    pub fn new(rt: &'r HostRuntime, stream: TcpStream) -> TcpSource<'r>
+    pub(crate) fn new(rt: &'r HostRuntime, stream: TcpStream) -> TcpSource<'r>
         ensures { result ≡ 0 }
     {
         TcpSource {
@@ -63,7 +63,7 @@ impl<'r> TcpSource<'r> {
 
     /// Takes what the peer still sends, until it closes its side, it fails, the time is over or 16,777,216 bytes were taken:
     /// a socket that is closed with bytes unread takes back what was written to it.
-    pub fn drain(mut self) {
+    pub(crate) fn drain(mut self) {
         self.deadline = Deadline::after(LAST_WAIT);
         let mut piece = [0u8; PIECE];
         let mut taken: usize = 0;
@@ -117,7 +117,7 @@ impl<'r> Model for TcpSink<'r> {
 
 impl<'r> TcpSink<'r> {
     /// The sink over this socket.
-    pub fn new(rt: &'r HostRuntime, stream: TcpStream) -> TcpSink<'r>
+    pub(crate) fn new(rt: &'r HostRuntime, stream: TcpStream) -> TcpSink<'r>
         ensures { result ≡ 0 }
     {
         TcpSink {
@@ -138,7 +138,7 @@ impl<'r> TcpSink<'r> {
     }
 
     /// Tells the peer that nothing more is sent.
-    pub fn finish(self) {
+    pub(crate) fn finish(self) {
         let _ = self.stream.shutdown(Shutdown::Write);
     }
 }
