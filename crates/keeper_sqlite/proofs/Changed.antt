@@ -20,9 +20,11 @@ use Rattle.keeper_sqlite.proofs.Told.{told_holding, told_up}
 -- a database holds one value of tables at most
 pub same_tables : (db : Database) (a b : Rows) → HoldsTables db a → HoldsTables db b → a ≡ b
 same_tables db a b left right =
-    let e : ◌≡◌ {A = Option Rows} (Some a) (Some b) = sym (told_holding age.New db a left) ∙ told_holding age.New db b right in cc
+    let e : ◌≡◌ {A = Option Rows} (Some a) (Some b) =
+    sym (told_holding age.New db a left) ∙ told_holding age.New db b right in cc
 
-module _ (lengths : Lengths) (changes : List Change) (more : List Line) (old new : State) (is : more ≡ lines_of_changes lengths changes) (fields : AllByRecursion FitsFields changes)
+module _ (lengths : Lengths) (changes : List Change) (more : List Line) (old new : State)
+    (is : more ≡ lines_of_changes lengths changes) (fields : AllByRecursion FitsFields changes)
     (known : IsUp old → Known old lengths) where
   -- lines that are put change the tables
   puts_change : IsUp old → (db : Database) → Puts more old.now db → ChangesTables changes old.now db
@@ -41,10 +43,13 @@ module _ (lengths : Lengths) (changes : List Change) (more : List Line) (old new
   becomes_changed becomes = λ clean. let made = becomes clean in (made.0, made.1, puts_change made.0 new.now made.2)
 
   pub leaves_changed : Leaves (Puts more) old new → Leaves (ChangesTables changes) old new
-  leaves_changed leaves = λ alone up clean db found. elim (leaves alone up clean db found) [ inl same ↦ inl same | inr put ↦ inr (puts_change up db put) ]
+  leaves_changed leaves =
+      λ alone up clean db found.
+      elim (leaves alone up clean db found) [ inl same ↦ inl same | inr put ↦ inr (puts_change up db put) ]
 
   -- and how long their lists are is known
-  pub knows_changed : (grown : Lengths) → grown ≡ grown_all lengths changes → FitTold (told old) changes → Becomes (Puts more) old new → (IsUp old → Lasts new) → Knows new (Some grown)
+  pub knows_changed : (grown : Lengths) → grown ≡ grown_all lengths changes → FitTold (told old) changes
+      → Becomes (Puts more) old new → (IsUp old → Lasts new) → Knows new (Some grown)
   knows_changed grown shape fit becomes lasts = (
     λ up. lasts (becomes up.0).0 up,
     λ up.
@@ -60,7 +65,8 @@ module _ (lengths : Lengths) (changes : List Change) (more : List Line) (old new
   )
 
 -- what was known is so where nothing was put
-pub knows_kept : (lengths : Lengths) (old new : State) → Knows old (Some lengths) → Stays old new → (IsUp old → Lasts new) → Knows new (Some lengths)
+pub knows_kept : (lengths : Lengths) (old new : State) → Knows old (Some lengths) → Stays old new
+    → (IsUp old → Lasts new) → Knows new (Some lengths)
 knows_kept lengths old new known stays lasts = (
   λ up. let back = (stays up.0).1 up.1 in lasts ((stays up.0).0, back.0) up,
   λ up.

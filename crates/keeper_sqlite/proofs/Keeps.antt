@@ -21,9 +21,12 @@ use Rattle.keeper_sqlite.proofs.Told.{told_holding}
 abbrev pub TellsAs : (Database → Database → Type 0) → State → Type 0
 TellsAs Made old = HasCleanDisk old → (db : Database) → Made old.now db → told_in db ≡ told_in old.now
 
-module _ (Made : Database → Database → Type 0) (old new : State) (leaves : Leaves Made old new) (tells : TellsAs Made old) (alone : old.in_transaction ≡ false → new.in_transaction ≡ false) where
-  crash : old.in_transaction ≡ false → IsUp old → HasCleanDisk new → (db : Database) → MayFind new db → told_in db ≡ told_in old.now
-  crash before up clean db found = elim (leaves before up clean db found) [ inl same ↦ ap told_in same | inr made ↦ tells up.0 db made ]
+module _ (Made : Database → Database → Type 0) (old new : State) (leaves : Leaves Made old new)
+    (tells : TellsAs Made old) (alone : old.in_transaction ≡ false → new.in_transaction ≡ false) where
+  crash : old.in_transaction ≡ false → IsUp old → HasCleanDisk new → (db : Database) → MayFind new db
+      → told_in db ≡ told_in old.now
+  crash before up clean db found =
+      elim (leaves before up clean db found) [ inl same ↦ ap told_in same | inr made ↦ tells up.0 db made ]
 
   -- it was refused
   pub keeps_refused : Stays old new → KeepsTold old new
@@ -53,7 +56,8 @@ keeps_same s lasts = record {
 }
 
 -- one call behind another
-pub keeps_then : (a b c : State) → KeepsTold a b → (IsUp a → HasCleanDisk b → IsTrue b.is_open) → KeepsTold b c → KeepsTold a c
+pub keeps_then : (a b c : State) → KeepsTold a b → (IsUp a → HasCleanDisk b → IsTrue b.is_open) → KeepsTold b c
+    → KeepsTold a c
 keeps_then a b c first stays_up next = record {
   clean = λ clean. first.clean (next.clean clean);
   told = λ clean opened.
@@ -72,25 +76,35 @@ keeps_then a b c first stays_up next = record {
 -- the table is made where nothing stands
 pub make_tells : (s : State) → footing_of s.now.schema ≡ Blank → TellsAs MakesTable s
 make_tells s blank = λ clean db made.
-    told_holding age.Blank db empty_rows (record { lines = []; stand = made.0; tables = (refl, refl) }) ∙ sym (ap (λ footing. told_under footing s.now.trees) blank)
+    told_holding age.Blank db empty_rows (record { lines = []; stand = made.0; tables = (refl, refl) })
+    ∙ sym (ap (λ footing. told_under footing s.now.trees) blank)
 
-module _ (a : Age) (s : State) (rows : Rows) (more : List Line) (found : IsFound a s rows) (renews : (lines : List Line) → AgesAs a lines rows → StandIn false (put_lines lines more) rows) where
+module _ (a : Age) (s : State) (rows : Rows) (more : List Line) (found : IsFound a s rows)
+    (renews : (lines : List Line) → AgesAs a lines rows → StandIn false (put_lines lines more) rows) where
   renewed : HasCleanDisk s → (db : Database) → Puts more s.now db → HoldsTables db rows
   renewed clean db put =
       let old = (found clean).1 in
-      record { lines = put_lines old.lines more; stand = (put old.lines old.stand).0; tables = renews old.lines old.tables }
+      record {
+        lines = put_lines old.lines more;
+        stand = (put old.lines old.stand).0;
+        tables = renews old.lines old.tables;
+      }
 
   -- lines are put that make the table one of this version
   pub put_tells : TellsAs (Puts more) s
-  put_tells = λ clean db put. told_holding age.New db rows (renewed clean db put) ∙ sym (told_holding a s.now rows (found clean).1)
+  put_tells =
+      λ clean db put. told_holding age.New db rows (renewed clean db put)
+      ∙ sym (told_holding a s.now rows (found clean).1)
 
   pub put_held : (new : State) → Becomes (Puts more) s new → IsHeld new rows
   put_held new becomes = λ clean. let made = becomes clean in (made.1, renewed made.0.0 new.now made.2)
 
 -- the first rows
-pub first_renews : (more lines : List Line) → more ≡ lines_of empty_rows → AgesAs age.Blank lines empty_rows → StandIn false (put_lines lines more) empty_rows
+pub first_renews : (more lines : List Line) → more ≡ lines_of empty_rows → AgesAs age.Blank lines empty_rows
+    → StandIn false (put_lines lines more) empty_rows
 first_renews more lines is h = rw (h.0, is) first_stand
 
 -- rows of the old version
-pub old_renews : (more lines : List Line) (rows : Rows) → more ≡ migration_lines rows → AgesAs age.Old lines rows → StandIn false (put_lines lines more) rows
+pub old_renews : (more lines : List Line) (rows : Rows) → more ≡ migration_lines rows → AgesAs age.Old lines rows
+    → StandIn false (put_lines lines more) rows
 old_renews more lines rows is h = rw is (migrated_stand lines rows h)

@@ -44,14 +44,17 @@ pub first_stand : StandIn false (put_lines [] (lines_of empty_rows)) empty_rows
 first_stand = record { tables = new_tables; fit = new_fields; same = IsPermutation-middle (_ ∷ []) _ [] }
 
 -- lines of the old version that are put anew
-pub migrated_stand : (lines : List Line) (rows : Rows) → StandIn true lines rows → StandIn false (put_lines lines (migration_lines rows)) rows
+pub migrated_stand : (lines : List Line) (rows : Rows) → StandIn true lines rows
+    → StandIn false (put_lines lines (migration_lines rows)) rows
 migrated_stand lines rows stand = StandIn-migration lines rows stand (old_editions-fit rows.editions stand.fit.editions)
 
 -- lines of changes that are put
-pub changed_stand : (lines : List Line) (rows : Rows) (changes : List Change) → StandIn false lines rows → FitAll rows changes → AllByRecursion FitsFields changes
+pub changed_stand : (lines : List Line) (rows : Rows) (changes : List Change) → StandIn false lines rows
+    → FitAll rows changes → AllByRecursion FitsFields changes
     → StandIn false (put_lines lines (lines_of_changes (shape_of rows) changes)) (changed_all rows changes)
 changed_stand = StandIn-changes
 
 -- how long the lists are then
-pub shape_changed : (rows : Rows) (changes : List Change) → shape_of (changed_all rows changes) ≡ grown_all (shape_of rows) changes
+pub shape_changed : (rows : Rows) (changes : List Change)
+    → shape_of (changed_all rows changes) ≡ grown_all (shape_of rows) changes
 shape_changed = shape-changed_all

@@ -1,5 +1,6 @@
 -- What a keeper tells before and after its calls.
-use Rattle.std.proofs.Common.{◌≡◌, inl, inr, List, Option, Some, None, Result, Ok, Err, IfOk, OnErr, is_some, false, true≢false, refl, sym, ap, subst, subst₂, ◌∙◌}
+use Rattle.std.proofs.Common.{◌≡◌, inl, inr, List, Option, Some, None, Result, Ok, Err, IfOk, OnErr, is_some, false}
+use Rattle.std.proofs.Common.{true≢false, refl, sym, ap, subst, subst₂, ◌∙◌}
 use Rattle.desk_words.specs.Changes.{changed_all}
 use Rattle.desk_words.specs.Tables.{Rows}
 use Rattle.desk_words.specs.declared.change.Change.{Change}
@@ -50,7 +51,8 @@ held_told s rows held = elim (told_cases s) [
 ]
 
 -- where the store is clean they were told before, too
-pub held_before : (old new : State) (rows : Rows) → HasCleanDisk new → KeepsTold old new → IsHeld new rows → IfTold (told old) rows
+pub held_before : (old new : State) (rows : Rows) → HasCleanDisk new → KeepsTold old new → IsHeld new rows
+    → IfTold (told old) rows
 held_before old new rows clean keeps held = elim (told_cases old) [
   | inl up ↦ (let now = held clean in
       let same = (keeps.told clean now.0).1 in
@@ -59,13 +61,16 @@ held_before old new rows clean keeps held = elim (told_cases old) [
 ]
 
 -- changes that are committed are told
-pub changed_told : (lengths : Lengths) (old new : State) (changes : List Change) → Knows old (Some lengths) → FitTold (told old) changes → Becomes (ChangesTables changes) old new
+pub changed_told : (lengths : Lengths) (old new : State) (changes : List Change) → Knows old (Some lengths)
+    → FitTold (told old) changes → Becomes (ChangesTables changes) old new
     → ChangeTold (told old) (told new) changes
 changed_told lengths old new changes known fit becomes = elim (told_cases new) [
   | inl up ↦ (let made = becomes up.0.0 in
       let k = known.1 made.0 in
       let told_old : told old ≡ Some k.rows = told_up old made.0 ∙ told_holding age.New old.now k.rows k.holds in
-      let told_new : told new ≡ Some (changed_all k.rows changes) = up.1 ∙ told_holding age.New new.now (changed_all k.rows changes) (made.2 k.rows k.holds (rw told_old at fit)) in
+      let told_new : told new ≡ Some (changed_all k.rows changes) =
+      up.1
+      ∙ told_holding age.New new.now (changed_all k.rows changes) (made.2 k.rows k.holds (rw told_old at fit)) in
       subst₂ (λ a b. ChangeTold a b changes) (sym told_old) (sym told_new) refl)
   | inr none ↦ subst (λ b. ChangeTold (told old) b changes) (sym none) (change_lost (told old) changes)
 ]
@@ -73,21 +78,25 @@ changed_told lengths old new changes known fit becomes = elim (told_cases new) [
 -- ---- by the answer
 
 -- what a refused commit leaves
-pub refused_told : {T : Type 0} (r : Result T KeepFail) (old new : State) → OnErr r (Stays old new) → OnErr r (StayTold (told old) (told new))
+pub refused_told : {T : Type 0} (r : Result T KeepFail) (old new : State) → OnErr r (Stays old new)
+    → OnErr r (StayTold (told old) (told new))
 refused_told (Ok done) old new stays = tt
 refused_told (Err fail) old new stays = stays_refused old new stays
 
-refused_as : (lengths : Option Lengths) (old new : State) → Stays old new → StayTold (told_loaded old lengths) (told_loaded new lengths)
+refused_as : (lengths : Option Lengths) (old new : State) → Stays old new
+    → StayTold (told_loaded old lengths) (told_loaded new lengths)
 refused_as None old new stays = refl
 refused_as (Some lengths) old new stays = stays_refused old new stays
 
-pub refused_loaded : {T : Type 0} (r : Result T KeepFail) (old new : State) (before now : Option Lengths) → OnErr r (Stays old new) → OnErr r (now ≡ before)
+pub refused_loaded : {T : Type 0} (r : Result T KeepFail) (old new : State) (before now : Option Lengths)
+    → OnErr r (Stays old new) → OnErr r (now ≡ before)
     → OnErr r (StayTold (told_loaded old before) (told_loaded new now))
 refused_loaded (Ok done) old new before now stays same = tt
 refused_loaded (Err fail) old new before now stays same = rw same (refused_as before old new stays)
 
 -- what a refused load leaves
-pub unloaded_told : {T : Type 0} (r : Result T KeepFail) (old new : State) → KeepsTold old new → OnErr r (StayTold (told old) (told new))
+pub unloaded_told : {T : Type 0} (r : Result T KeepFail) (old new : State) → KeepsTold old new
+    → OnErr r (StayTold (told old) (told new))
 unloaded_told (Ok done) old new keeps = tt
 unloaded_told (Err fail) old new keeps = stays_told old new keeps
 
@@ -96,15 +105,18 @@ held_as None new rows held = tt
 held_as (Some lengths) new rows held = held_told new rows held
 
 -- the first load of a keeper that told nothing before
-pub loaded_first : {T : Type 0} (rows_in : T → Rows) (r : Result T KeepFail) (old new : State) (before now : Option Lengths) → before ≡ None → IfOk r (λ made. IsHeld new (rows_in made))
+pub loaded_first : {T : Type 0} (rows_in : T → Rows) (r : Result T KeepFail) (old new : State)
+    (before now : Option Lengths) → before ≡ None → IfOk r (λ made. IsHeld new (rows_in made))
     → IfOk r (λ made. IsLoaded (told_loaded old before) (told_loaded new now) (rows_in made))
 loaded_first rows_in (Ok made) old new before now none held = rw none (tt, held_as now new (rows_in made) held)
 loaded_first rows_in (Err fail) old new before now none held = tt
 
 -- any load over a store that is clean
-pub loaded_again : {T : Type 0} (rows_in : T → Rows) (r : Result T KeepFail) (old new : State) → HasCleanDisk new → KeepsTold old new → IfOk r (λ made. IsHeld new (rows_in made))
+pub loaded_again : {T : Type 0} (rows_in : T → Rows) (r : Result T KeepFail) (old new : State) → HasCleanDisk new
+    → KeepsTold old new → IfOk r (λ made. IsHeld new (rows_in made))
     → IfOk r (λ made. IsLoaded (told old) (told new) (rows_in made))
-loaded_again rows_in (Ok made) old new clean keeps held = (held_before old new (rows_in made) clean keeps held, held_told new (rows_in made) held)
+loaded_again rows_in (Ok made) old new clean keeps held =
+    (held_before old new (rows_in made) clean keeps held, held_told new (rows_in made) held)
 loaded_again rows_in (Err fail) old new clean keeps held = tt
 
 pub none_of : {T : Type 0} (o : Option T) → is_some o ≡ false → o ≡ None

@@ -1,8 +1,10 @@
 -- Which tables a database tells in which the table stands.
-use Rattle.std.proofs.Common.{◌≡◌, ◌⊎◌, ◌&&◌, inl, inr, None, List, [], ◌∷◌, map, Bool, true, false, Some, IsTrue, if◌then◌else◌, refl, sym, ap, ap₂, subst, ◌∙◌, arith, true≢false, IsPermutation}
+use Rattle.std.proofs.Common.{◌≡◌, ◌⊎◌, ◌&&◌, inl, inr, None, List, [], ◌∷◌, map, Bool, true, false, Some, IsTrue}
+use Rattle.std.proofs.Common.{if◌then◌else◌, refl, sym, ap, ap₂, subst, ◌∙◌, arith, true≢false, IsPermutation}
 use Rattle.std.specs.List.{AllByRecursion}
 use Rattle.std.proofs.lemmas.List.Elements.{All-from_recursion, recursion_from_All}
-use Rattle.std.proofs.lemmas.List.Sorted.{All-permutation, IsPermutation-refl, IsPermutation-sym, IsPermutation-trans, length_permutation}
+use Rattle.std.proofs.lemmas.List.Sorted.{All-permutation, IsPermutation-refl, IsPermutation-sym, IsPermutation-trans}
+use Rattle.std.proofs.lemmas.List.Sorted.{length_permutation}
 use Rattle.std.proofs.lemmas.Bool.{and_parts, cases_Bool}
 use Rattle.sqlite_trees.proofs.Doubt.{clean_of, no_doubt}
 use Rattle.row_store.specs.Calls.{IsUp}
@@ -35,7 +37,8 @@ line_of_row row line id shown =
     let body = ap (λ s. column s 3) shown in
     rw (id.1, kind, owner, place, body) refl
 
-lines_of_rows : (rows : List Row) (lines : List Line) → AllByRecursion HasId rows → map shown_row rows ≡ map shown_line lines → lines_in rows ≡ Some lines
+lines_of_rows : (rows : List Row) (lines : List Line) → AllByRecursion HasId rows
+    → map shown_row rows ≡ map shown_line lines → lines_in rows ≡ Some lines
 lines_of_rows [] [] ids same = refl
 lines_of_rows [] (line ∷ lines) ids same = absurd cc
 lines_of_rows (row ∷ rows) [] ids same = absurd cc
@@ -54,17 +57,26 @@ all_shown (line ∷ lines) = ((line, refl), all_shown lines)
 
 each_shown : (rows : List Row) (lines : List Line) → Holds rows lines → AllByRecursion IsShown (map shown_row rows)
 each_shown rows lines holds =
-    recursion_from_All IsShown (map shown_row rows) (All-permutation IsShown (map shown_line lines) (map shown_row rows) (IsPermutation-sym _ _ holds.same) (All-from_recursion IsShown (map shown_line lines) (all_shown lines)))
+    recursion_from_All IsShown (map shown_row rows)
+    (All-permutation IsShown (map shown_line lines) (map shown_row rows) (IsPermutation-sym _ _ holds.same)
+    (All-from_recursion IsShown (map shown_line lines) (all_shown lines)))
 
-found_lines : (rows : List Row) → AllByRecursion IsShown (map shown_row rows) → (found : List Line) × (map shown_row rows ≡ map shown_line found)
+found_lines : (rows : List Row) → AllByRecursion IsShown (map shown_row rows)
+    → (found : List Line) × (map shown_row rows ≡ map shown_line found)
 found_lines [] h = ([], refl)
 found_lines (row ∷ rows) h = let more = found_lines rows h.1 in (h.0.0 ∷ more.0, ap₂ ◌∷◌ h.0.1 more.1)
 
 -- rows that are these lines are read as them, in some order
-pub lines_held : (rows : List Row) (lines : List Line) → Holds rows lines → (found : List Line) × (lines_in rows ≡ Some found) × IsPermutation lines found
+pub lines_held : (rows : List Row) (lines : List Line) → Holds rows lines
+    → (found : List Line) × (lines_in rows ≡ Some found) × IsPermutation lines found
 lines_held rows lines holds =
     let found = found_lines rows (each_shown rows lines holds) in
-    let as_found : Holds rows found.0 = record { keyed = holds.keyed; same = subst (λ shown. IsPermutation (map shown_row rows) shown) found.1 (IsPermutation-refl (map shown_row rows)) } in
+    let as_found : Holds rows found.0 =
+    record {
+      keyed = holds.keyed;
+      same =
+          subst (λ shown. IsPermutation (map shown_row rows) shown) found.1 (IsPermutation-refl (map shown_row rows));
+    } in
     (found.0, lines_of_rows rows found.0 holds.keyed found.1, holds_once rows lines found.0 holds as_found)
 
 -- ---- lines that stand for tables
@@ -79,15 +91,19 @@ ages_stand age.Old lines rows h = stand_in_for true lines rows h
 ages_stand age.New lines rows h = stand_in_for false lines rows h
 
 -- they do so in any order
-pub stand_moved : (lines more : List Line) (rows : Rows) → IsPermutation lines more → StandFor lines rows → StandFor more rows
+pub stand_moved : (lines more : List Line) (rows : Rows) → IsPermutation lines more → StandFor lines rows
+    → StandFor more rows
 stand_moved [] [] rows same h = h
 stand_moved [] (line ∷ more) rows same h = absurd (let e = length_permutation [] (line ∷ more) same in omega (arith, e))
-stand_moved (line ∷ lines) [] rows same h = absurd (let e = length_permutation (line ∷ lines) [] same in omega (arith, e))
-stand_moved (line ∷ lines) (next ∷ more) rows same (is_old, h) = (is_old, record { tables = h.tables; fit = h.fit; same = IsPermutation-trans _ _ _ h.same same })
+stand_moved (line ∷ lines) [] rows same h =
+    absurd (let e = length_permutation (line ∷ lines) [] same in omega (arith, e))
+stand_moved (line ∷ lines) (next ∷ more) rows same (is_old, h) =
+    (is_old, record { tables = h.tables; fit = h.fit; same = IsPermutation-trans _ _ _ h.same same })
 
 -- ---- what is told
 
-desk_first : (tables : List Table) (indexes : List Index) (views : List View) → IsTrue (is_desk (record { tables = tables; indexes = indexes; views = views }))
+desk_first : (tables : List Table) (indexes : List Index) (views : List View)
+    → IsTrue (is_desk (record { tables = tables; indexes = indexes; views = views }))
     → footing_of (record { tables = tables; indexes = indexes; views = views }) ≡ Desk
 desk_first [] indexes views h = absurd (true≢false (sym h))
 desk_first (table ∷ tables) indexes views h = ap (λ b. if b then Desk else Other) h
@@ -102,7 +118,9 @@ footing_blank schema h = ap (λ b. if b then Blank else (if is_desk schema then 
 pub told_holding : (a : Age) (db : Database) (rows : Rows) → HoldsAs a db rows → told_in db ≡ Some rows
 told_holding a db rows holds =
     let found = lines_held (db.trees 0) holds.lines holds.stand.1 in
-    let read = stand_read found.0 rows (stand_moved holds.lines found.0 rows found.2 (ages_stand a holds.lines rows holds.tables)) in
+    let read =
+    stand_read found.0 rows
+    (stand_moved holds.lines found.0 rows found.2 (ages_stand a holds.lines rows holds.tables)) in
     ap (λ footing. told_under footing db.trees) (footing_desk db.schema holds.stand.0) ∙ rw found.1 read
 
 -- where nothing stands those of a new desk are told

@@ -1,5 +1,6 @@
 -- Which tables a connection tells.
-use Rattle.std.specs.Prelude.{◌≡◌, ℕ, ℤ, pos, negsuc, Bool, true, false, ◌&&◌, if◌then◌else◌, List, [], ◌∷◌, Option, Some, None, option_map, option_and_then}
+use Rattle.std.specs.Prelude.{◌≡◌, ℕ, ℤ, pos, negsuc, Bool, true, false, ◌&&◌, if◌then◌else◌, List, [], ◌∷◌, Option}
+use Rattle.std.specs.Prelude.{Some, None, option_map, option_and_then}
 use Rattle.desk_words.specs.Tables.{Rows, empty_rows}
 use Rattle.desk_packing.specs.Lines.{Line}
 use Rattle.desk_packing.specs.Reading.{rows_in}

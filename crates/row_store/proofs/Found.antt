@@ -1,5 +1,7 @@
 -- What DO UPDATE writes, where a row has the key.
-use Rattle.std.proofs.Common.{◌≡◌, inl, inr, ℤ, pos, List, [], ◌∷◌, ◌++◌, map, filter, flat_map, drop, length, Bool, true, false, not, ◌&&◌, ◌==◌, cond, refl, sym, ap, subst, ◌∙◌, arith, is_eq, Ordering, Less, Equal, Greater, IsPermutation, true≢false, All}
+use Rattle.std.proofs.Common.{◌≡◌, inl, inr, ℤ, pos, List, [], ◌∷◌, ◌++◌, map, filter, flat_map, drop, length, Bool}
+use Rattle.std.proofs.Common.{true, false, not, ◌&&◌, ◌==◌, cond, refl, sym, ap, subst, ◌∙◌, arith, is_eq, Ordering}
+use Rattle.std.proofs.Common.{Less, Equal, Greater, IsPermutation, true≢false, All}
 use Rattle.std.specs.List.{AllByRecursion}
 use Rattle.std.specs.Ordering.{match_ordering, is_ne}
 use Rattle.std.proofs.lemmas.Bool.{cases_Bool, and_parts, and_from}
@@ -32,7 +34,8 @@ use Rattle.sqlite_rules.specs.declared.error.Rowids.TheVariants.{Given}
 use Rattle.sqlite_rules.specs.Edit.{is_taken, are_fresh, numbered, edit_of, Applies}
 use Rattle.sqlite_rules.specs.Calls.{ids_of}
 use Rattle.sqlite_rules.specs.Lists.{Has}
-use Rattle.sqlite_rules.proofs.ListLemmas.{all_from, all_has, has_kept, has_filtered, some_from, has_contained, contains_had}
+use Rattle.sqlite_rules.proofs.ListLemmas.{all_from, all_has, has_kept, has_filtered, some_from, has_contained}
+use Rattle.sqlite_rules.proofs.ListLemmas.{contains_had}
 use Rattle.sqlite_trees.proofs.ListLemmas.{filter_same}
 use Rattle.sqlite_trees.proofs.TreeLemmas.{not_true}
 use Rattle.row_store.proofs.Texts.{desk_table, beside, new_body}
@@ -51,39 +54,56 @@ read given r = column r 0 ∷ column r 0 ∷ column r 1 ∷ column r 2 ∷ colum
 abbrev pub hit : Value → Row → Bool
 hit id r = equal Binary (rowid r) id && true
 
-picked : {A B : Type 0} (p : A → Bool) (f : A → B) (xs : List A) → flat_map (λ x. cond (p x) (f x ∷ []) []) xs ≡ map f (filter p xs)
+picked : {A B : Type 0} (p : A → Bool) (f : A → B) (xs : List A)
+    → flat_map (λ x. cond (p x) (f x ∷ []) []) xs ≡ map f (filter p xs)
 picked p f [] = refl
 picked p f (x ∷ xs) =
-    elim (p x) as (λ b. cond b (f x ∷ []) [] ++ flat_map (λ y. cond (p y) (f y ∷ []) []) xs ≡ map f (cond b (x ∷ filter p xs) (filter p xs)))
+    elim (p x) as (λ b. cond b (f x ∷ []) [] ++ flat_map (λ y. cond (p y) (f y ∷ []) []) xs
+    ≡ map f (cond b (x ∷ filter p xs) (filter p xs)))
     [ true ↦ ap (λ l. f x ∷ l) (picked p f xs) | false ↦ picked p f xs ]
 
-reads_all : (given : Row) (rs : List Row) → map (λ (o : Output). o.1) (map (output new_body) (map (λ r. given ∷ r ∷ []) rs)) ≡ map (read given) rs
+reads_all : (given : Row) (rs : List Row)
+    → map (λ (o : Output). o.1) (map (output new_body) (map (λ r. given ∷ r ∷ []) rs)) ≡ map (read given) rs
 reads_all given [] = refl
 reads_all given (r ∷ rs) = ap (λ l. read given r ∷ l) (reads_all given rs)
 
-pub answer_is : (db : Trees) (given : Row) (rows : List Row) → IsAnswer new_body (overlay db []) given rows → IsPermutation (map (read given) (filter (hit (column given 4)) (db 0))) rows
+pub answer_is : (db : Trees) (given : Row) (rows : List Row) → IsAnswer new_body (overlay db []) given rows
+    → IsPermutation (map (read given) (filter (hit (column given 4)) (db 0))) rows
 answer_is db given rows a =
     let hits = filter (hit (column given 4)) (db 0) in
-    let staged : a.staged ≡ map (λ r. given ∷ r ∷ []) hits = a.grouped ∙ picked (hit (column given 4)) (λ r. given ∷ r ∷ []) (db 0) in
-    let kept : a.kept ≡ map (output new_body) (map (λ r. given ∷ r ∷ []) hits) = a.distinct ∙ ap (map (output new_body)) staged in
+    let staged : a.staged ≡ map (λ r. given ∷ r ∷ []) hits =
+    a.grouped ∙ picked (hit (column given 4)) (λ r. given ∷ r ∷ []) (db 0) in
+    let kept : a.kept ≡ map (output new_body) (map (λ r. given ∷ r ∷ []) hits) =
+    a.distinct ∙ ap (map (output new_body)) staged in
     let rows_are : rows ≡ map (λ (o : Output). o.1) a.ordered = a.shown in
-    rw rows_are (subst (λ l. IsPermutation l (map (λ (o : Output). o.1) a.ordered)) (ap (map (λ (o : Output). o.1)) kept ∙ reads_all given hits) (IsPermutation-map (λ (o : Output). o.1) a.kept a.ordered a.same))
+    rw rows_are
+    (subst (λ l. IsPermutation l (map (λ (o : Output). o.1) a.ordered))
+    (ap (map (λ (o : Output). o.1)) kept ∙ reads_all given hits)
+    (IsPermutation-map (λ (o : Output). o.1) a.kept a.ordered a.same))
 
 -- the put row is there, and so are the others
-has_put : (new : Row) (rows : List Row) → is_taken rows new ≡ false → (x : Row) → Has (new ∷ rows) x → Has (put_row new rows) x
-has_put new rows free x h = has_contained (put_row new rows) x (Contains-permutation (new ∷ rows) (put_row new rows) x (put_beside new rows free) (contains_had (new ∷ rows) x h))
+has_put : (new : Row) (rows : List Row) → is_taken rows new ≡ false → (x : Row) → Has (new ∷ rows) x
+    → Has (put_row new rows) x
+has_put new rows free x h =
+    has_contained (put_row new rows) x
+    (Contains-permutation (new ∷ rows) (put_row new rows) x (put_beside new rows free) (contains_had (new ∷ rows) x h))
 
 has_new : (new : Row) (rows : List Row) → Has (put_row new rows) new
 has_new new [] = inl refl
-has_new new (r ∷ rows) = elim (value_cmp (rowid r) (rowid new)) as (λ o. Has (match_ordering o (r ∷ put_row new rows) (new ∷ rows) (new ∷ r ∷ rows)) new)
+has_new new (r ∷ rows) =
+    elim (value_cmp (rowid r) (rowid new)) as (λ o.
+    Has (match_ordering o (r ∷ put_row new rows) (new ∷ rows) (new ∷ r ∷ rows)) new)
     [ Less ↦ inr (has_new new rows) | Equal ↦ inl refl | Greater ↦ inl refl ]
 
 -- two rows of one rowid are not put
-taken_twice : (id : ℤ) (left : List Row) (a b : Row) → rowid a ≡ Int id → rowid b ≡ Int id → is_taken (put_row a left) b ≡ true
+taken_twice : (id : ℤ) (left : List Row) (a b : Row) → rowid a ≡ Int id → rowid b ≡ Int id
+    → is_taken (put_row a left) b ≡ true
 taken_twice id left a b ea eb =
-    some_from (λ r. is_eq (value_cmp (rowid r) (rowid b))) (put_row a left) a (has_new a left) (rw (ea, eb) (ap is_eq (tied_itself value_cmp_total (Int id))))
+    some_from (λ r. is_eq (value_cmp (rowid r) (rowid b))) (put_row a left) a (has_new a left)
+    (rw (ea, eb) (ap is_eq (tied_itself value_cmp_total (Int id))))
 
-not_fresh : (id : ℤ) (left : List Row) (a b : Row) (rest : List Row) → rowid a ≡ Int id → rowid b ≡ Int id → are_fresh left (numbered Given left (a ∷ b ∷ rest)) ≡ true → ⊥
+not_fresh : (id : ℤ) (left : List Row) (a b : Row) (rest : List Row) → rowid a ≡ Int id → rowid b ≡ Int id
+    → are_fresh left (numbered Given left (a ∷ b ∷ rest)) ≡ true → ⊥
 not_fresh id left a b rest ea eb h =
     let more = numbered Given (put_row b (put_row a left)) rest in
     let later = (and_parts (not (is_taken left a)) (are_fresh (put_row a left) (b ∷ more)) h).1 in
@@ -93,7 +113,7 @@ not_fresh id left a b rest ea eb h =
 casts_id : (id : ℤ) (a : Row) → column (drop 1 a) 0 ≡ Int id → rowid (cast_row desk_table (drop 1 a)) ≡ Int id
 casts_id id a e = rw e (cast_int id)
 
-tied : (o : Ordering) → is_eq o ≡ true → o ≡ Equal
+pub tied : (o : Ordering) → is_eq o ≡ true → o ≡ Equal
 tied Less h = absurd (true≢false (sym h))
 tied Equal h = refl
 tied Greater h = absurd (true≢false (sym h))
@@ -127,18 +147,25 @@ not_level Less h = refl
 not_level Equal h = absurd (true≢false h)
 not_level Greater h = refl
 
-module _ (db : Trees) (id : ℤ) (r : Row) (given : Row) (keyed : AllByRecursion HasId (db 0)) (there : Has (db 0) r) (its : rowid r ≡ Int id) (asked : column given 4 ≡ Int id) where
-  hits_are : filter (hit (column given 4)) (db 0) ≡ filter (has_rowid id) (db 0)
-  hits_are = filter_same (hit (column given 4)) (has_rowid id) (db 0) (all_from _ (db 0) (λ x h. let n = all_has HasId (db 0) x keyed h in rw asked (hit_is id n.0 x n.1)))
+module _ (db : Trees) (id : ℤ) (r : Row) (given : Row) (keyed : AllByRecursion HasId (db 0)) (there : Has (db 0) r)
+    (its : rowid r ≡ Int id) (asked : column given 4 ≡ Int id) where
+  pub hits_are : filter (hit (column given 4)) (db 0) ≡ filter (has_rowid id) (db 0)
+  hits_are =
+      filter_same (hit (column given 4)) (has_rowid id) (db 0)
+      (all_from _ (db 0) (λ x h. let n = all_has HasId (db 0) x keyed h in rw asked (hit_is id n.0 x n.1)))
 
-  has_it : has_rowid id r ≡ true
+  pub has_it : has_rowid id r ≡ true
   has_it = rw its (ap is_eq (tied_itself value_cmp_total (Int id)))
 
   has_r : Has (filter (has_rowid id) (db 0)) r
   has_r = has_kept (has_rowid id) (db 0) r there has_it
 
-  all_read : (qs : List Row) → IsPermutation (map (read given) (filter (has_rowid id) (db 0))) qs → All (HasIdRead id) qs
-  all_read qs h = All-permutation (HasIdRead id) _ qs h (All-map (HasIdRead id) (read given) _ (All-from_recursion _ _ (all_from (λ x. column x 0 ≡ Int id) (filter (has_rowid id) (db 0)) (λ x k.
+  all_read : (qs : List Row) → IsPermutation (map (read given) (filter (has_rowid id) (db 0))) qs
+      → All (HasIdRead id) qs
+  all_read qs h =
+      All-permutation (HasIdRead id) _ qs h
+      (All-map (HasIdRead id) (read given) _
+      (All-from_recursion _ _ (all_from (λ x. column x 0 ≡ Int id) (filter (has_rowid id) (db 0)) (λ x k.
       let parts = has_filtered (has_rowid id) (db 0) x k in
       let n = all_has HasId (db 0) x keyed parts.0 in
       n.1 ∙ ap Int (has_rowid_is id n.0 x n.1 parts.1)))))
@@ -149,27 +176,41 @@ module _ (db : Trees) (id : ℤ) (r : Row) (given : Row) (keyed : AllByRecursion
   only_one (x ∷ []) (inr h) one = absurd h
   only_one (x ∷ y ∷ more) h one = absurd (omega arith)
 
-  pub single : (sch : Schema) (keys : Keys) (next : Trees) (qs : List Row) → IsPermutation (map (read given) (filter (hit (column given 4)) (db 0))) qs
-      → Applies sch keys db (edit_of db desk_table (ids_of qs) Given 1 qs) next → (filter (has_rowid id) (db 0) ≡ r ∷ []) × (qs ≡ read given r ∷ [])
-  single sch keys next [] h applied = absurd (let e = length_permutation _ _ (rw hits_are at h) in let none : length (filter (has_rowid id) (db 0)) ≡ 0 = sym (length-map (filter (has_rowid id) (db 0)) (read given)) ∙ sym e in no_hit _ has_r none)
+  pub single : (sch : Schema) (keys : Keys) (next : Trees) (qs : List Row)
+      → IsPermutation (map (read given) (filter (hit (column given 4)) (db 0))) qs
+      → Applies sch keys db (edit_of db desk_table (ids_of qs) Given 1 qs) next
+      → (filter (has_rowid id) (db 0) ≡ r ∷ []) × (qs ≡ read given r ∷ [])
+  single sch keys next [] h applied =
+      absurd
+      (let e = length_permutation _ _ (rw hits_are at h) in
+      let none : length (filter (has_rowid id) (db 0)) ≡ 0 =
+      sym (length-map (filter (has_rowid id) (db 0)) (read given)) ∙ sym e in no_hit _ has_r none)
     where
       no_hit : (hs : List Row) → Has hs r → length hs ≡ 0 → ⊥
       no_hit [] h e = h
       no_hit (x ∷ hs) h e = omega arith
   single sch keys next (q ∷ []) h applied =
       let same = rw hits_are at h in
-      let one : length (filter (has_rowid id) (db 0)) ≡ 1 = sym (length-map (filter (has_rowid id) (db 0)) (read given)) ∙ sym (length_permutation _ _ same) in
+      let one : length (filter (has_rowid id) (db 0)) ≡ 1 =
+      sym (length-map (filter (has_rowid id) (db 0)) (read given)) ∙ sym (length_permutation _ _ same) in
       let hits = only_one (filter (has_rowid id) (db 0)) has_r one in
       (hits, one_permutation (read given r) (q ∷ []) (rw hits at same))
   single sch keys next (a ∷ b ∷ more) h applied =
       let all = all_read (a ∷ b ∷ more) (rw hits_are at h) in
-      absurd (not_fresh id _ (cast_row desk_table (drop 1 a)) (cast_row desk_table (drop 1 b)) (map (λ s. cast_row desk_table (drop 1 s)) more) (casts_id id a (all 0 a (omega arith))) (casts_id id b (all 1 a (omega arith))) applied.fresh)
+      absurd
+      (not_fresh id _ (cast_row desk_table (drop 1 a)) (cast_row desk_table (drop 1 b))
+      (map (λ s. cast_row desk_table (drop 1 s)) more) (casts_id id a (all 0 a (omega arith)))
+      (casts_id id b (all 1 a (omega arith))) applied.fresh)
 
   -- the row of the key is the one that is written, with the new body in it
-  module _ (l : Line) (lines : List Line) (holds : Holds (db 0) lines) (keyed_as : has_key l r ≡ true) (body : column given 3 ≡ Blob l.body) where
+  module _ (l : Line) (lines : List Line) (holds : Holds (db 0) lines) (keyed_as : has_key l r ≡ true)
+      (body : column given 3 ≡ Blob l.body) where
     shown_as : (x : Line) × (shown_row r ≡ shown_line x)
     shown_as =
-        let x = has_mapped shown_line lines (shown_row r) (has_contained (map shown_line lines) (shown_row r) (Contains-permutation (map shown_row (db 0)) (map shown_line lines) (shown_row r) holds.same
+        let x =
+        has_mapped shown_line lines (shown_row r)
+        (has_contained (map shown_line lines) (shown_row r)
+        (Contains-permutation (map shown_row (db 0)) (map shown_line lines) (shown_row r) holds.same
         (contains_had (map shown_row (db 0)) (shown_row r) (has_map shown_row (db 0) r there)))) in
         (x.0, x.2)
 
@@ -178,8 +219,11 @@ module _ (db : Trees) (id : ℤ) (r : Row) (given : Row) (keyed : AllByRecursion
         let x = shown_as.0 in
         let same : same_key x l ≡ true = sym (shows_line l x) ∙ ap (shows_key l) (sym shown_as.1) ∙ keyed_as in
         let first = and_parts (x.kind == l.kind) _ same in
-        let second = and_parts (x.owner == l.owner) (x.place == l.place) first.1 in
-        ((Decides-eqb x.kind l.kind).0 first.0, (Decides-eqb x.owner l.owner).0 second.0, (Decides-eqb x.place l.place).0 second.1)
+        let second = and_parts (x.owner == l.owner) (x.place == l.place) first.1 in (
+          (Decides-eqb x.kind l.kind).0 first.0,
+          (Decides-eqb x.owner l.owner).0 second.0,
+          (Decides-eqb x.place l.place).0 second.1,
+        )
 
     abbrev pub written : Row
     written = Int id ∷ shown_line l
@@ -192,16 +236,25 @@ module _ (db : Trees) (id : ℤ) (r : Row) (given : Row) (keyed : AllByRecursion
         let p : column r 3 ≡ Int (pos l.place) = ap (λ s. column s 2) shown ∙ ap (λ n. Int (pos n)) key_is.2 in
         rw (its, k, o, p, body) refl
 
-    pub edit_is : edit_of db desk_table (ids_of (read given r ∷ [])) Given 1 (read given r ∷ []) ≡ record { table = desk_table; gone = id ∷ []; news = written ∷ [] }
-    edit_is = ap (λ q. edit_of db desk_table (ids_of (q ∷ [])) Given 1 (q ∷ [])) reads_as ∙ rw (cast_int id, cast_int (pos l.kind), cast_int (pos l.owner), cast_int (pos l.place)) refl
+    pub edit_is : edit_of db desk_table (ids_of (read given r ∷ [])) Given 1 (read given r ∷ [])
+        ≡ record { table = desk_table; gone = id ∷ []; news = written ∷ [] }
+    edit_is =
+        ap (λ q. edit_of db desk_table (ids_of (q ∷ [])) Given 1 (q ∷ [])) reads_as
+        ∙ rw (cast_int id, cast_int (pos l.kind), cast_int (pos l.owner), cast_int (pos l.place)) refl
 
-    differ_ids : (n : ℤ) (x : Row) → rowid x ≡ Int n → has_rowid id x ≡ false → differ (rowid x) (Int id) ≡ true
+    pub differ_ids : (n : ℤ) (x : Row) → rowid x ≡ Int n → has_rowid id x ≡ false → differ (rowid x) (Int id) ≡ true
     unfolding binary
-    differ_ids n x e other = rw (e, true_of (is_ne (value_cmp (Int n) (Int id)))) (not_level (value_cmp (Int n) (Int id)) (rw e at other))
+    differ_ids n x e other =
+        rw (e, true_of (is_ne (value_cmp (Int n) (Int id)))) (not_level (value_cmp (Int n) (Int id)) (rw e at other))
 
-    module _ (others : List Table) (more : List Index) (views : List View) (keys : Keys) (next : Trees) (applied : Applies (beside others more views) keys db (record { table = desk_table; gone = id ∷ []; news = written ∷ [] }) next) (hits : filter (has_rowid id) (db 0) ≡ r ∷ []) where
+    module _ (others : List Table) (more : List Index) (views : List View) (keys : Keys) (next : Trees)
+        (applied : Applies (beside others more views) keys db
+        (record { table = desk_table; gone = id ∷ []; news = written ∷ [] }) next)
+        (hits : filter (has_rowid id) (db 0) ≡ r ∷ []) where
       free : is_taken (without_rowid id (db 0)) written ≡ false
-      free = not_is (is_taken (without_rowid id (db 0)) written) (and_parts (not (is_taken (without_rowid id (db 0)) written)) true applied.fresh).0
+      free =
+          not_is (is_taken (without_rowid id (db 0)) written)
+          (and_parts (not (is_taken (without_rowid id (db 0)) written)) true applied.fresh).0
 
       alone : (x : Row) → Has (db 0) x → has_rowid id x ≡ true → x ≡ r
       alone x h its_id = single_is (subst (λ l. Has l x) hits (has_kept (has_rowid id) (db 0) x h its_id))
@@ -212,16 +265,24 @@ module _ (db : Trees) (id : ℤ) (r : Row) (given : Row) (keyed : AllByRecursion
 
       unique : clashes plain (1 ∷ 2 ∷ 3 ∷ []) (next 0) written ≡ false
       unique =
-          let all : AllByRecursion (λ row. passes Unique (beside others more views) next desk_table row ≡ true) (next 0) = (applied.fits.rules Unique (λ e. absurd cc)).0 in
+          let all : AllByRecursion (λ row. passes Unique (beside others more views) next desk_table row ≡ true)
+          (next 0) = (applied.fits.rules Unique (λ e. absurd cc)).0 in
           let here : Has (next 0) written = rw applied.rows (has_new written (without_rowid id (db 0))) in
-          not_is (clashes plain (1 ∷ 2 ∷ 3 ∷ []) (next 0) written) (and_parts (not (clashes plain (1 ∷ 2 ∷ 3 ∷ []) (next 0) written)) _ (all_has _ (next 0) written all here)).0
+          not_is (clashes plain (1 ∷ 2 ∷ 3 ∷ []) (next 0) written)
+          (and_parts (not (clashes plain (1 ∷ 2 ∷ 3 ∷ []) (next 0) written)) _
+          (all_has _ (next 0) written all here)).0
 
       no_other : (x : Row) → Has (db 0) x → has_rowid id x ≡ false → has_key l x ≡ true → ⊥
       no_other x h other key =
           let n = all_has HasId (db 0) x keyed h in
-          let stays : Has (without_rowid id (db 0)) x = has_kept (λ y. not (has_rowid id y)) (db 0) x h (ap not other) in
-          let there_too : Has (next 0) x = rw applied.rows (has_put written (without_rowid id (db 0)) free x (inr stays)) in
-          true≢false (sym (some_from _ (next 0) x there_too (and_from (has_key l x) (differ (rowid x) (Int id)) key (differ_ids n.0 x n.1 other))) ∙ unique)
+          let stays : Has (without_rowid id (db 0)) x =
+          has_kept (λ y. not (has_rowid id y)) (db 0) x h (ap not other) in
+          let there_too : Has (next 0) x =
+          rw applied.rows (has_put written (without_rowid id (db 0)) free x (inr stays)) in
+          true≢false
+          (sym
+          (some_from _ (next 0) x there_too
+          (and_from (has_key l x) (differ (rowid x) (Int id)) key (differ_ids n.0 x n.1 other))) ∙ unique)
 
       keeps : (x : Row) → Has (db 0) x → not (has_rowid id x) ≡ not (has_key l x)
       keeps x h = elim (cases_Bool (has_rowid id x)) [
@@ -230,4 +291,6 @@ module _ (db : Trees) (id : ℤ) (r : Row) (given : Row) (keyed : AllByRecursion
       ]
 
       pub updated : Holds (next 0) (put_line lines l)
-      updated = rw applied.rows (holds_put (db 0) (λ x. not (has_rowid id x)) lines l written holds (id, refl) refl free keeps)
+      updated =
+          rw applied.rows
+          (holds_put (db 0) (λ x. not (has_rowid id x)) lines l written holds (id, refl) refl free keeps)

@@ -7,3 +7,10 @@ pub mod Upsert
 pub mod Lines
 pub mod Found
 pub mod Puts
+pub mod Refused
+pub mod Made
+pub mod Unrefused
+pub mod Strays
+pub mod Room
+pub mod Kept
+pub mod Forbidden

@@ -1,6 +1,7 @@
--- The three texts, and what they mean under a schema in which the table stands first.
-use Rattle.std.specs.Prelude.{◌≡◌, Bool, Option, true, false, [], ◌∷◌, ◌==◌, Some, None, codes, List, ℕ, pos, negsuc}
-use Rattle.std.specs.List.{AllByRecursion}
+-- Texts, and what they mean under a schema in which the table stands first.
+use Rattle.std.specs.Prelude.{◌++◌, ◌≡◌, Bool, Option, true, false, [], ◌∷◌, ◌==◌, Some, None, codes, List, ℕ, pos}
+use Rattle.std.specs.Prelude.{negsuc, IsTrue}
+use Rattle.std.specs.List.{AllByRecursion, list_all}
 use Rattle.sqlite_schema.specs.Rules.{ParentKey, parent_key}
 use Rattle.sqlite_schema.specs.declared.schema.View.{View}
 use Rattle.sqlite.specs.Collation.TheVariants.{Binary}
@@ -11,7 +12,7 @@ use Rattle.sqlite.specs.Kind.TheVariants.{Integer, Any}
 use Rattle.sqlite.specs.Term.{Term, lit, col, op2}
 use Rattle.sqlite.specs.Query.{Query, inner, end}
 use Rattle.sqlite_value.specs.Keys.{plain}
-use Rattle.row_store.specs.Table.{ascending}
+use Rattle.row_store.specs.Table.{ascending, is_beside}
 use Rattle.sqlite_schema.specs.declared.schema.Index.{Index}
 use Rattle.sqlite.specs.Source.TheVariants.{Values}
 use Rattle.sqlite.specs.Command.{Command}
@@ -24,27 +25,43 @@ use Rattle.sqlite_sql.specs.declared.ops.CompareOp.TheVariants.{Eq}
 abbrev pub no_schema : Schema
 no_schema = record { tables = []; indexes = []; views = [] }
 
--- makes the table
-abbrev pub create_text : List ℕ
-create_text = codes "CREATE TABLE desk_rows (kind INTEGER NOT NULL, owner INTEGER NOT NULL, place INTEGER NOT NULL, body BLOB NOT NULL, PRIMARY KEY (kind, owner, place))"
-
 -- shows all rows
 abbrev pub select_text : List ℕ
 select_text = codes "SELECT rowid, kind, owner, place, body FROM desk_rows ORDER BY kind, owner, place"
 
 -- puts a row
 abbrev pub upsert_text : List ℕ
-upsert_text = codes "INSERT INTO desk_rows (kind, owner, place, body) VALUES (?1, ?2, ?3, ?4) ON CONFLICT (kind, owner, place) DO UPDATE SET body = ?4"
+upsert_text =
+    codes "INSERT INTO desk_rows (kind, owner, place, body) VALUES (?1, ?2, ?3, ?4) "
+    ++ codes "ON CONFLICT (kind, owner, place) DO UPDATE SET body = ?4"
 
--- the table as the first text makes it
+-- the table as its text makes it
 abbrev pub desk_table : Table
 desk_table = record {
   name = codes "desk_rows";
   tree = 0;
-  columns = (record { name = codes "kind"; kind = Integer; is_strict = false; not_null = true; default = Null; collation = Binary })
-      ∷ (record { name = codes "owner"; kind = Integer; is_strict = false; not_null = true; default = Null; collation = Binary })
-      ∷ (record { name = codes "place"; kind = Integer; is_strict = false; not_null = true; default = Null; collation = Binary })
-      ∷ (record { name = codes "body"; kind = Any; is_strict = false; not_null = true; default = Null; collation = Binary }) ∷ [];
+  columns =
+      (record
+      { name = codes "kind"; kind = Integer; is_strict = false; not_null = true; default = Null; collation = Binary })
+      ∷ (record {
+        name = codes "owner";
+        kind = Integer;
+        is_strict = false;
+        not_null = true;
+        default = Null;
+        collation = Binary;
+      })
+      ∷ (record {
+        name = codes "place";
+        kind = Integer;
+        is_strict = false;
+        not_null = true;
+        default = Null;
+        collation = Binary;
+      })
+      ∷ (record
+      { name = codes "body"; kind = Any; is_strict = false; not_null = true; default = Null; collation = Binary })
+      ∷ [];
   key = None;
   primary = 1 ∷ 2 ∷ 3 ∷ [];
   uniques = (1 ∷ 2 ∷ 3 ∷ []) ∷ [];
@@ -58,7 +75,15 @@ desk_table = record {
 
 -- the index that its key makes
 abbrev pub desk_index : Index
-desk_index = record { name = codes "sqlite_autoindex_desk_rows_1"; tree = 1; table = 0; columns = 1 ∷ 2 ∷ 3 ∷ []; order = plain; is_unique = true }
+desk_index =
+    record {
+      name = codes "sqlite_autoindex_desk_rows_1";
+      tree = 1;
+      table = 0;
+      columns = 1 ∷ 2 ∷ 3 ∷ [];
+      order = plain;
+      is_unique = true;
+    }
 
 -- the table stands first, and anything behind it
 abbrev pub beside : List Table → List Index → List View → Schema
@@ -79,8 +104,10 @@ pub record IsDesk (schema : Schema) : Type 0 where
   pub more : List Index
   pub views : List View
   pub is : schema ≡ beside others more views
-  pub unreferred : AllByRecursion (λ t. AllByRecursion (λ ref. is_here (parent_key schema.tables ref) ≡ false) t.references) schema.tables
+  pub unreferred : AllByRecursion
+      (λ t. AllByRecursion (λ ref. is_here (parent_key schema.tables ref) ≡ false) t.references) schema.tables
   pub sole : AllByRecursion (λ i. (i.table == 0) ≡ false) more
+  pub apart : IsTrue (list_all is_beside others)
 
 -- the query that the second text is
 abbrev pub all_rows : Query
@@ -116,8 +143,12 @@ given_row = lit Null ∷ col 0 0 ∷ col 0 1 ∷ col 0 2 ∷ col 0 3 ∷ []
 
 -- the command that the third text is
 abbrev pub upsert : Command
-upsert = InsertOr 0 Abort (Values given_row 5) ((record { target = Some (1 ∷ 2 ∷ 3 ∷ []); update = Some (record { lets = []; body = new_body }) }) ∷ [])
+upsert =
+    InsertOr 0 Abort (Values given_row 5)
+    ((record { target = Some (1 ∷ 2 ∷ 3 ∷ []); update = Some (record { lets = []; body = new_body }) }) ∷ [])
 
 -- the command that the second text is
 abbrev pub select : Command
-select = Select (record { lets = []; body = all_rows }) (codes "rowid" ∷ codes "kind" ∷ codes "owner" ∷ codes "place" ∷ codes "body" ∷ [])
+select =
+    Select (record { lets = []; body = all_rows })
+    (codes "rowid" ∷ codes "kind" ∷ codes "owner" ∷ codes "place" ∷ codes "body" ∷ [])

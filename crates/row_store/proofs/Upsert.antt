@@ -1,5 +1,6 @@
 -- What the texts mean, and the parts of the upsert.
-use Rattle.std.proofs.Common.{◌≡◌, ◌⊎◌, inl, inr, ℕ, ℤ, List, [], ◌∷◌, Some, None, Ok, Err, Result, Option, Bool, true, false, cond, refl, ap, subst}
+use Rattle.std.proofs.Common.{◌≡◌, ◌⊎◌, inl, inr, ℕ, ℤ, List, [], ◌∷◌, Some, None, Ok, Err, Result, Option, Bool, true}
+use Rattle.std.proofs.Common.{false, cond, refl, ap, subst}
 use Rattle.sqlite.specs.declared.types.Value.{Value}
 use Rattle.sqlite.specs.declared.types.Value.TheVariants.{Null, Int, Blob}
 use Rattle.sqlite.specs.Order.{Row}
@@ -20,7 +21,8 @@ use Rattle.sqlite_schema.specs.declared.schema.Index.{Index}
 use Rattle.sqlite_schema.specs.declared.schema.Keys.{Keys}
 use Rattle.sqlite_schema.specs.declared.schema.View.{View}
 use Rattle.sqlite_tied.specs.Compute.{everything}
-use Rattle.row_store.proofs.Texts.{desk_table, beside, select_text, select, upsert_text, upsert, new_body}
+use Rattle.row_store.proofs.Refused.{IsWhole}
+use Rattle.row_store.proofs.Texts.{desk_table, beside, select_text, select, upsert, new_body, upsert_text}
 
 -- Nothing behind the table changes what the two texts mean.
 module _ (others : List Table) (more : List Index) (views : List View) where
@@ -39,6 +41,10 @@ module _ (others : List Table) (more : List Index) (views : List View) where
   pub upsert_is : command_of (understood (beside others more views) upsert_text) ≡ upsert
   unfolding understood everything
   upsert_is = refl
+
+  pub upsert_whole : IsWhole upsert_text 4 (understood (beside others more views) upsert_text)
+  unfolding understood everything
+  upsert_whole = (refl, refl)
 
   pub upsert_plain : IsPlain (understood (beside others more views) upsert_text)
   unfolding understood everything
@@ -64,28 +70,39 @@ pub cast_int : (n : ℤ) → cast Integer (Int n) ≡ Int n
 unfolding unary
 cast_int n = either _ (Int n)
 
-pub cast_source : (k o p : ℤ) (b : List ℕ) → cast_row desk_table (Null ∷ Int k ∷ Int o ∷ Int p ∷ Blob b ∷ []) ≡ Null ∷ Int k ∷ Int o ∷ Int p ∷ Blob b ∷ []
+pub cast_source : (k o p : ℤ) (b : List ℕ)
+    → cast_row desk_table (Null ∷ Int k ∷ Int o ∷ Int p ∷ Blob b ∷ []) ≡ Null ∷ Int k ∷ Int o ∷ Int p ∷ Blob b ∷ []
 cast_source k o p b = rw (cast_null, cast_int k, cast_int o, cast_int p) refl
 
 abbrev pub clauses : List Upsert
 clauses = (record { target = Some (1 ∷ 2 ∷ 3 ∷ []); update = Some (record { lets = []; body = new_body }) }) ∷ []
 
 abbrev pub desk_task : Schema → Option ℕ → Keys → Row → Task
-desk_task schema limit keys params = record { limit = limit; keys = keys; schema = schema; table = desk_table; params = params }
+desk_task schema limit keys params =
+    record { limit = limit; keys = keys; schema = schema; table = desk_table; params = params }
 
 module _ (schema : Schema) (limit : Option ℕ) (keys : Keys) (params : Row) (db : Trees) where
   -- one source row is one try
-  each : (source : Row) (top : ℤ) (done : Written × ℤ) → TriesEach (desk_task schema limit keys params) Abort clauses (source ∷ []) top (nothing db) (Ok done)
-      → (one : Written) × Tries (desk_task schema limit keys params) Abort clauses (with_rowid Chosen (db 0) (cast_row desk_table source)) db (Ok one) × (done.0.trees ≡ one.trees)
+  each : (source : Row) (top : ℤ) (done : Written × ℤ)
+      → TriesEach (desk_task schema limit keys params) Abort clauses (source ∷ []) top (nothing db) (Ok done)
+      → (one : Written)
+      × Tries (desk_task schema limit keys params) Abort clauses
+      (with_rowid Chosen (db 0) (cast_row desk_table source)) db (Ok one) × (done.0.trees ≡ one.trees)
   each source top done h =
       let first = went h in
       (first.0, first.1, ap (λ (d : Written × ℤ). d.0.trees) (same_value first.2))
 
-  pub from_rows : (source : Row) (rows : List Row) (top : ℤ) (done : Written × ℤ) → rows ≡ source ∷ [] → TriesEach (desk_task schema limit keys params) Abort clauses rows top (nothing db) (Ok done)
-      → (one : Written) × Tries (desk_task schema limit keys params) Abort clauses (with_rowid Chosen (db 0) (cast_row desk_table source)) db (Ok one) × (done.0.trees ≡ one.trees)
-  from_rows source rows top done is h = each source top done (subst (λ rs. TriesEach (desk_task schema limit keys params) Abort clauses rs top (nothing db) (Ok done)) is h)
+  pub from_rows : (source : Row) (rows : List Row) (top : ℤ) (done : Written × ℤ) → rows ≡ source ∷ []
+      → TriesEach (desk_task schema limit keys params) Abort clauses rows top (nothing db) (Ok done)
+      → (one : Written)
+      × Tries (desk_task schema limit keys params) Abort clauses
+      (with_rowid Chosen (db 0) (cast_row desk_table source)) db (Ok one) × (done.0.trees ≡ one.trees)
+  from_rows source rows top done is h =
+      each source top done
+      (subst (λ rs. TriesEach (desk_task schema limit keys params) Abort clauses rs top (nothing db) (Ok done)) is h)
 
-  pub upserts : (new : Row) (one : Written) → Tries (desk_task schema limit keys params) Abort clauses new db (Ok one) → Upserts (desk_task schema limit keys params) Abort new db clauses (Ok one)
+  pub upserts : (new : Row) (one : Written) → Tries (desk_task schema limit keys params) Abort clauses new db (Ok one)
+      → Upserts (desk_task schema limit keys params) Abort new db clauses (Ok one)
   upserts new one (inl h) = absurd (let e = h.1 in cc)
   upserts new one (inr (None, judged, h)) = h
   upserts new one (inr (Some why, judged, h)) = absurd (let e = h in cc)

@@ -1,3 +1,4 @@
 pub mod Table
 pub mod Stored
 pub mod Calls
+pub mod Refusals

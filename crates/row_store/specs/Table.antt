@@ -1,8 +1,11 @@
 -- The one table, `desk_rows`, and when it stands in a schema.
-use Rattle.std.specs.Prelude.{codes, ℕ, Bool, true, false, not, ◌&&◌, ◌==◌, List, [], ◌∷◌, is_none, if◌then◌else◌}
+use Rattle.std.specs.Prelude.{◌≡◌, codes, ℕ, Bool, true, false, not, ◌&&◌, ◌==◌, List, [], ◌∷◌, ◌++◌, is_none, Ok}
+use Rattle.std.specs.Prelude.{IsTrue, if◌then◌else◌}
 use Rattle.std.specs.List.{list_all}
 use Rattle.std.specs.Str.{bytes_eq}
 use Rattle.sqlite.specs.Collation.TheVariants.{Binary}
+use Rattle.sqlite.specs.Change.{created}
+use Rattle.sqlite.specs.Compile.{table_defined_by}
 use Rattle.sqlite.specs.Kind.TheVariants.{Integer, Any}
 use Rattle.sqlite.specs.Schema.{Schema}
 use Rattle.sqlite.specs.Table.{Table}
@@ -19,6 +22,12 @@ use Rattle.sqlite_value.specs.declared.keys.Key.{Key}
 use Rattle.sqlite_value.specs.declared.keys.Order.{Order}
 use Rattle.row_store.specs.declared.footing.Footing.{Footing}
 use Rattle.row_store.specs.declared.footing.Footing.TheVariants.{Blank, Desk, Other}
+
+-- the text that makes the table
+abbrev pub create_text : List ℕ
+create_text =
+    codes "CREATE TABLE desk_rows (kind INTEGER NOT NULL, owner INTEGER NOT NULL, place INTEGER NOT NULL, "
+    ++ codes "body BLOB NOT NULL, PRIMARY KEY (kind, owner, place))"
 
 -- the name of the table
 abbrev pub desk_name : List ℕ
@@ -151,6 +160,18 @@ have_desk_index (index ∷ others) = is_desk_index index && list_all is_index_be
 -- The table stands first in the schema. Other tables, indexes and views may stand behind it.
 abbrev pub is_desk : Schema → Bool
 is_desk schema = have_desk_table schema.tables && have_desk_index schema.indexes
+
+-- The text makes the schema where nothing stands, or others stand behind its table and its index: tables, from which no
+-- foreign key refers to it, indexes of other tables, and views.
+pub record IsMadeBeside (schema : Schema) : Type 0 where
+  pub table : Table
+  pub others : List Table
+  pub more : List Index
+  pub made : table_defined_by create_text ≡ Ok table
+  pub tables : schema.tables ≡ (created no_schema table).tables ++ others
+  pub indexes : schema.indexes ≡ (created no_schema table).indexes ++ more
+  pub apart : IsTrue (list_all is_beside others)
+  pub sole : IsTrue (list_all is_index_beside more)
 
 -- what stands in the schema: nothing, the table, or something else
 abbrev pub footing_of : Schema → Footing

@@ -34,6 +34,8 @@ pub enum Footing {
 /// What stands in the schema of a connection, where no transaction is under way.
 pub fn footing_of<S: Alter>(conn: &Connection<S>) -> Result<Footing, Error>
     ensures footing { IfOk result (λ footing. footing ≡ desk.footing_of (state S.Store conn.now).now.schema) }
+    ensures table { IfOk result (λ footing. (footing ≡ Footing.Desk)
+        ↔ desk.IsMadeBeside (state S.Store conn.now).now.schema) }
     ensures lasts { OnOk result (Lasts (state S.Store conn.now)) }
     ensures under_way { IsErr result ↔ (conn.now.in_transaction ≡ true) }
 {

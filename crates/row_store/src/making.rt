@@ -1,8 +1,9 @@
 //! The table is made.
-ghost use Rattle.std.specs.Prelude.{◌≡◌, false, true, IsTrue, OnOk, OnErr};
+ghost use Rattle.std.specs.Prelude.{◌≡◌, ◌≢◌, false, true, IsTrue, IfErr, OnOk, OnErr};
 ghost use Rattle.sqlite.specs.Held.{state};
 ghost use Rattle.sqlite.specs.State.{HasCleanDisk, KeepsCommit, Survives};
 ghost use Rattle.row_store.specs.Calls.{Becomes, IsAtRest, IsCommitted, Leaves, Stays};
+ghost use Rattle.row_store.specs.Refusals.{IsStopped, no_memory};
 ghost use Rattle.row_store.specs.Stored.{MakesTable, MakesTableIn};
 ghost use Rattle.row_store.specs.Table.{is_blank};
 
@@ -16,6 +17,9 @@ pub fn make_table<S: Alter>(conn: &mut Connection<S>) -> Result<(), Error>
     ensures unchanged { OnErr result (Stays (state S.Store conn.old) (state S.Store conn.new)) }
     ensures crash { Leaves MakesTable (state S.Store conn.old) (state S.Store conn.new) }
     ensures autocommit { conn.old.in_transaction ≡ false → conn.new.in_transaction ≡ false }
+    ensures cause { IfErr result (λ e. e ≢ no_memory → conn.old.in_transaction ≡ false
+        → HasCleanDisk (state S.Store conn.new)
+        → IsStopped (state S.Store conn.old) (state S.Store conn.new)) }
 {
     at_rest(conn)?;
     make_alone(conn)
@@ -35,6 +39,8 @@ fn make_alone<S: Alter>(conn: &mut Connection<S>) -> Result<(), Error>
     ensures survives { Survives (state S.Store conn.old) (state S.Store conn.new) (MakesTableIn
         (state S.Store conn.old).now) }
     ensures autocommit { conn.new.in_transaction ≡ false }
+    ensures cause { IfErr result (λ e. e ≢ no_memory → HasCleanDisk (state S.Store conn.new)
+        → IsStopped (state S.Store conn.old) (state S.Store conn.new)) }
 {
     let mut tx = conn.transaction();
     make_in(&mut tx)?;
@@ -54,9 +60,12 @@ fn make_in<S: Alter>(tx: &mut Transaction<'_, S>) -> Result<usize, Error>
     ensures kept { HasCleanDisk (state S.Store tx.new.conn.now)
         → KeepsCommit (state S.Store tx.old.conn.now) (state S.Store tx.new.conn.now) }
     ensures survives { Survives (state S.Store tx.old.conn.now) (state S.Store tx.new.conn.now) (λ _. ⊥) }
+    ensures cause { IfErr result (λ e. e ≢ no_memory → HasCleanDisk (state S.Store tx.new.conn.now)
+        → IsStopped (state S.Store tx.old.conn.now) (state S.Store tx.new.conn.now)) }
 {
     tx.execute(
-        "CREATE TABLE desk_rows (kind INTEGER NOT NULL, owner INTEGER NOT NULL, place INTEGER NOT NULL, body BLOB NOT NULL, PRIMARY KEY (kind, owner, place))",
+        "CREATE TABLE desk_rows (kind INTEGER NOT NULL, owner INTEGER NOT NULL, place INTEGER NOT NULL, \
+         body BLOB NOT NULL, PRIMARY KEY (kind, owner, place))",
         &[],
     )
 }

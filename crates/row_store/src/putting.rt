@@ -1,12 +1,14 @@
 //! Rows are put over those that stand.
-ghost use Rattle.std.specs.Prelude.{◌≡◌, false, pos, List, map, [], ◌∷◌, IsTrue, OnOk, OnErr};
+ghost use Rattle.std.specs.Prelude.{◌≡◌, ◌≢◌, ◌⊎◌, false, pos, List, map, [], ◌∷◌, IsTrue, IfErr, OnOk, OnErr};
 ghost use Rattle.desk_packing.specs.Lines.{Line, line_of};
 ghost use Rattle.sqlite.specs.declared.types.Value.TheVariants.{Int};
+ghost use Rattle.sqlite.specs.Effect.{IsDatabase};
 ghost use Rattle.sqlite.specs.Held.{state};
 ghost use Rattle.sqlite.specs.State.{HasCleanDisk, KeepsCommit, Survives};
 ghost use Rattle.sqlite.specs.Values.{bound_value};
 ghost use Rattle.sqlite_value.specs.Value.{owned};
 ghost use Rattle.row_store.specs.Calls.{Becomes, IsAtRest, IsCommitted, Lasts, Leaves, Stays};
+ghost use Rattle.row_store.specs.Refusals.{IsStopped, LacksRoom, LacksRoomFor, no_memory};
 ghost use Rattle.row_store.specs.Stored.{Puts, PutsIn, Stands};
 
 use crate::rest::at_rest;
@@ -23,6 +25,11 @@ pub fn put_rows<S: Alter>(conn: &mut Connection<S>, rows: &[PackedRow]) -> Resul
     ensures autocommit { conn.old.in_transaction ≡ false → conn.new.in_transaction ≡ false }
     ensures lasts { conn.old.in_transaction ≡ false → (lines : List Line)
         → Stands (state S.Store conn.old).now lines → Lasts (state S.Store conn.new) }
+    ensures cause { IfErr result (λ e. e ≢ no_memory → conn.old.in_transaction ≡ false
+        → HasCleanDisk (state S.Store conn.new)
+        → (lines : List Line) → Stands (state S.Store conn.old).now lines
+        → IsStopped (state S.Store conn.old) (state S.Store conn.new)
+        ⊎ LacksRoomFor (map line_of rows.now) (state S.Store conn.old).now) }
 {
     at_rest(conn)?;
     put_all(conn, rows)
@@ -41,6 +48,10 @@ fn put_all<S: Alter>(conn: &mut Connection<S>, rows: &[PackedRow]) -> Result<(),
         × ((state S.Store conn.new).committed ≡ (state S.Store conn.old).now)) }
     ensures survives { Survives (state S.Store conn.old) (state S.Store conn.new) (PutsIn (map line_of rows.now)
         (state S.Store conn.old).now) }
+    ensures cause { IfErr result (λ e. e ≢ no_memory → HasCleanDisk (state S.Store conn.new)
+        → (lines : List Line) → Stands (state S.Store conn.old).now lines
+        → IsStopped (state S.Store conn.old) (state S.Store conn.new)
+        ⊎ LacksRoomFor (map line_of rows.now) (state S.Store conn.old).now) }
     ensures autocommit { conn.new.in_transaction ≡ false }
 {
     let mut tx = conn.transaction();
@@ -63,9 +74,16 @@ fn put_row<S: Alter>(tx: &mut Transaction<'_, S>, row: &PackedRow) -> Result<usi
     ensures kept { HasCleanDisk (state S.Store tx.new.conn.now) → IsTrue (state S.Store tx.old.conn.now).in_transaction
         → KeepsCommit (state S.Store tx.old.conn.now) (state S.Store tx.new.conn.now) }
     ensures survives { Survives (state S.Store tx.old.conn.now) (state S.Store tx.new.conn.now) (λ _. ⊥) }
+    ensures cause { IfErr result (λ e. e ≢ no_memory → HasCleanDisk (state S.Store tx.new.conn.now)
+        → IsTrue (state S.Store tx.old.conn.now).in_transaction
+        → (lines : List Line) → Stands (state S.Store tx.old.conn.now).now lines
+        → IsDatabase (state S.Store tx.old.conn.now).now
+        → IsStopped (state S.Store tx.old.conn.now) (state S.Store tx.new.conn.now)
+        ⊎ LacksRoom (line_of row.now) ((state S.Store tx.old.conn.now).now.trees 0)) }
 {
     tx.execute(
-        "INSERT INTO desk_rows (kind, owner, place, body) VALUES (?1, ?2, ?3, ?4) ON CONFLICT (kind, owner, place) DO UPDATE SET body = ?4",
+        "INSERT INTO desk_rows (kind, owner, place, body) VALUES (?1, ?2, ?3, ?4) \
+         ON CONFLICT (kind, owner, place) DO UPDATE SET body = ?4",
         &[
             whole(row.kind),
             whole(row.owner),

@@ -1,11 +1,12 @@
 //! All rows are read.
-ghost use Rattle.std.specs.Prelude.{◌≡◌, false, map, IsTrue, IfOk, OnOk};
-ghost use Rattle.std.specs.List.{AllZip};
-ghost use Rattle.desk_packing.specs.Lines.{line_of};
+ghost use Rattle.std.specs.Prelude.{◌≡◌, ◌≢◌, false, List, map, IsTrue, IfErr, IfOk, OnOk};
+ghost use Rattle.std.specs.List.{AllByRecursion, AllZip, Any};
+ghost use Rattle.desk_packing.specs.Lines.{Line, line_of};
 ghost use Rattle.sqlite.specs.Held.{state};
 ghost use Rattle.sqlite.specs.State.{HasCleanDisk};
 ghost use Rattle.row_store.specs.Calls.{Becomes, Lasts, Leaves, Stays};
-ghost use Rattle.row_store.specs.Stored.{IsLineRow, Reads, Shows};
+ghost use Rattle.row_store.specs.Refusals.{IsNoLine, IsShort, IsStopped, no_memory};
+ghost use Rattle.row_store.specs.Stored.{IsLineRow, Reads, Shows, Stands};
 ghost use Rattle.row_store.specs.Table.{is_desk};
 
 use crate::rest::at_rest;
@@ -24,6 +25,10 @@ pub fn all_rows<S: Alter>(conn: &mut Connection<S>) -> Result<List<PackedRow>, E
     ensures crash { Leaves (λ _ _. ⊥) (state S.Store conn.old) (state S.Store conn.new) }
     ensures autocommit { conn.old.in_transaction ≡ false → conn.new.in_transaction ≡ false }
     ensures lasts { OnOk result (Lasts (state S.Store conn.new)) }
+    ensures cause { IfErr result (λ e. e ≢ no_memory → conn.old.in_transaction ≡ false
+        → HasCleanDisk (state S.Store conn.new)
+        → (lines : List Line) → AllByRecursion IsShort lines → Stands (state S.Store conn.old).now lines
+        → IsStopped (state S.Store conn.old) (state S.Store conn.new)) }
 {
     let rows = shown_rows(conn)?;
     Ok(List::from_vec(lines_in(*rows.allocator(), &rows)?))
@@ -37,6 +42,9 @@ fn shown_rows<S: Alter>(conn: &mut Connection<S>) -> Result<Vec<Row>, Error>
     ensures crash { Leaves (λ _ _. ⊥) (state S.Store conn.old) (state S.Store conn.new) }
     ensures autocommit { conn.old.in_transaction ≡ false → conn.new.in_transaction ≡ false }
     ensures lasts { OnOk result (Lasts (state S.Store conn.new)) }
+    ensures cause { IfErr result (λ e. e ≢ no_memory → conn.old.in_transaction ≡ false
+        → HasCleanDisk (state S.Store conn.new)
+        → IsStopped (state S.Store conn.old) (state S.Store conn.new)) }
 {
     at_rest(conn)?;
     conn.query_all(
@@ -47,7 +55,8 @@ fn shown_rows<S: Alter>(conn: &mut Connection<S>) -> Result<Vec<Row>, Error>
 
 /// The rows that rows of an answer are.
 fn lines_in(alloc: Global, rows: &[Row]) -> Result<Vec<PackedRow>, Error>
-    ensures { IfOk result (λ lines. AllZip IsLineRow rows.now (map line_of lines.items)) }
+    ensures lines { IfOk result (λ lines. AllZip IsLineRow rows.now (map line_of lines.items)) }
+    ensures cause { IfErr result (λ e. e ≢ no_memory → Any IsNoLine rows.now) }
 {
     let mut lines = Vec::new(alloc);
     'rows: for row in rows {
@@ -58,7 +67,8 @@ fn lines_in(alloc: Global, rows: &[Row]) -> Result<Vec<PackedRow>, Error>
 
 /// The row that a row of an answer is.
 fn line_in(row: &Row) -> Result<PackedRow, Error>
-    ensures { IfOk result (λ line. IsLineRow row.now (line_of line)) }
+    ensures line { IfOk result (λ line. IsLineRow row.now (line_of line)) }
+    ensures cause { IfErr result (λ e. e ≢ no_memory → IsNoLine row.now) }
 {
     let _id: i64 = row.get(0)?;
     let kind: u32 = row.get(1)?;

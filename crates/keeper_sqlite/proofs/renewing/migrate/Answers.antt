@@ -13,7 +13,8 @@ returns-in-Ok-put_rows-clause-held g c =
     let rows = rows_of c.args.tables.now in
     let more = map line_of c.as_slice.result.now in
     let is = ap (map line_of) c.as_slice.ensures ∙ c.in-Ok.ensures.rows in
-    put_held age.Old old rows more c.requires.found (λ lines h. old_renews more lines rows is h) (state g.S.Store c.put_rows.new.conn) c.in-Ok-put_rows.ensures.put
+    put_held age.Old old rows more c.requires.found (λ lines h. old_renews more lines rows is h)
+    (state g.S.Store c.put_rows.new.conn) c.in-Ok-put_rows.ensures.put
 
 pub returns-in-Ok-put_rows-clause-keeps : goal.returns-in-Ok-put_rows-clause-keeps
 returns-in-Ok-put_rows-clause-keeps g c =
@@ -22,7 +23,8 @@ returns-in-Ok-put_rows-clause-keeps g c =
     let more = map line_of c.as_slice.result.now in
     let is = ap (map line_of) c.as_slice.ensures ∙ c.in-Ok.ensures.rows in
     keeps_done (Puts more) old (state g.S.Store c.put_rows.new.conn) c.put_rows.ensures.crash
-    (put_tells age.Old old rows more c.requires.found (λ lines h. old_renews more lines rows is h)) c.put_rows.ensures.autocommit c.in-Ok-put_rows.ensures.put
+    (put_tells age.Old old rows more c.requires.found (λ lines h. old_renews more lines rows is h))
+    c.put_rows.ensures.autocommit c.in-Ok-put_rows.ensures.put
 
 pub returns-clause-keeps : goal.returns-clause-keeps
 returns-clause-keeps g c =
@@ -31,4 +33,5 @@ returns-clause-keeps g c =
     let more = map line_of c.as_slice.result.now in
     let is = ap (map line_of) c.as_slice.ensures ∙ c.in-Ok.ensures.rows in
     keeps_refused (Puts more) old (state g.S.Store c.put_rows.new.conn) c.put_rows.ensures.crash
-    (put_tells age.Old old rows more c.requires.found (λ lines h. old_renews more lines rows is h)) c.put_rows.ensures.autocommit c.in-Err-put_rows.ensures.unchanged
+    (put_tells age.Old old rows more c.requires.found (λ lines h. old_renews more lines rows is h))
+    c.put_rows.ensures.autocommit c.in-Err-put_rows.ensures.unchanged

@@ -12,7 +12,8 @@ returns-in-Ok-clause-held g c =
     let old = state g.S.Store c.args.conn.now in
     let more = map line_of c.as_slice.result.now in
     let is = ap (map line_of) c.as_slice.ensures ∙ c.in_ok-rows.ensures in
-    put_held age.Blank old empty_rows more c.requires.found (λ lines h. first_renews more lines is h) (state g.S.Store c.put_rows.new.conn) c.in-Ok.ensures.put
+    put_held age.Blank old empty_rows more c.requires.found (λ lines h. first_renews more lines is h)
+    (state g.S.Store c.put_rows.new.conn) c.in-Ok.ensures.put
 
 pub returns-in-Ok-clause-keeps : goal.returns-in-Ok-clause-keeps
 returns-in-Ok-clause-keeps g c =
@@ -20,7 +21,8 @@ returns-in-Ok-clause-keeps g c =
     let more = map line_of c.as_slice.result.now in
     let is = ap (map line_of) c.as_slice.ensures ∙ c.in_ok-rows.ensures in
     keeps_done (Puts more) old (state g.S.Store c.put_rows.new.conn) c.put_rows.ensures.crash
-    (put_tells age.Blank old empty_rows more c.requires.found (λ lines h. first_renews more lines is h)) c.put_rows.ensures.autocommit c.in-Ok.ensures.put
+    (put_tells age.Blank old empty_rows more c.requires.found (λ lines h. first_renews more lines is h))
+    c.put_rows.ensures.autocommit c.in-Ok.ensures.put
 
 pub returns-clause-keeps : goal.returns-clause-keeps
 returns-clause-keeps g c =
@@ -28,4 +30,5 @@ returns-clause-keeps g c =
     let more = map line_of c.as_slice.result.now in
     let is = ap (map line_of) c.as_slice.ensures ∙ c.in_ok-rows.ensures in
     keeps_refused (Puts more) old (state g.S.Store c.put_rows.new.conn) c.put_rows.ensures.crash
-    (put_tells age.Blank old empty_rows more c.requires.found (λ lines h. first_renews more lines is h)) c.put_rows.ensures.autocommit c.in-Err.ensures.unchanged
+    (put_tells age.Blank old empty_rows more c.requires.found (λ lines h. first_renews more lines is h))
+    c.put_rows.ensures.autocommit c.in-Err.ensures.unchanged

@@ -13,5 +13,6 @@ invariant-rows g l =
       survives : Survives begun (state g.S.Store l.tx.conn.now) (λ _. ⊥);
       inside : HasCleanDisk (state g.S.Store l.tx.conn.now) → IsTrue (state g.S.Store l.tx.conn.now).in_transaction;
       kept : HasCleanDisk (state g.S.Store l.tx.conn.now) → KeepsCommit begun (state g.S.Store l.tx.conn.now);
-      put : HasCleanDisk (state g.S.Store l.tx.conn.now) → Puts (map line_of (take l.row-index l.rows)) begun.now (state g.S.Store l.tx.conn.now).now;
+      put : HasCleanDisk (state g.S.Store l.tx.conn.now)
+          → Puts (map line_of (take l.row-index l.rows)) begun.now (state g.S.Store l.tx.conn.now).now;
     }

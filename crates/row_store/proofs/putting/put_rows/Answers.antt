@@ -1,4 +1,5 @@
 use Rattle.std.proofs.Common.{◌≡◌, refl, sym, true≢false, ◌∙◌, map, List, Result, Ok, Err, IsTrue, OnOk, OnErr, subst}
+use Rattle.std.proofs.Common.{IfErr}
 use Rattle.desk_packing.specs.Lines.{Line, line_of}
 use Rattle.sqlite.specs.Effect.{IsDatabase}
 use Rattle.sqlite.specs.Held.{state}
@@ -10,32 +11,51 @@ use Rattle.row_store.proofs.Rests.{IsSettled, leaves, lasts, same_database}
 use Rattle.row_store.proofs.putting.put_rows.Goals as goal
 
 pub returns-in_err-at_rest-clause-crash : goal.returns-in_err-at_rest-clause-crash
-returns-in_err-at_rest-clause-crash g c alone = absurd (true≢false (sym (c.in_err-at_rest.ensures.under_way.0 refl) ∙ alone))
+returns-in_err-at_rest-clause-crash g c alone =
+    absurd (true≢false (sym (c.in_err-at_rest.ensures.under_way.0 refl) ∙ alone))
 
 pub returns-clause-crash : goal.returns-clause-crash
 returns-clause-crash g c =
     let more = map line_of c.args.rows.now in
-    leaves (Puts more) (PutsIn more (state g.S.Store c.args.conn.now).now) (state g.S.Store c.args.conn.now) (state g.S.Store c.put_all.new.conn)
-    (λ trees opened left. g.met.S.Store.settled c.args.conn.now.store trees opened left) c.in_ok-at_rest.ensures.rests c.put_all.ensures.survives
+    leaves (Puts more) (PutsIn more (state g.S.Store c.args.conn.now).now) (state g.S.Store c.args.conn.now)
+    (state g.S.Store c.put_all.new.conn)
+    (λ trees opened left. g.met.S.Store.settled c.args.conn.now.store trees opened left) c.in_ok-at_rest.ensures.rests
+    c.put_all.ensures.survives
     (λ opened clean db found obeys lines stands.
     let put = found.1 lines stands in
     let same = same_database db found.0 found.2 obeys (put.1.obeys (c.in_ok-at_rest.ensures.rests.obeys opened)) in
     rw same put)
 
 pub returns-in_err-at_rest-clause-lasts : goal.returns-in_err-at_rest-clause-lasts
-returns-in_err-at_rest-clause-lasts g c alone = absurd (true≢false (sym (c.in_err-at_rest.ensures.under_way.0 refl) ∙ alone))
+returns-in_err-at_rest-clause-lasts g c alone =
+    absurd (true≢false (sym (c.in_err-at_rest.ensures.under_way.0 refl) ∙ alone))
 
 -- what stands after the rows were put, or were refused, lasts
-last_put : (more : List Line) (old new : State) (r : Result (Unit {0}) Error) → IsSettled new → (IsTrue old.is_open → IsDatabase old.now) → (HasCleanDisk new → OnOk r (Puts more old.now new.now))
-    → (HasCleanDisk new → OnOk r (IsCommitted old new)) → (HasCleanDisk new → IsTrue new.is_open → OnErr r (IsTrue old.is_open × (new.now ≡ old.now) × (new.committed ≡ old.now)))
+last_put : (more : List Line) (old new : State) (r : Result (Unit {0}) Error) → IsSettled new
+    → (IsTrue old.is_open → IsDatabase old.now) → (HasCleanDisk new → OnOk r (Puts more old.now new.now))
+    → (HasCleanDisk new → OnOk r (IsCommitted old new))
+    → (HasCleanDisk new → IsTrue new.is_open
+    → OnErr r (IsTrue old.is_open × (new.now ≡ old.now) × (new.committed ≡ old.now)))
     → (lines : List Line) → Stands old.now lines → Lasts new
 last_put more old new (Ok done) store obeys put ends refused lines stands up =
-    lasts new store (λ clean. (ends clean).settled) (λ clean. (put clean lines stands).1.obeys (obeys (ends clean).was_open)) up
+    lasts new store (λ clean. (ends clean).settled)
+    (λ clean. (put clean lines stands).1.obeys (obeys (ends clean).was_open)) up
 last_put more old new (Err e) store obeys put ends refused lines stands up =
     let back = refused up.0 up.1 in
     lasts new store (λ clean. back.1 ∙ sym back.2) (λ clean. subst IsDatabase (sym back.1) (obeys back.0)) up
 
 pub returns-clause-lasts : goal.returns-clause-lasts
 returns-clause-lasts g c alone =
-    last_put (map line_of c.args.rows.now) (state g.S.Store c.args.conn.now) (state g.S.Store c.put_all.new.conn) c.put_all.result
-    (λ trees opened left. g.met.S.Store.settled c.put_all.new.conn.store trees opened left) c.in_ok-at_rest.ensures.rests.obeys c.put_all.ensures.put c.put_all.ensures.ends c.put_all.ensures.refused
+    last_put (map line_of c.args.rows.now) (state g.S.Store c.args.conn.now) (state g.S.Store c.put_all.new.conn)
+    c.put_all.result
+    (λ trees opened left. g.met.S.Store.settled c.put_all.new.conn.store trees opened left)
+    c.in_ok-at_rest.ensures.rests.obeys c.put_all.ensures.put c.put_all.ensures.ends c.put_all.ensures.refused
+
+-- where it was refused, it was so over a connection at rest
+caused : {T E : Type 0} (r : Result T E) (Other : E → Type 0) (Alone Cause : Type 0) → IfErr r (λ e. Other e → Cause)
+    → IfErr r (λ e. Other e → Alone → Cause)
+caused (Ok done) Other Alone Cause h = tt
+caused (Err e) Other Alone Cause h = λ other alone. h other
+
+pub returns-clause-cause : goal.returns-clause-cause
+returns-clause-cause g c = caused c.put_all.result _ _ _ c.put_all.ensures.cause

@@ -6,7 +6,9 @@ pub returns-in-Ok-clause-told : goal.returns-in-Ok-clause-told
 returns-in-Ok-clause-told g c =
     let known = rw c.in-Some.is at c.self.invariant.1 in
     let fit = rw c.in-Some.is at (rw (← c.self.view_is) at c.requires) in
-    rw (← c.self.view_is) (changed_told c.in-Some.shape (state g.S.Store c.self.inside.connection) (state g.S.Store c.commit_changes.new.conn) c.args.changes.now known fit c.in-Ok.ensures.committed)
+    rw (← c.self.view_is)
+    (changed_told c.in-Some.shape (state g.S.Store c.self.inside.connection)
+    (state g.S.Store c.commit_changes.new.conn) c.args.changes.now known fit c.in-Ok.ensures.committed)
 
 pub returns-in-Err-clause-crash : goal.returns-in-Err-clause-crash
 returns-in-Err-clause-crash g c = rw (← c.self.view_is) (λ known. c.commit_changes.ensures.crash)

@@ -9,5 +9,7 @@ returns-then-is_some-clause-unchanged g c = rw (← c.self.view_is) (stay_same _
 
 pub returns-clause-loaded : goal.returns-clause-loaded
 returns-clause-loaded g c =
-    rw (← c.self.view_is) (loaded_first rows_of c.load_known.result (state g.S.Store c.self.inside.connection) (state g.S.Store c.load_known.new.self.connection) c.self.inside.shape c.load_known.new.self.lengths
+    rw (← c.self.view_is)
+    (loaded_first rows_of c.load_known.result (state g.S.Store c.self.inside.connection)
+    (state g.S.Store c.load_known.new.self.connection) c.self.inside.shape c.load_known.new.self.lengths
     (none_of c.self.inside.shape (sym c.is_some.ensures ∙ c.if-is_some.false)) c.load_known.ensures.held)

@@ -7,8 +7,12 @@ use Rattle.keeper_sqlite.proofs.tables.SqlTablesKeeper.load.Goals as goal
 pub returns-clause-loaded : goal.returns-clause-loaded
 returns-clause-loaded g c =
     let clean = no_doubt _ (g.met.S.NeverUnclean.never_unclean c.load_known.new.self.connection.store) in
-    rw (← c.self.view_is) (loaded_again rows_of c.load_known.result (state g.S.Store c.self.inside.inner.connection) (state g.S.Store c.load_known.new.self.connection) clean c.load_known.ensures.keeps c.load_known.ensures.held)
+    rw (← c.self.view_is)
+    (loaded_again rows_of c.load_known.result (state g.S.Store c.self.inside.inner.connection)
+    (state g.S.Store c.load_known.new.self.connection) clean c.load_known.ensures.keeps c.load_known.ensures.held)
 
 pub returns-clause-unchanged : goal.returns-clause-unchanged
 returns-clause-unchanged g c =
-    rw (← c.self.view_is) (unloaded_told c.load_known.result (state g.S.Store c.self.inside.inner.connection) (state g.S.Store c.load_known.new.self.connection) c.load_known.ensures.keeps)
+    rw (← c.self.view_is)
+    (unloaded_told c.load_known.result (state g.S.Store c.self.inside.inner.connection)
+    (state g.S.Store c.load_known.new.self.connection) c.load_known.ensures.keeps)
