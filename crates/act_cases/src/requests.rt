@@ -70,6 +70,6 @@ fn is_numbered(command: &Command) -> bool
         Command::Steward(ticket, _) | Command::Clerk(_, ticket, _) => {
             1 <= ticket.number && ticket.number <= MAX_REQUEST
         }
-        Command::Look(_, _) | Command::DeskReport => true,
+        Command::Look(_, _) | Command::DeskReport | Command::DeskDerive { .. } => true,
     }
 }

@@ -8,10 +8,14 @@ use std::test::Fail;
 /// The route that a target asks for, with its parameters.
 pub fn route_of(alloc: Global, found: &RouteMatch<'_, '_>) -> Result<Route, Fail> {
     match found.route() {
-        Target::View | Target::Suggest | Target::Preview => session_look(alloc, found),
-        Target::Report | Target::Records | Target::DeskReport => sheet_look(alloc, found),
+        Target::View | Target::Suggest | Target::Preview | Target::Explain | Target::SeeCarry => {
+            session_look(alloc, found)
+        }
+        Target::Report | Target::Records | Target::DeskReport | Target::DeskDerive => {
+            sheet_look(alloc, found)
+        }
         Target::Enter | Target::Batch => entering(alloc, found),
-        Target::Confirm | Target::Withdraw | Target::Commit | Target::Abandon => {
+        Target::Confirm | Target::Withdraw | Target::Commit | Target::Abandon | Target::Carry => {
             session_write(alloc, found)
         }
         _ => steward_write(alloc, found),
@@ -42,6 +46,11 @@ fn steward_write(alloc: Global, found: &RouteMatch<'_, '_>) -> Result<Route, Fai
             edition: text(alloc, found, "edition")?,
             version: short_number(found, "version")?,
         }),
+        Target::AddDerived => Ok(Route::AddDerived {
+            n,
+            edition: text(alloc, found, "edition")?,
+            version: short_number(found, "version")?,
+        }),
         _ => Err(unknown()),
     }
 }
@@ -66,6 +75,7 @@ fn session_write(alloc: Global, found: &RouteMatch<'_, '_>) -> Result<Route, Fai
         Target::Withdraw => Ok(Route::Withdraw { clerk, n, session }),
         Target::Commit => Ok(Route::Commit { clerk, n, session }),
         Target::Abandon => Ok(Route::Abandon { clerk, n, session }),
+        Target::Carry => Ok(Route::Carry { clerk, n, session }),
         _ => Err(unknown()),
     }
 }
@@ -77,6 +87,16 @@ fn session_look(alloc: Global, found: &RouteMatch<'_, '_>) -> Result<Route, Fail
         Target::View => Ok(Route::View { clerk, session }),
         Target::Suggest => Ok(Route::Suggest { clerk, session }),
         Target::Preview => Ok(Route::Preview { clerk, session }),
+        Target::Explain => Ok(Route::Explain {
+            clerk,
+            session,
+            name: text(alloc, found, "name")?,
+        }),
+        Target::SeeCarry => Ok(Route::SeeCarry {
+            clerk,
+            session,
+            version: short_number(found, "version")?,
+        }),
         _ => Err(unknown()),
     }
 }
@@ -92,6 +112,10 @@ fn sheet_look(alloc: Global, found: &RouteMatch<'_, '_>) -> Result<Route, Fail> 
             version: short_number(found, "version")?,
         }),
         Target::DeskReport => Ok(Route::DeskReport),
+        Target::DeskDerive => Ok(Route::DeskDerive {
+            edition: text(alloc, found, "edition")?,
+            version: short_number(found, "version")?,
+        }),
         _ => Err(unknown()),
     }
 }

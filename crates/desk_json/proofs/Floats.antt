@@ -1,6 +1,6 @@
 -- What is printed holds no float.
 use Rattle.std.proofs.Common.{◌≡◌, ℕ, Bool, List, [], ◌∷◌, map, false, refl}
-use Rattle.std.specs.Prelude.{Option, Some, None}
+use Rattle.std.specs.Prelude.{Option, Some, None, slice_get}
 use Rattle.serde_json.specs.Data.{Data, string}
 use Rattle.serde_json.specs.View.{items_of}
 use Rattle.serde_json.specs.Written.{has_float, items_have_float}
@@ -8,6 +8,8 @@ use Rattle.desk_words.specs.declared.made.Made.{Made}
 use Rattle.desk_words.specs.declared.made.Made.TheVariants as mades
 use Rattle.desk_words.specs.declared.refusal.Refusal.{Refusal}
 use Rattle.desk_words.specs.declared.refusal.Refusal.TheVariants as refusals
+use Rattle.desk_words.specs.declared.reply.Carried.{Carried}
+use Rattle.desk_words.specs.declared.reply.Explained.{Explained}
 use Rattle.desk_words.specs.declared.reply.Reply.{Reply}
 use Rattle.desk_words.specs.declared.reply.Reply.TheVariants as replies
 use Rattle.desk_words.specs.declared.reply.Suggested.{Suggested}
@@ -22,11 +24,12 @@ use Rattle.fix_model.specs.declared.state.Cell.{Cell}
 use Rattle.fix_model.specs.declared.state.Cell.TheVariants.{Uncovered, Confirmed, Fixed}
 use Rattle.fix_model.specs.declared.state.State.{State}
 use Rattle.fix_model.specs.declared.state.Step.{Step}
+use Rattle.desk_json.specs.Carried.{carried_shown, change_shown, found_shown}
 use Rattle.desk_json.specs.Case.Answer as case
 use Rattle.desk_json.specs.Faults.{fault_shown}
 use Rattle.desk_json.specs.Refusals.{refusal_shown}
-use Rattle.desk_json.specs.Replies.{batched_shown, committed_shown, gain_shown, made_shown, offer_shown}
-use Rattle.desk_json.specs.Replies.{reply_shown, suggested_shown}
+use Rattle.desk_json.specs.Replies.{batched_shown, committed_shown, explained_shown, gain_shown, made_shown}
+use Rattle.desk_json.specs.Replies.{offer_shown, reply_shown, suggested_shown}
 use Rattle.desk_json.specs.Shapes.{list_of}
 use Rattle.desk_json.specs.Viewed.{cell_shown, outcome_shown, step_shown, view_cell_shown, view_shown}
 use Rattle.desk_json.specs.declared.fault.JsonFault.{JsonFault}
@@ -106,6 +109,30 @@ has_float-suggested_shown suggested = rw (
   items_have_float-map offer_shown (λ offer. refl) suggested.regions,
 ) refl
 
+has_float-explained_shown : (explained : Explained) → has_float (explained_shown explained) ≡ false
+has_float-explained_shown explained =
+    rw (steps_have_no_float explained.steps, items_have_float-map string (λ name. refl) explained.uses) refl
+
+-- nor has what carrying a session would change
+has_float-found_shown : (found : Option ViewCell) → has_float (found_shown found) ≡ false
+has_float-found_shown None = refl
+has_float-found_shown (Some cell) = has_float-cell_shown cell.name cell.value cell.shown
+
+has_float-change_shown : (before after : List ViewCell) (places : ℕ × ℕ)
+    → has_float (change_shown before after places) ≡ false
+has_float-change_shown before after places =
+    rw (has_float-found_shown (slice_get before places.0), has_float-found_shown (slice_get after places.1)) refl
+
+has_float-carried_shown : (carried : Carried) → has_float (carried_shown carried) ≡ false
+has_float-carried_shown carried =
+    let before = carried.before.cells in
+    let after = carried.after.cells in
+    rw (
+      items_have_float-map string (λ name. refl) carried.added,
+      items_have_float-map (change_shown before after) (has_float-change_shown before after) carried.changed,
+      items_have_float-map string (λ name. refl) carried.dropped,
+    ) refl
+
 has_float-refusal_shown : (refusal : Refusal) → has_float (refusal_shown refusal) ≡ false
 has_float-refusal_shown refusals.NoClerk = refl
 has_float-refusal_shown (refusals.Stale last) = refl
@@ -126,6 +153,9 @@ has_float-refusal_shown (refusals.Twice name) = refl
 has_float-refusal_shown (refusals.Taken name) = refl
 has_float-refusal_shown (refusals.BadName name) = refl
 has_float-refusal_shown (refusals.RowWidth row) = refl
+has_float-refusal_shown (refusals.NotFixed name) = refl
+has_float-refusal_shown (refusals.NoColumn name) = refl
+has_float-refusal_shown (refusals.NotNewer version) = refl
 
 -- the fault of a body has no float
 pub has_float-fault_shown : (fault : JsonFault) → has_float (fault_shown fault) ≡ false
@@ -151,5 +181,10 @@ has_float-reply_shown (replies.Suggested suggested) value is =
     let same : value ≡ suggested_shown suggested = cc in rw same (has_float-suggested_shown suggested)
 has_float-reply_shown (replies.Report sheet) value is = absurd cc
 has_float-reply_shown (replies.Records sheet) value is = absurd cc
+has_float-reply_shown (replies.Explained explained) value is =
+    let same : value ≡ explained_shown explained = cc in rw same (has_float-explained_shown explained)
+has_float-reply_shown (replies.Derived sheet) value is = absurd cc
+has_float-reply_shown (replies.Carried carried) value is =
+    let same : value ≡ carried_shown carried = cc in rw same (has_float-carried_shown carried)
 has_float-reply_shown (replies.Refused refusal) value is =
     let same : value ≡ refusal_shown refusal = cc in rw same (has_float-refusal_shown refusal)

@@ -6,3 +6,6 @@ pub mod Confirm
 pub mod Withdraw
 pub mod Commit
 pub mod Abandon
+pub mod AddDerived
+pub mod Carry
+pub mod DeskDerive

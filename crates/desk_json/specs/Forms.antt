@@ -15,11 +15,32 @@ strings_in = list_in as_str
 abbrev pub string_rows_in : Data → Option (List (List (List ℕ)))
 string_rows_in = list_in strings_in
 
--- the version of something published: `[name,number]`, with a number from 1 to 4,294,967,295
+-- a pair of strings: `[string,string]`
+abbrev pub string_pair_of : List Data → Option (List ℕ × List ℕ)
+string_pair_of (first ∷ second ∷ []) = do
+  one ← as_str first
+  other ← as_str second
+  Some (one, other)
+string_pair_of items = None
+
+abbrev pub string_pair_in : Data → Option (List ℕ × List ℕ)
+string_pair_in value = do
+  items ← items_in value
+  string_pair_of items
+
+-- a list of pairs of strings
+abbrev pub string_pairs_in : Data → Option (List (List ℕ × List ℕ))
+string_pairs_in = list_in string_pair_in
+
+-- a number: a whole one from 1 to 4,294,967,295
+abbrev pub count_in : Data → Option ℕ
+count_in = number_in (2 ^ 32 - 1)
+
+-- the version of something published: `[name,number]`
 abbrev pub version_of : List Data → Option (List ℕ × ℕ)
 version_of (name ∷ count ∷ []) = do
   text ← as_str name
-  version ← number_in (2 ^ 32 - 1) count
+  version ← count_in count
   Some (text, version)
 version_of items = None
 

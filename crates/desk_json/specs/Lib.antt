@@ -7,6 +7,7 @@ pub mod Bodies
 pub mod Commands
 pub mod Words
 pub mod Viewed
+pub mod Carried
 pub mod Replies
 pub mod Refusals
 pub mod Faults

@@ -6,7 +6,7 @@ use Rattle.desk_words.specs.declared.refusal.Refusal.TheVariants.{NoClerk, Stale
 use Rattle.desk_words.specs.declared.refusal.Refusal.TheVariants.{UnknownAttr, ValueLong, NotCertain, InConflict}
 use Rattle.desk_words.specs.declared.refusal.Refusal.TheVariants.{NotConfirmed, Limit}
 use Rattle.desk_words.specs.declared.refusal.Refusal.TheVariants.{BadText, Unavailable, NoMemory, Twice, Taken, BadName}
-use Rattle.desk_words.specs.declared.refusal.Refusal.TheVariants.{RowWidth}
+use Rattle.desk_words.specs.declared.refusal.Refusal.TheVariants.{RowWidth, NotFixed, NoColumn, NotNewer}
 use Rattle.desk_json.specs.Shapes.{list_of, object_of, whole}
 use Rattle.desk_json.specs.Words.{kind_word, limit_word, reader_word, stage_word}
 
@@ -53,3 +53,6 @@ refusal_shown (Twice name) = names (codes "twice") name
 refusal_shown (Taken name) = names (codes "taken") name
 refusal_shown (BadName name) = names (codes "bad_name") name
 refusal_shown (RowWidth row) = tells (codes "row_width") (codes "row") (whole row)
+refusal_shown (NotFixed name) = names (codes "not_fixed") name
+refusal_shown (NoColumn name) = names (codes "no_column") name
+refusal_shown (NotNewer version) = tells (codes "not_newer") (codes "version") (whole version)

@@ -4,12 +4,14 @@ use Rattle.serde_json.specs.Data.{Data, boolean, string}
 use Rattle.desk_words.specs.declared.made.Batched.{Batched}
 use Rattle.desk_words.specs.declared.made.Made.{Made}
 use Rattle.desk_words.specs.declared.made.Made.TheVariants.{Clerk, Schema, Master, Rulebook, Edition, Region}
+use Rattle.desk_words.specs.declared.reply.Explained.{Explained}
 use Rattle.desk_words.specs.declared.reply.Reply.{Reply}
 use Rattle.desk_words.specs.declared.reply.Reply.TheVariants as replies
 use Rattle.desk_words.specs.declared.reply.Suggested.{Suggested}
+use Rattle.desk_json.specs.Carried.{carried_shown}
 use Rattle.desk_json.specs.Refusals.{refusal_shown}
 use Rattle.desk_json.specs.Shapes.{list_of, object_of, whole}
-use Rattle.desk_json.specs.Viewed.{view_shown}
+use Rattle.desk_json.specs.Viewed.{run_shown, view_shown}
 
 -- what was made, with its name
 abbrev pub name_shown : List ℕ → List ℕ → Data
@@ -73,7 +75,17 @@ abbrev pub suggested_shown : Suggested → Data
 suggested_shown suggested = lists_shown (list_of (map gain_shown suggested.gains))
     (list_of (map string suggested.need)) (list_of (map offer_shown suggested.regions))
 
--- a reply; a report and records are no JSON
+-- why an attribute is fixed, from its lists of steps and of what these use
+abbrev pub reason_shown : List ℕ → Data → Data → Data
+reason_shown attribute steps uses =
+    object_of ((codes "attribute", string attribute) ∷ (codes "steps", steps) ∷ (codes "uses", uses) ∷ [])
+
+-- why an attribute is fixed
+abbrev pub explained_shown : Explained → Data
+explained_shown explained =
+    reason_shown explained.attribute (run_shown explained.steps) (list_of (map string explained.uses))
+
+-- a reply; a report, records and derived rows are no JSON
 abbrev pub reply_shown : Reply → Option Data
 reply_shown (replies.Made made) = Some (made_shown made)
 reply_shown (replies.Opened session) = Some (view_shown session)
@@ -83,4 +95,7 @@ reply_shown (replies.Batched batch) = Some (batched_shown batch)
 reply_shown (replies.Suggested suggested) = Some (suggested_shown suggested)
 reply_shown (replies.Report sheet) = None
 reply_shown (replies.Records sheet) = None
+reply_shown (replies.Explained explained) = Some (explained_shown explained)
+reply_shown (replies.Derived sheet) = None
+reply_shown (replies.Carried carried) = Some (carried_shown carried)
 reply_shown (replies.Refused refusal) = Some (refusal_shown refusal)

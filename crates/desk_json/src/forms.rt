@@ -2,7 +2,8 @@
 ghost use Rattle.std.specs.Prelude.{◌≡◌, map, Some, None, IfOk, IsErrOf};
 ghost use Rattle.serde_json.specs.Find.{as_str};
 ghost use Rattle.serde_json.specs.View.{view, members_view};
-ghost use Rattle.desk_json.specs.Forms.{accept_in, accept_of, cells_in, cells_of, version_in, version_of};
+ghost use Rattle.desk_json.specs.Forms.{accept_in, accept_of, cells_in, cells_of, count_in};
+ghost use Rattle.desk_json.specs.Forms.{string_pair_in, string_pair_of, version_in, version_of};
 
 use crate::fault::PartFault;
 use crate::parts::{Part, items, number};
@@ -46,6 +47,40 @@ fn version_of(alloc: Global, items: &[Value]) -> Result<(Str, u32), PartFault>
         Some(version) => Ok((name, version)),
         None => Err(PartFault::WrongForm),
     }
+}
+
+/// A number.
+impl<C> Part<C> for u32 {
+    ghost part_in = { λ _. count_in };
+
+    fn read(_alloc: Global, _context: &C, value: &Value) -> Result<u32, PartFault> {
+        match number(u32::MAX, value) {
+            Some(number) => Ok(number),
+            None => Err(PartFault::WrongForm),
+        }
+    }
+}
+
+/// A pair of strings of any length.
+impl<C> Part<C> for (Str, Str) {
+    ghost part_in = { λ _. string_pair_in };
+
+    fn read(alloc: Global, _context: &C, value: &Value) -> Result<(Str, Str), PartFault> {
+        string_pair_of(alloc, items(value)?)
+    }
+}
+
+/// A pair of strings, read of the items of its array.
+fn string_pair_of(alloc: Global, items: &[Value]) -> Result<(Str, Str), PartFault>
+    ensures pair { IfOk result (λ pair. string_pair_of (map view items.now) ≡ Some pair) }
+    ensures none { IsErrOf result PartFault.WrongForm → string_pair_of (map view items.now) ≡ None }
+{
+    let [first, second] = items else {
+        return Err(PartFault::WrongForm);
+    };
+    let first = Str::read(alloc, &(), first)?;
+    let second = Str::read(alloc, &(), second)?;
+    Ok((first, second))
 }
 
 /// The cells of an object of strings, in byte order of their keys. A clause sees the list of them.

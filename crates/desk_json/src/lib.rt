@@ -1,13 +1,14 @@
 //! JSON as the desk reads and prints it: the bodies of requests, replies, and the case of `once`.
 //!
 //! `specs/Commands.antt` says which command a route and a body are, `specs/Bodies` what each body reads as or which
-//! fault it has first; `specs/Replies.antt`, `Viewed.antt`, `Refusals.antt` and `Faults.antt` how replies and faults
-//! are printed; `specs/Case/Cases.antt` which JSON texts are a case, and `specs/Case/Answer.antt` what is answered to
-//! one. `docs/api.md` says the same to a client.
+//! fault it has first; `specs/Replies.antt`, `Viewed.antt`, `Carried.antt`, `Refusals.antt` and `Faults.antt` how
+//! replies and faults are printed; `specs/Case/Cases.antt` which JSON texts are a case, and `specs/Case/Answer.antt`
+//! what is answered to one. `docs/api.md` says the same to a client.
 #![tactic(auto)]
 
 mod bodies;
 mod body;
+mod carried;
 mod case;
 mod commands;
 mod fault;

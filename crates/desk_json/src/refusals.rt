@@ -39,6 +39,9 @@ pub fn refusal_value(alloc: Global, refusal: &Refusal) -> Result<Value, AllocErr
         Refusal::Taken(name) => named(alloc, "taken", name.as_str()),
         Refusal::BadName(name) => named(alloc, "bad_name", name.as_str()),
         Refusal::RowWidth(row) => json!(in alloc; {"error": "row_width", "row": *row}),
+        Refusal::NotFixed(name) => named(alloc, "not_fixed", name.as_str()),
+        Refusal::NoColumn(name) => named(alloc, "no_column", name.as_str()),
+        Refusal::NotNewer(version) => json!(in alloc; {"error": "not_newer", "version": *version}),
     }
 }
 

@@ -3,19 +3,21 @@ ghost use Rattle.std.specs.Prelude.{◌≡◌, ◌≢◌, false, option_map, Som
 ghost use Rattle.serde_json.specs.View.{view};
 ghost use Rattle.serde_json.specs.Written.{compact_text, has_float};
 ghost use Rattle.desk_json.specs.Faults.{fault_shown};
-ghost use Rattle.desk_json.specs.Replies.{batched_shown, committed_shown, lists_shown, made_shown};
-ghost use Rattle.desk_json.specs.Replies.{region_shown, reply_shown, suggested_shown, version_shown};
+ghost use Rattle.desk_json.specs.Replies.{batched_shown, committed_shown, explained_shown, lists_shown, made_shown};
+ghost use Rattle.desk_json.specs.Replies.{reason_shown, region_shown, reply_shown, suggested_shown, version_shown};
 
+use crate::carried::carried_value;
 use crate::fault::JsonFault;
 use crate::refusals::{fault_value, refusal_value};
 use crate::shown::list;
 use crate::viewed::view_value;
 use desk_base::{List, NoMemory};
-use desk_words::{Batched, Made, Reply, Suggested};
+use desk_words::{Batched, Explained, Made, Reply, Suggested};
 use serde_json::{Value, json};
 use std::alloc::{AllocError, Global};
 
-/// The JSON text of a reply that is neither a report nor records: compact, with its keys in byte order (docs/api.md).
+/// The JSON text of a reply that is no report, no records and no derived rows: compact, with its keys in byte order
+/// (docs/api.md).
 pub fn text_of(alloc: Global, reply: &Reply) -> Result<List<u8>, NoMemory>
     requires json { reply_shown reply.now ≢ None }
     ensures { IfOk result (λ text. option_map compact_text (reply_shown reply.now) ≡ Some text) }
@@ -40,7 +42,7 @@ fn text(alloc: Global, value: &Value) -> Result<List<u8>, AllocError>
     Ok(List::from_vec(value.to_vec(alloc)?))
 }
 
-/// The value that a reply is shown as, or none for a report and for records.
+/// The value that a reply is shown as, or none for a report, for records and for derived rows.
 fn reply_value(alloc: Global, reply: &Reply) -> Result<Option<Value>, AllocError>
     ensures { IfOk result (λ made. option_map view made ≡ reply_shown reply.now) }
 {
@@ -55,7 +57,9 @@ fn reply_value(alloc: Global, reply: &Reply) -> Result<Option<Value>, AllocError
         } => { Ok(Some(committed_value(alloc, *number, *session, *certain)?)) }
         Reply::Batched(batch) => Ok(Some(batched_value(alloc, *batch)?)),
         Reply::Suggested(suggested) => Ok(Some(suggested_value(alloc, suggested)?)),
-        Reply::Report(_) | Reply::Records(_) => Ok(None),
+        Reply::Report(_) | Reply::Records(_) | Reply::Derived(_) => Ok(None),
+        Reply::Explained(explained) => Ok(Some(explained_value(alloc, explained)?)),
+        Reply::Carried(carried) => Ok(Some(carried_value(alloc, carried)?)),
         Reply::Refused(refusal) => Ok(Some(refusal_value(alloc, refusal)?)),
     }
 }
@@ -151,4 +155,25 @@ fn suggested_parts(
     ensures { IfOk result (λ value. view value ≡ lists_shown (view gains) (view need) (view regions)) }
 {
     json!(in alloc; {"gains": gains, "need": need, "regions": regions})
+}
+
+/// Why an attribute is fixed.
+fn explained_value(alloc: Global, explained: &Explained) -> Result<Value, AllocError>
+    ensures { IfOk result (λ value. view value ≡ explained_shown explained.now) }
+{
+    let steps = list(alloc, explained.steps.as_slice())?;
+    let uses = list(alloc, explained.uses.as_slice())?;
+    reason_value(alloc, explained.attribute.as_str(), steps, uses)
+}
+
+/// Why an attribute is fixed, from its two lists.
+fn reason_value(
+    alloc: Global,
+    attribute: &str,
+    steps: Value,
+    uses: Value,
+) -> Result<Value, AllocError>
+    ensures { IfOk result (λ value. view value ≡ reason_shown attribute.now (view steps) (view uses)) }
+{
+    json!(in alloc; {"attribute": attribute, "steps": steps, "uses": uses})
 }

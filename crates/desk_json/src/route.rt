@@ -81,4 +81,28 @@ pub enum Route {
         version: u32,
     },
     DeskReport,
+    Explain {
+        clerk: Str,
+        session: u32,
+        name: Str,
+    },
+    DeskDerive {
+        edition: Str,
+        version: u32,
+    },
+    AddDerived {
+        n: u64,
+        edition: Str,
+        version: u32,
+    },
+    SeeCarry {
+        clerk: Str,
+        session: u32,
+        version: u32,
+    },
+    Carry {
+        clerk: Str,
+        n: u64,
+        session: u32,
+    },
 }

@@ -1,3 +1,4 @@
 pub mod Report
 pub mod Records
+pub mod Derived
 pub mod Writing

@@ -3,6 +3,7 @@ ghost use Rattle.std.specs.Prelude.{◌≡◌, ℕ, List, [], ◌∷◌, ◌++�
 ghost use Rattle.desk_sheets.specs.Records.{IsFull, certain_word, fields_of, records_text};
 ghost use Rattle.desk_sheets.specs.Writing.{HasWritten, bytes_of};
 
+use crate::writing::{push_texts, write};
 use csv::{Writer, WriterBuilder};
 use desk_base::{List, NoMemory, Text};
 use desk_words::{RecordLine, RecordSheet};
@@ -74,20 +75,6 @@ fn fields<'a>(
     fields.push(number.as_bytes())?;
     fields.push(session.as_bytes())?;
     fields.push(certain.as_bytes())?;
-    'texts: for text in texts {
-        fields.push(text.as_str().as_bytes())?;
-    }
+    push_texts(&mut fields, texts)?;
     Ok(fields)
-}
-
-/// Writes a row of these fields. Over bytes in memory, and with rows as long as the header, only want of memory keeps a
-/// writer from it.
-fn write(writer: &mut Writer<Vec<u8>>, fields: &[&[u8]]) -> Result<(), NoMemory>
-    ensures { OnOk result ((rows : List (List (List ℕ)))
-        → HasWritten writer.old rows → HasWritten writer.new (rows ++ bytes_of fields.now ∷ [])) }
-{
-    match writer.write_fields(fields) {
-        Ok(()) => Ok(()),
-        Err(_) => Err(NoMemory),
-    }
 }

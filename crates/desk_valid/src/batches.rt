@@ -1,5 +1,5 @@
 //! Whether the rows of the batches are what they have to be.
-ghost use Rattle.std.specs.Prelude.{◌≡◌, ◌↔◌, All, IsTrue};
+ghost use Rattle.std.specs.Prelude.{◌↔◌, IsTrue};
 ghost use Rattle.desk_words.specs.Tables.{AreTables, list_at, published_of, rows_of};
 ghost use Rattle.desk_valid.specs.Damage.{batches};
 ghost use Rattle.desk_valid.specs.FirstDamaged.{IsFirstBad, IsFirstDamaged};
@@ -7,7 +7,7 @@ ghost use Rattle.desk_valid.specs.Rows.Batch.{IsBatchRow};
 ghost use Rattle.desk_valid.specs.Valid.{IsOwnBatch};
 
 use crate::lists::own_list;
-use desk_words::{BatchRow, SessionRow, Tables};
+use desk_words::{BatchRow, Tables};
 
 /// The first damaged row of the batches.
 pub(crate) fn first_damaged(tables: &Tables) -> Option<u64>
@@ -42,19 +42,7 @@ fn is_batch_row(tables: &Tables, clerk: usize, row: &BatchRow) -> bool
         ↔ IsBatchRow (published_of (rows_of tables.now)) (list_at (rows_of tables.now).sessions clerk) row.now }
 {
     let sessions = own_list(&tables.sessions, clerk);
-    let count = row.count as usize;
-    if row.first == 0 {
-        return false;
-    }
-    let first = row.first as usize - 1;
     (row.edition as usize) < tables.editions.len()
-        && first + count <= sessions.len()
-        && are_on(&sessions[first..first + count], row.edition)
-}
-
-/// Whether each of these sessions is on the edition.
-fn are_on(sessions: &[SessionRow], edition: u32) -> bool
-    ensures { IsTrue result ↔ All (λ session. session.edition ≡ edition) sessions.now }
-{
-    sessions.iter().all(|session| session.edition == edition)
+        && row.first > 0
+        && row.first as usize + row.count as usize <= sessions.len() + 1
 }

@@ -43,4 +43,9 @@ pub enum ClerkWork {
         edition: Str,
         body: List<u8>,
     },
+    /// The session goes on over a newer version of its edition.
+    Carry {
+        session: u32,
+        version: u32,
+    },
 }

@@ -3,7 +3,7 @@ use crate::clerk_work::ClerkWork;
 use crate::look::Look;
 use crate::rows::clerk::Digest;
 use crate::steward_work::StewardWork;
-use desk_base::Str;
+use desk_base::{List, Str};
 
 /// The number of a write among its caller's, 1 to 999,999,999,999, and the digest by which it is known when it
 /// comes again.
@@ -24,4 +24,11 @@ pub enum Command {
     Look(Str, Look),
     /// The report over the sessions of all clerks, which changes nothing.
     DeskReport,
+    /// The rows that a master of a version of an edition gives for pairs of an attribute and a column. Nothing changes.
+    DeskDerive {
+        edition: Str,
+        version: u32,
+        master: Str,
+        pairs: List<(Str, Str)>,
+    },
 }

@@ -28,7 +28,7 @@ pub use limit::Which;
 pub use look::Look;
 pub use made::{Batched, Made};
 pub use refusal::{Kind, Reader, Refusal};
-pub use reply::{Reply, Suggested};
+pub use reply::{Carried, DerivedSheet, Explained, Reply, Suggested};
 pub use report::{RecordLine, RecordSheet, ReportLine, ReportSheet};
 pub use rows::act::Act;
 pub use rows::batch::BatchRow;

@@ -22,4 +22,14 @@ pub enum Look {
         edition: Str,
         version: u32,
     },
+    /// Why the attribute with this word is fixed.
+    Explain {
+        session: u32,
+        name: Str,
+    },
+    /// What a Carry to this version would change.
+    Carry {
+        session: u32,
+        version: u32,
+    },
 }

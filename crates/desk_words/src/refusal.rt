@@ -55,7 +55,7 @@ pub enum Refusal {
     Unavailable,
     /// There was no memory.
     NoMemory,
-    /// An attribute or a master with this name stands twice.
+    /// An attribute, a master or a column with this name stands twice.
     Twice(Str),
     /// A caller has this name.
     Taken(Str),
@@ -63,4 +63,10 @@ pub enum Refusal {
     BadName(Str),
     /// The row of a region with this number, counted from 1, has not one text for each attribute.
     RowWidth(u64),
+    /// No rule fixes the attribute with this name.
+    NotFixed(Str),
+    /// The master has no column with this name.
+    NoColumn(Str),
+    /// The session stands on this version of its edition, and the one that is asked for is no newer.
+    NotNewer(u64),
 }

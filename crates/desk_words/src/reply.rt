@@ -16,6 +16,38 @@ pub struct Suggested {
     pub gains: List<(Text, u16)>,
 }
 
+/// Why an attribute is fixed.
+#[derive(Debug, Drop)]
+pub struct Explained {
+    pub attribute: Text,
+    /// The steps of the first run that the attribute's fix rests on, as the first run of a view has them.
+    pub steps: List<(Text, u32)>,
+    /// The confirmed attributes that the rules of these steps read, in the attributes' order.
+    pub uses: List<Text>,
+}
+
+/// The rows that a master gives for attributes.
+#[derive(Debug, Drop)]
+pub struct DerivedSheet {
+    pub attributes: List<Text>,
+    /// Each row of the master by its number, counted from 1, with a text for each attribute.
+    pub rows: List<(u32, List<Text>)>,
+}
+
+/// What carrying a session to a newer version of its edition would change.
+#[derive(Debug, Drop)]
+pub struct Carried {
+    /// The words of the attributes that the session would have and has not.
+    pub added: List<Text>,
+    /// The words of those that it has and would not have.
+    pub dropped: List<Text>,
+    /// The session as it stands, and as it would stand.
+    pub before: View,
+    pub after: View,
+    /// The places, from 0, of the cells of one name that are shown otherwise, before and after.
+    pub changed: List<(u16, u16)>,
+}
+
 /// The answer to a request.
 #[derive(Debug, Drop)]
 pub enum Reply {
@@ -33,5 +65,8 @@ pub enum Reply {
     Suggested(Suggested),
     Report(ReportSheet),
     Records(RecordSheet),
+    Explained(Explained),
+    Derived(DerivedSheet),
+    Carried(Carried),
     Refused(Refusal),
 }

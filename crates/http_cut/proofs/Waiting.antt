@@ -12,6 +12,7 @@ use Rattle.http_cut.specs.declared.route.Route.{Route}
 use Rattle.http_cut.specs.declared.route.Route.TheVariants.{AddClerk, AddSchema, AddMaster, AddRulebook, AddEdition}
 use Rattle.http_cut.specs.declared.route.Route.TheVariants.{AddRegion, Enter, Confirm, Withdraw, Commit, Abandon, Batch}
 use Rattle.http_cut.specs.declared.route.Route.TheVariants.{View, Suggest, Preview, Report, Records, DeskReport}
+use Rattle.http_cut.specs.declared.route.Route.TheVariants.{Explain, DeskDerive, AddDerived, SeeCarry, Carry}
 use Rattle.http_cut.specs.declared.fields.BadLength.{BadLength}
 use Rattle.http_cut.specs.declared.front.HeadParts.{HeadParts}
 use Rattle.http_cut.specs.Head.{HasHead, SaysBadLength, head_body}
@@ -42,6 +43,11 @@ route_limit-most Preview = omega arith
 route_limit-most Report = omega arith
 route_limit-most Records = omega arith
 route_limit-most DeskReport = omega arith
+route_limit-most Explain = omega arith
+route_limit-most DeskDerive = omega arith
+route_limit-most AddDerived = omega arith
+route_limit-most SeeCarry = omega arith
+route_limit-most Carry = omega arith
 
 match_limit-most : (found : Option Match) → match_limit found ≤ 4194304
 match_limit-most (Some found) = route_limit-most found.0

@@ -16,6 +16,7 @@ use Rattle.http_cut.specs.declared.route.Route.{Route}
 use Rattle.http_cut.specs.declared.route.Route.TheVariants.{AddClerk, AddSchema, AddMaster, AddRulebook, AddEdition}
 use Rattle.http_cut.specs.declared.route.Route.TheVariants.{AddRegion, Enter, Confirm, Withdraw, Commit, Abandon, Batch}
 use Rattle.http_cut.specs.declared.route.Route.TheVariants.{View, Suggest, Preview, Report, Records, DeskReport}
+use Rattle.http_cut.specs.declared.route.Route.TheVariants.{Explain, DeskDerive, AddDerived, SeeCarry, Carry}
 use Rattle.http_cut.specs.Numbers.{positive}
 
 -- ---- the table
@@ -41,15 +42,22 @@ patterns =
     ∷ (codes "/see/{clerk}/report", Report)
     ∷ (codes "/see/{clerk}/records/{edition}/{version}", Records)
     ∷ (codes "/desk/report", DeskReport)
+    ∷ (codes "/see/{clerk}/explain/{session}/{name}", Explain)
+    ∷ (codes "/desk/derive/{edition}/{version}", DeskDerive)
+    ∷ (codes "/steward/{n}/derive/{edition}/{version}", AddDerived)
+    ∷ (codes "/see/{clerk}/carry/{session}/{version}", SeeCarry)
+    ∷ (codes "/do/{clerk}/{n}/carry/{session}", Carry)
     ∷ []
 
--- looks are asked for by GET, but for a preview, which has a body
+-- what keeps nothing is asked for by GET, but for a preview and for what a master gives, which have a body
 abbrev pub method_of : Route → Method
 method_of View = Get
 method_of Suggest = Get
 method_of Report = Get
 method_of Records = Get
 method_of DeskReport = Get
+method_of Explain = Get
+method_of SeeCarry = Get
 method_of _ = Post
 
 -- the most bytes of a body

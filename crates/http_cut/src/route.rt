@@ -32,6 +32,11 @@ pub enum Route {
     Report,
     Records,
     DeskReport,
+    Explain,
+    DeskDerive,
+    AddDerived,
+    SeeCarry,
+    Carry,
 }
 
 impl Route {
@@ -42,6 +47,7 @@ impl Route {
         match self {
             Route::View | Route::Suggest | Route::Report | Route::Records | Route::DeskReport =>
                 Method::Get,
+            Route::Explain | Route::SeeCarry => Method::Get,
             _ => Method::Post,
         }
     }

@@ -77,6 +77,7 @@ fn all_routes(alloc: Global) -> Result<Router<Route>, NoMemory>
     add_steward(&mut router)?;
     add_clerk(&mut router)?;
     add_looks(&mut router)?;
+    add_further(&mut router)?;
     Ok(router)
 }
 
@@ -126,7 +127,7 @@ fn add_clerk(router: &mut Router<Route>) -> Result<(), NoMemory>
 }
 
 fn add_looks(router: &mut Router<Route>) -> Result<(), NoMemory>
-    ensures { OnOk result (router.new ≡ rows_after (drop 12 patterns) router.old) }
+    ensures { OnOk result (router.new ≡ rows_after (take 6 (drop 12 patterns)) router.old) }
 {
     add(router, "/see/{clerk}/sessions/{session}", Route::View)?;
     add(router, "/see/{clerk}/suggest/{session}", Route::Suggest)?;
@@ -138,5 +139,33 @@ fn add_looks(router: &mut Router<Route>) -> Result<(), NoMemory>
         Route::Records,
     )?;
     add(router, "/desk/report", Route::DeskReport)?;
+    Ok(())
+}
+
+/// The routes that explain, derive and carry.
+fn add_further(router: &mut Router<Route>) -> Result<(), NoMemory>
+    ensures { OnOk result (router.new ≡ rows_after (drop 18 patterns) router.old) }
+{
+    add(
+        router,
+        "/see/{clerk}/explain/{session}/{name}",
+        Route::Explain,
+    )?;
+    add(
+        router,
+        "/desk/derive/{edition}/{version}",
+        Route::DeskDerive,
+    )?;
+    add(
+        router,
+        "/steward/{n}/derive/{edition}/{version}",
+        Route::AddDerived,
+    )?;
+    add(
+        router,
+        "/see/{clerk}/carry/{session}/{version}",
+        Route::SeeCarry,
+    )?;
+    add(router, "/do/{clerk}/{n}/carry/{session}", Route::Carry)?;
     Ok(())
 }

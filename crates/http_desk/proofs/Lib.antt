@@ -1,6 +1,7 @@
 pub mod Alike
 pub mod Cutting
 pub mod Declining
+pub mod Deriving
 pub mod Ends
 pub mod Lengths
 pub mod Numbered

@@ -25,10 +25,12 @@ use Rattle.desk_json.specs.declared.route.Route.{Route}
 use Rattle.desk_json.specs.declared.route.Route.TheVariants.{AddClerk, AddSchema, AddMaster, AddRulebook, AddEdition}
 use Rattle.desk_json.specs.declared.route.Route.TheVariants.{AddRegion, Enter, Confirm, Withdraw, Commit, Abandon}
 use Rattle.desk_json.specs.declared.route.Route.TheVariants.{Batch, View, Suggest, Preview, Report, Records, DeskReport}
+use Rattle.desk_json.specs.declared.route.Route.TheVariants.{Explain, DeskDerive, AddDerived, SeeCarry, Carry}
 use Rattle.desk_json.specs.Checked.{Checked as Read}
 use Rattle.desk_json.specs.Commands.{by_clerk, by_steward, command_in, seen_by}
 use Rattle.machine_core.specs.Ticket.{IsNumbered}
 use Rattle.http_desk.specs.Checked.{Checked, ◌>>=◌, or_no_route}
+use Rattle.http_desk.proofs.Deriving.{derive_numbered}
 use Rattle.http_desk.specs.Parameters.{Parts, clerk_in, edition_in, name_in, route_in, schema_in, session_in}
 use Rattle.http_desk.specs.Parameters.{version_in, write_in}
 
@@ -114,6 +116,11 @@ HasNumber (Preview clerk session) = ⊤
 HasNumber (Report clerk) = ⊤
 HasNumber (Records clerk edition version) = ⊤
 HasNumber DeskReport = ⊤
+HasNumber (Explain clerk session name) = ⊤
+HasNumber (DeskDerive edition version) = ⊤
+HasNumber (AddDerived n edition version) = IsNumber n
+HasNumber (SeeCarry clerk session version) = ⊤
+HasNumber (Carry clerk n session) = IsNumber n
 
 -- a route that begins with the number of a write
 by_number : (parts : Parts) (next : ℕ → Checked Route) (route : Route)
@@ -182,6 +189,21 @@ route_number target.Records parts route e =
     >>= (λ version. Ok (Records one edition version)))) route e in
     by_two (edition_in parts) (version_in parts) (Records clerk.0) route (λ _ _. tt) clerk.2
 route_number target.DeskReport parts route e = subst HasNumber (ok_same e) tt
+route_number target.Explain parts route e =
+    let clerk = bind_ok (clerk_in parts) (λ (one : List ℕ). session_in parts >>= (λ session. name_in parts
+    >>= (λ name. Ok (Explain one session name)))) route e in
+    by_two (session_in parts) (name_in parts) (Explain clerk.0) route (λ _ _. tt) clerk.2
+route_number target.DeskDerive parts route e =
+    by_two (edition_in parts) (version_in parts) DeskDerive route (λ _ _. tt) e
+route_number target.AddDerived parts route e =
+    by_number parts _ route
+    (λ n good. by_two (edition_in parts) (version_in parts) (AddDerived n) route (λ _ _. good)) e
+route_number target.SeeCarry parts route e =
+    let clerk = bind_ok (clerk_in parts) (λ (one : List ℕ). session_in parts >>= (λ session. version_in parts
+    >>= (λ version. Ok (SeeCarry one session version)))) route e in
+    by_two (session_in parts) (version_in parts) (SeeCarry clerk.0) route (λ _ _. tt) clerk.2
+route_number target.Carry parts route e =
+    by_caller parts _ route (λ clerk n good. by_last (session_in parts) (Carry clerk n) route (λ _. good)) e
 
 -- ---- commands
 
@@ -220,6 +242,12 @@ command_number (Preview clerk session) digest body command good e = look_numbere
 command_number (Report clerk) digest body command good e = subst IsNumbered (ok_same e) tt
 command_number (Records clerk edition version) digest body command good e = subst IsNumbered (ok_same e) tt
 command_number DeskReport digest body command good e = subst IsNumbered (ok_same e) tt
+command_number (Explain clerk session name) digest body command good e = subst IsNumbered (ok_same e) tt
+command_number (DeskDerive edition version) digest body command good e = derive_numbered edition version body command e
+command_number (AddDerived n edition version) digest body command good e =
+    steward_numbered n digest _ command good e
+command_number (SeeCarry clerk session version) digest body command good e = subst IsNumbered (ok_same e) tt
+command_number (Carry clerk n session) digest body command good e = clerk_numbered clerk n digest _ command good e
 
 -- a command of a target has a number that it may have
 pub numbered : (found : Match) (route : Route) (digest : Digest) (body : List ℕ) (command : Command)

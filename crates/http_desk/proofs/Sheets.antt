@@ -1,9 +1,9 @@
--- The records that the machine replies have a text for each attribute.
-use Rattle.std.proofs.Common.{◌≡◌, ◌∙◌, inl, inr, ℕ, suc, ◌+◌, ◌-◌, ◌≤◌, true, false, List, [], ◌∷◌}
+-- The records and the derived rows that the machine replies have a text for each attribute.
+use Rattle.std.proofs.Common.{◌≡◌, ◌∙◌, ◌⊎◌, inl, inr, ℕ, suc, ◌+◌, ◌-◌, ◌≤◌, true, false, List, [], ◌∷◌}
 use Rattle.std.proofs.Common.{length}
 use Rattle.std.proofs.Common.{map, refl, sym, ap, subst, arith, Option, Some, None, Result, Ok, Err}
 use Rattle.std.specs.Prelude.{◌==◌, All, IfSome, drop, filter, flat_map, option_map, slice_get, slice_index_or, take}
-use Rattle.std.specs.Prelude.{zip}
+use Rattle.std.specs.Prelude.{zip, ⊤}
 use Rattle.std.specs.List.{range_with_len}
 use Rattle.std.specs.Option.{option_map_or}
 use Rattle.std.proofs.lemmas.Bool.{cases_Bool, eqb-true}
@@ -12,13 +12,14 @@ use Rattle.std.proofs.lemmas.Option.{option_and_then_some}
 use Rattle.desk_words.specs.declared.change.Change.{Change}
 use Rattle.desk_words.specs.declared.clerk_work.ClerkWork.{ClerkWork}
 use Rattle.desk_words.specs.declared.command.Command.{Command}
-use Rattle.desk_words.specs.declared.command.Command.TheVariants.{Steward, Clerk, Look, DeskReport}
+use Rattle.desk_words.specs.declared.command.Command.TheVariants.{Steward, Clerk, Look, DeskReport, DeskDerive}
 use Rattle.desk_words.specs.declared.command.Ticket.{Ticket}
 use Rattle.desk_words.specs.declared.look.Look.{Look as LookOf}
 use Rattle.desk_words.specs.declared.look.Look.TheVariants as look
 use Rattle.desk_words.specs.declared.refusal.Kind.TheVariants as kind
 use Rattle.desk_words.specs.declared.refusal.Refusal.{Refusal}
 use Rattle.desk_words.specs.declared.refusal.Refusal.TheVariants as refusal
+use Rattle.desk_words.specs.declared.reply.DerivedSheet.{DerivedSheet}
 use Rattle.desk_words.specs.declared.reply.Reply.{Reply}
 use Rattle.desk_words.specs.declared.reply.Reply.TheVariants as reply
 use Rattle.desk_words.specs.declared.report.RecordSheet.{RecordSheet}
@@ -35,14 +36,18 @@ use Rattle.desk_valid.specs.Readings.{all_of, master_at, read, rules_at, width_a
 use Rattle.desk_valid.specs.Rows.Record.{IsRecordRow}
 use Rattle.desk_valid.specs.Valid.{AreValid}
 use Rattle.desk_valid.proofs.Named.{option_map-Some}
+use Rattle.desk_sheets.specs.Derived.{IsFull as IsWide}
 use Rattle.desk_sheets.specs.Records.{IsFull}
 use Rattle.machine_core.specs.declared.machine.Weighed.{Weighed}
 use Rattle.machine_core.specs.declared.ticket.Use.{Use as UseOf}
 use Rattle.machine_core.specs.declared.ticket.Use.TheVariants.{Fresh, Repeated}
 use Rattle.machine_core.specs.declared.deed.Deed.{Deed}
 use Rattle.machine_core.specs.Checked.{Gives, certainly, each, some_or}
+use Rattle.machine_core.specs.Deriving.{derived_sheet}
 use Rattle.machine_core.specs.Finding.{edition_named, session_at}
 use Rattle.machine_core.specs.Kept.{kept_made, kept_reply}
+use Rattle.machine_core.specs.Look.Carry.{carrying}
+use Rattle.machine_core.specs.Look.Explain.{explain}
 use Rattle.machine_core.specs.Look.Preview.{preview}
 use Rattle.machine_core.specs.Look.Records.{is_on, record_line, records_of}
 use Rattle.machine_core.specs.Look.Report.{assessment_of, report_of}
@@ -54,139 +59,170 @@ use Rattle.machine_core.specs.Own.{Own, after, own_of}
 use Rattle.machine_core.specs.Ticket.{use_of}
 use Rattle.machine_core.specs.Weighing.{IsSettleable, IsWeighed}
 use Rattle.machine_core.proofs.Chains.{Gives-bind_ok, done-value}
+use Rattle.machine_core.proofs.Deriving.{derived_sheet-full}
 
--- ---- which replies are records
+-- ---- which replies are sheets
+
+-- a reply that is printed as CSV
+abbrev IsSheet : Reply → Type 0
+IsSheet (reply.Records sheet) = ⊤
+IsSheet (reply.Derived sheet) = ⊤
+IsSheet answer = ⊥
 
 -- the kept reply of a clerk is none
-kept_no_records : (published : Published) (own : Own) (deed : Act) (place : ℕ) (sheet : RecordSheet)
-    → Gives (kept_reply published own deed place) (Ok (reply.Records sheet)) → ⊥
-kept_no_records published own act.Opened place sheet gives =
-    let view = Gives-bind_ok (view_at published own (place + 1)) _ (reply.Records sheet) gives in
-    let same = done-value (reply.Opened view.0) (reply.Records sheet) view.2 in
-    cc
-kept_no_records published own act.Changed place sheet gives =
-    let view = Gives-bind_ok (view_at published own (place + 1)) _ (reply.Records sheet) gives in
-    let same = done-value (reply.View view.0) (reply.Records sheet) view.2 in
-    cc
-kept_no_records published own act.Committed place sheet gives =
-    let row = Gives-bind_ok (certainly (slice_get own.records place)) _ (reply.Records sheet) gives in
-    let same = done-value (reply.Committed (place + 1) row.0.session row.0.certain) (reply.Records sheet) row.2 in
-    cc
-kept_no_records published own act.Batched place sheet gives =
-    let row = Gives-bind_ok (certainly (slice_get own.batches place)) _ (reply.Records sheet) gives in
+kept_no_sheet : (published : Published) (own : Own) (deed : Act) (place : ℕ) (answer : Reply) → IsSheet answer
+    → Gives (kept_reply published own deed place) (Ok answer) → ⊥
+kept_no_sheet published own act.Opened place answer is gives =
+    let view = Gives-bind_ok (view_at published own (place + 1)) _ answer gives in
+    subst IsSheet (done-value (reply.Opened view.0) answer view.2) is
+kept_no_sheet published own act.Changed place answer is gives =
+    let view = Gives-bind_ok (view_at published own (place + 1)) _ answer gives in
+    subst IsSheet (done-value (reply.View view.0) answer view.2) is
+kept_no_sheet published own act.Committed place answer is gives =
+    let row = Gives-bind_ok (certainly (slice_get own.records place)) _ answer gives in
+    subst IsSheet (done-value (reply.Committed (place + 1) row.0.session row.0.certain) answer row.2) is
+kept_no_sheet published own act.Batched place answer is gives =
+    let row = Gives-bind_ok (certainly (slice_get own.batches place)) _ answer gives in
     let sessions = Gives-bind_ok (each (assessment_of published) (take row.0.count (drop (row.0.first - 1)
-    own.sessions))) _ (reply.Records sheet) row.2 in
-    let same = sessions.2 in
-    cc
-kept_no_records published own act.Nothing place sheet gives = gives
-kept_no_records published own act.Clerk place sheet gives = gives
-kept_no_records published own act.Schema place sheet gives = gives
-kept_no_records published own act.Master place sheet gives = gives
-kept_no_records published own act.Rulebook place sheet gives = gives
-kept_no_records published own act.Edition place sheet gives = gives
-kept_no_records published own act.Region place sheet gives = gives
+    own.sessions))) _ answer row.2 in
+    subst IsSheet (done-value _ answer sessions.2) is
+kept_no_sheet published own act.Nothing place answer is gives = gives
+kept_no_sheet published own act.Clerk place answer is gives = gives
+kept_no_sheet published own act.Schema place answer is gives = gives
+kept_no_sheet published own act.Master place answer is gives = gives
+kept_no_sheet published own act.Rulebook place answer is gives = gives
+kept_no_sheet published own act.Edition place answer is gives = gives
+kept_no_sheet published own act.Region place answer is gives = gives
 
 -- nor is what a clerk's write replies
-write_no_records : (published : Published) (own : Own) (work : ClerkWork) (used : UseOf) (sheet : RecordSheet)
-    (deed : Option Deed) → Gives (clerk_write_at published own work used) (Ok (reply.Records sheet, deed)) → ⊥
-write_no_records published own work Repeated sheet deed gives =
-    let kept = Gives-bind_ok (kept_reply published own own.row.act own.row.target) _ (reply.Records sheet, deed)
-    gives in
-    let same = done-value {A = Reply × Option Deed} (kept.0, None) (reply.Records sheet, deed) kept.2 in
-    let first : kept.0 ≡ reply.Records sheet = sym (ap (λ (p : Reply × Option Deed). p.0) same) in
-    kept_no_records published own own.row.act own.row.target sheet
-    (subst (λ (r : Reply). Gives (kept_reply published own own.row.act own.row.target) (Ok r)) first kept.1)
-write_no_records published own work Fresh sheet deed gives =
-    let done_so = Gives-bind_ok (deed_of published own work) _ (reply.Records sheet, deed) gives in
-    let made : Deed = done_so.0 in
-    let kept = Gives-bind_ok (kept_reply published (after own made) made.act made.target) _ (reply.Records sheet, deed)
-    done_so.2 in
-    let same = done-value {A = Reply × Option Deed} (kept.0, Some made) (reply.Records sheet, deed) kept.2 in
-    let first : kept.0 ≡ reply.Records sheet = sym (ap (λ (p : Reply × Option Deed). p.0) same) in
-    kept_no_records published (after own made) made.act made.target sheet
-    (subst (λ (r : Reply). Gives (kept_reply published (after own made) made.act made.target) (Ok r)) first kept.1)
+write_no_sheet : (published : Published) (own : Own) (work : ClerkWork) (used : UseOf) (made : Reply × Option Deed)
+    → IsSheet made.0 → Gives (clerk_write_at published own work used) (Ok made) → ⊥
+write_no_sheet published own work Repeated made is gives =
+    let kept = Gives-bind_ok (kept_reply published own own.row.act own.row.target) _ made gives in
+    let same = done-value {A = Reply × Option Deed} (kept.0, None) made kept.2 in
+    kept_no_sheet published own own.row.act own.row.target kept.0
+    (subst IsSheet (ap (λ (p : Reply × Option Deed). p.0) same) is) kept.1
+write_no_sheet published own work Fresh made is gives =
+    let done_so = Gives-bind_ok (deed_of published own work) _ made gives in
+    let deed : Deed = done_so.0 in
+    let kept = Gives-bind_ok (kept_reply published (after own deed) deed.act deed.target) _ made done_so.2 in
+    let same = done-value {A = Reply × Option Deed} (kept.0, Some deed) made kept.2 in
+    kept_no_sheet published (after own deed) deed.act deed.target kept.0
+    (subst IsSheet (ap (λ (p : Reply × Option Deed). p.0) same) is) kept.1
 
 -- nor what the steward's write does
-steward_no_records : (rows : Rows) (ticket : Ticket) (work : StewardWork) (used : UseOf) (sheet : RecordSheet)
-    (changes : List Change) → Gives (steward_write rows ticket work used) (Ok (reply.Records sheet, changes)) → ⊥
-steward_no_records rows ticket work Repeated sheet changes gives =
-    let made = Gives-bind_ok (kept_made rows (own_of rows 0).row.act (own_of rows 0).row.target) _
-    (reply.Records sheet, changes) gives in
-    let same = done-value {A = Reply × List Change} (reply.Made made.0, []) (reply.Records sheet, changes) made.2 in
-    let first : reply.Records sheet ≡ reply.Made made.0 = ap (λ (p : Reply × List Change). p.0) same in
-    cc
-steward_no_records rows ticket work Fresh sheet changes gives =
-    let making = Gives-bind_ok (making_of rows work) _ (reply.Records sheet, changes) gives in
-    let made = Gives-bind_ok (kept_made (changed rows making.0.change) making.0.act making.0.target) _
-    (reply.Records sheet, changes) making.2 in
+steward_no_sheet : (rows : Rows) (ticket : Ticket) (work : StewardWork) (used : UseOf) (answer : Reply × List Change)
+    → IsSheet answer.0 → Gives (steward_write rows ticket work used) (Ok answer) → ⊥
+steward_no_sheet rows ticket work Repeated answer is gives =
+    let made = Gives-bind_ok (kept_made rows (own_of rows 0).row.act (own_of rows 0).row.target) _ answer gives in
+    let same = done-value {A = Reply × List Change} (reply.Made made.0, []) answer made.2 in
+    subst IsSheet (ap (λ (p : Reply × List Change). p.0) same) is
+steward_no_sheet rows ticket work Fresh answer is gives =
+    let making = Gives-bind_ok (making_of rows work) _ answer gives in
+    let made = Gives-bind_ok (kept_made (changed rows making.0.change) making.0.act making.0.target) _ answer
+    making.2 in
     let same = done-value {A = Reply × List Change}
-    (reply.Made made.0, making_changes (own_of rows 0).row ticket making.0) (reply.Records sheet, changes) made.2 in
-    let first : reply.Records sheet ≡ reply.Made made.0 = ap (λ (p : Reply × List Change). p.0) same in
-    cc
+    (reply.Made made.0, making_changes (own_of rows 0).row ticket making.0) answer made.2 in
+    subst IsSheet (ap (λ (p : Reply × List Change). p.0) same) is
 
--- a look that replies them asked for them
-look_records : (published : Published) (own : Own) (looked : LookOf) (sheet : RecordSheet)
-    → Gives (look_reply published own looked) (Ok (reply.Records sheet))
-    → (edition : List ℕ) × (version : ℕ) × Gives (records_of published own edition version) (Ok sheet)
-look_records published own (look.View number) sheet gives =
-    let view = Gives-bind_ok (view_at published own number) _ (reply.Records sheet) gives in
-    let same = done-value (reply.View view.0) (reply.Records sheet) view.2 in
-    absurd cc
-look_records published own (look.Suggest number) sheet gives =
-    let made = Gives-bind_ok (suggestion_of published own number) _ (reply.Records sheet) gives in
-    let same = done-value (reply.Suggested made.0) (reply.Records sheet) made.2 in
-    absurd cc
-look_records published own (look.Preview number cells) sheet gives =
-    let view = Gives-bind_ok (preview published own number cells) _ (reply.Records sheet) gives in
-    let same = done-value (reply.View view.0) (reply.Records sheet) view.2 in
-    absurd cc
-look_records published own look.Report sheet gives =
-    let made = Gives-bind_ok (report_of published (Some own.row.name) own.sessions) _ (reply.Records sheet) gives in
-    let same = done-value (reply.Report made.0) (reply.Records sheet) made.2 in
-    absurd cc
-look_records published own (look.Records edition version) sheet gives =
-    let made = Gives-bind_ok (records_of published own edition version) _ (reply.Records sheet) gives in
-    let same = done-value (reply.Records made.0) (reply.Records sheet) made.2 in
-    let sheets : made.0 ≡ sheet = cc in (
-      edition,
-      version,
-      subst (λ (s : RecordSheet). Gives (records_of published own edition version) (Ok s)) sheets made.1,
+-- a look that replies one asked for records
+look_sheet : (published : Published) (own : Own) (looked : LookOf) (answer : Reply) → IsSheet answer
+    → Gives (look_reply published own looked) (Ok answer)
+    → (edition : List ℕ) × (version : ℕ) × (sheet : RecordSheet) × (answer ≡ reply.Records sheet)
+    × Gives (records_of published own edition version) (Ok sheet)
+look_sheet published own (look.View number) answer is gives =
+    let view = Gives-bind_ok (view_at published own number) _ answer gives in
+    absurd (subst IsSheet (done-value (reply.View view.0) answer view.2) is)
+look_sheet published own (look.Suggest number) answer is gives =
+    let made = Gives-bind_ok (suggestion_of published own number) _ answer gives in
+    absurd (subst IsSheet (done-value (reply.Suggested made.0) answer made.2) is)
+look_sheet published own (look.Preview number cells) answer is gives =
+    let view = Gives-bind_ok (preview published own number cells) _ answer gives in
+    absurd (subst IsSheet (done-value (reply.View view.0) answer view.2) is)
+look_sheet published own look.Report answer is gives =
+    let made = Gives-bind_ok (report_of published (Some own.row.name) own.sessions) _ answer gives in
+    absurd (subst IsSheet (done-value (reply.Report made.0) answer made.2) is)
+look_sheet published own (look.Records edition version) answer is gives =
+    let made = Gives-bind_ok (records_of published own edition version) _ answer gives in
+    (edition, version, made.0, done-value (reply.Records made.0) answer made.2, made.1)
+look_sheet published own (look.Explain number word) answer is gives =
+    let made = Gives-bind_ok (explain published own number word) _ answer gives in
+    absurd (subst IsSheet (done-value (reply.Explained made.0) answer made.2) is)
+look_sheet published own (look.Carry number version) answer is gives =
+    let made = Gives-bind_ok (carrying published own number version) _ answer gives in
+    absurd (subst IsSheet (done-value (reply.Carried made.0) answer made.2) is)
+
+-- records of a clerk over a version of an edition
+record AreRecords (rows : Rows) (answer : Reply) : Type 0 where
+  place : ℕ
+  edition : List ℕ
+  version : ℕ
+  sheet : RecordSheet
+  is : answer ≡ reply.Records sheet
+  gives : Gives (records_of (published_of rows) (own_of rows place) edition version) (Ok sheet)
+
+-- rows that a master of a version of an edition gives
+record AreRows (rows : Rows) (answer : Reply) : Type 0 where
+  edition : List ℕ
+  version : ℕ
+  master : List ℕ
+  pairs : List (List ℕ × List ℕ)
+  sheet : DerivedSheet
+  is : answer ≡ reply.Derived sheet
+  gives : Gives (derived_sheet (published_of rows) edition version master pairs) (Ok sheet)
+
+-- so a request that is replied a sheet asked for it, and changes nothing
+sheet_asked : (rows : Rows) (command : Command) (answer : Reply) (changes : List Change) → IsSheet answer
+    → Gives (machine rows command) (Ok (answer, changes))
+    → (changes ≡ []) × (AreRecords rows answer ⊎ AreRows rows answer)
+sheet_asked rows (Steward ticket work) answer changes is gives =
+    let used = Gives-bind_ok (use_of (own_of rows 0).row ticket) _ (answer, changes) gives in
+    absurd (steward_no_sheet rows ticket work used.0 (answer, changes) is used.2)
+sheet_asked rows (Clerk name ticket work) answer changes is gives =
+    let place = Gives-bind_ok (clerk_of rows.clerks name) _ (answer, changes) gives in
+    let own : Own = own_of rows place.0 in
+    let write = Gives-bind_ok (clerk_write (published_of rows) own ticket work) _ (answer, changes) place.2 in
+    let same = done-value {A = Reply × List Change} _ (answer, changes) write.2 in
+    let first : answer ≡ write.0.0 = ap (λ (p : Reply × List Change). p.0) same in
+    let used = Gives-bind_ok (use_of own.row ticket) _ write.0 write.1 in
+    absurd (write_no_sheet (published_of rows) own work used.0 write.0 (subst IsSheet first is) used.2)
+sheet_asked rows (Look name looked) answer changes is gives =
+    let place = Gives-bind_ok (clerk_of rows.clerks name) _ (answer, changes) gives in
+    let own : Own = own_of rows place.0 in
+    let made = Gives-bind_ok (look_reply (published_of rows) own looked) _ (answer, changes) place.2 in
+    let same = done-value {A = Reply × List Change} (made.0, []) (answer, changes) made.2 in
+    let first : answer ≡ made.0 = ap (λ (p : Reply × List Change). p.0) same in
+    let found = look_sheet (published_of rows) own looked made.0 (subst IsSheet first is) made.1 in (
+      ap (λ (p : Reply × List Change). p.1) same,
+      inl (record {
+        place = place.0;
+        edition = found.0;
+        version = found.1;
+        sheet = found.2;
+        is = first ∙ found.3;
+        gives = found.4;
+      }),
     )
-
--- so a request that is replied records asked for them, and changes nothing
-records_asked : (rows : Rows) (command : Command) (sheet : RecordSheet) (changes : List Change)
-    → Gives (machine rows command) (Ok (reply.Records sheet, changes))
-    → (place : ℕ) × (edition : List ℕ) × (version : ℕ) × (changes ≡ [])
-    × Gives (records_of (published_of rows) (own_of rows place) edition version) (Ok sheet)
-records_asked rows (Steward ticket work) sheet changes gives =
-    let used = Gives-bind_ok (use_of (own_of rows 0).row ticket) _ (reply.Records sheet, changes) gives in
-    absurd (steward_no_records rows ticket work used.0 sheet changes used.2)
-records_asked rows (Clerk name ticket work) sheet changes gives =
-    let place = Gives-bind_ok (clerk_of rows.clerks name) _ (reply.Records sheet, changes) gives in
-    let own : Own = own_of rows place.0 in
-    let write = Gives-bind_ok (clerk_write (published_of rows) own ticket work) _ (reply.Records sheet, changes)
-    place.2 in
-    let same = done-value {A = Reply × List Change} _ (reply.Records sheet, changes) write.2 in
-    let first : write.0.0 ≡ reply.Records sheet = sym (ap (λ (p : Reply × List Change). p.0) same) in
-    let replied = subst (λ (r : Reply). Gives (clerk_write (published_of rows) own ticket work) (Ok (r, write.0.1)))
-    first write.1 in
-    let used = Gives-bind_ok (use_of own.row ticket) _ (reply.Records sheet, write.0.1) replied in
-    absurd (write_no_records (published_of rows) own work used.0 sheet write.0.1 used.2)
-records_asked rows (Look name looked) sheet changes gives =
-    let place = Gives-bind_ok (clerk_of rows.clerks name) _ (reply.Records sheet, changes) gives in
-    let own : Own = own_of rows place.0 in
-    let made = Gives-bind_ok (look_reply (published_of rows) own looked) _ (reply.Records sheet, changes) place.2 in
-    let same = done-value {A = Reply × List Change} (made.0, []) (reply.Records sheet, changes) made.2 in
-    let first : made.0 ≡ reply.Records sheet = sym (ap (λ (p : Reply × List Change). p.0) same) in
-    let replied = subst (λ (r : Reply). Gives (look_reply (published_of rows) own looked) (Ok r)) first made.1 in
-    let found = look_records (published_of rows) own looked sheet replied in
-    (place.0, found.0, found.1, ap (λ (p : Reply × List Change). p.1) same, found.2)
-records_asked rows DeskReport sheet changes gives =
+sheet_asked rows DeskReport answer changes is gives =
     let made = Gives-bind_ok (report_of (published_of rows) None (flat_map (λ sessions. sessions) rows.sessions)) _
-    (reply.Records sheet, changes) gives in
-    let same = done-value {A = Reply × List Change} (reply.Report made.0, []) (reply.Records sheet, changes) made.2 in
-    let first : reply.Records sheet ≡ reply.Report made.0 = ap (λ (p : Reply × List Change). p.0) same in
-    absurd cc
+    (answer, changes) gives in
+    let same = done-value {A = Reply × List Change} (reply.Report made.0, []) (answer, changes) made.2 in
+    absurd (subst IsSheet (ap (λ (p : Reply × List Change). p.0) same) is)
+sheet_asked rows (DeskDerive edition version master pairs) answer changes is gives =
+    let made = Gives-bind_ok (derived_sheet (published_of rows) edition version master pairs) _ (answer, changes)
+    gives in
+    let same = done-value {A = Reply × List Change} (reply.Derived made.0, []) (answer, changes) made.2 in (
+      ap (λ (p : Reply × List Change). p.1) same,
+      inr (record {
+        edition = edition;
+        version = version;
+        master = master;
+        pairs = pairs;
+        sheet = made.0;
+        is = ap (λ (p : Reply × List Change). p.0) same;
+        gives = made.1;
+      }),
+    )
 
 -- ---- records
 
@@ -273,26 +309,51 @@ records_full rows place name version sheet valid gives =
 
 -- ---- what is weighed
 
-pub weighed_full : (rows : Rows) (command : Command) (weighed : Weighed) → IsWeighed rows command weighed
-    → IsSettleable rows weighed → (sheet : RecordSheet) → weighed.reply ≡ reply.Records sheet → IsFull sheet
-weighed_full rows command weighed (inr none) settleable sheet is =
-    let apart : reply.Records sheet ≡ reply.Refused refusal.NoMemory = sym is ∙ none.reply in
-    absurd cc
-weighed_full rows command weighed (inl step) settleable sheet is =
+-- a sheet that was weighed was asked for, over valid tables
+weighed_sheet : (rows : Rows) (command : Command) (weighed : Weighed) → IsWeighed rows command weighed
+    → IsSettleable rows weighed → IsSheet weighed.reply
+    → AreValid rows × (AreRecords rows weighed.reply ⊎ AreRows rows weighed.reply)
+weighed_sheet rows command weighed (inr none) settleable is = absurd (subst IsSheet none.reply is)
+weighed_sheet rows command weighed (inl step) settleable is =
     let asked = by_outcome step.outcome step.gives step.answers in
-    let valid : AreValid rows = subst (λ (c : List Change). AreValid (changed_all rows c)) asked.3 settleable.valid in
-    records_full rows asked.0 asked.1 asked.2 sheet valid asked.4
+    (subst (λ (c : List Change). AreValid (changed_all rows c)) asked.0 settleable.valid, asked.1)
   where
     by_outcome : (outcome : Result (Reply × List Change) Refusal) → Gives (machine rows command) outcome
         → (weighed.reply, weighed.changes) ≡ answered outcome
-        → (place : ℕ) × (edition : List ℕ) × (version : ℕ) × (weighed.changes ≡ [])
-        × Gives (records_of (published_of rows) (own_of rows place) edition version) (Ok sheet)
+        → (weighed.changes ≡ []) × (AreRecords rows weighed.reply ⊎ AreRows rows weighed.reply)
     by_outcome (Ok made) gives same =
-        let pair : made ≡ (reply.Records sheet, weighed.changes) =
-        sym same ∙ ap (λ (r : Reply). (r, weighed.changes)) is in
-        records_asked rows command sheet weighed.changes
-        (subst (λ (p : Reply × List Change). Gives (machine rows command) (Ok p)) pair gives)
-    by_outcome (Err why) gives same =
-        let first : weighed.reply ≡ reply.Refused why = ap (λ (p : Reply × List Change). p.0) same in
-        let apart : reply.Records sheet ≡ reply.Refused why = sym is ∙ first in
-        absurd cc
+        sheet_asked rows command weighed.reply weighed.changes is
+        (subst (λ (p : Reply × List Change). Gives (machine rows command) (Ok p)) (sym same) gives)
+    by_outcome (Err why) gives same = absurd (subst IsSheet (ap (λ (p : Reply × List Change). p.0) same) is)
+
+-- records have a text for each attribute
+pub weighed_records : (rows : Rows) (command : Command) (weighed : Weighed) → IsWeighed rows command weighed
+    → IsSettleable rows weighed → (sheet : RecordSheet) → weighed.reply ≡ reply.Records sheet → IsFull sheet
+weighed_records rows command weighed is settleable sheet same =
+    let found = weighed_sheet rows command weighed is settleable (subst IsSheet (sym same) tt) in
+    elim found.1 [
+      | inl records ↦
+          let both : reply.Records records.sheet ≡ reply.Records sheet = sym records.is ∙ same in
+          let sheets : records.sheet ≡ sheet = cc in
+          subst IsFull sheets
+          (records_full rows records.place records.edition records.version records.sheet found.0 records.gives)
+      | inr derived ↦
+          let apart : reply.Derived derived.sheet ≡ reply.Records sheet = sym derived.is ∙ same in
+          absurd cc
+    ]
+
+-- and so have derived rows
+pub weighed_derived : (rows : Rows) (command : Command) (weighed : Weighed) → IsWeighed rows command weighed
+    → IsSettleable rows weighed → (sheet : DerivedSheet) → weighed.reply ≡ reply.Derived sheet → IsWide sheet
+weighed_derived rows command weighed is settleable sheet same =
+    let found = weighed_sheet rows command weighed is settleable (subst IsSheet (sym same) tt) in
+    elim found.1 [
+      | inl records ↦
+          let apart : reply.Records records.sheet ≡ reply.Derived sheet = sym records.is ∙ same in
+          absurd cc
+      | inr derived ↦
+          let both : reply.Derived derived.sheet ≡ reply.Derived sheet = sym derived.is ∙ same in
+          let sheets : derived.sheet ≡ sheet = cc in
+          subst IsWide sheets (derived_sheet-full (published_of rows) derived.edition derived.version derived.master
+          derived.pairs derived.sheet derived.gives)
+    ]

@@ -1,5 +1,5 @@
 -- The parameters of a target: the names and numbers of what a request is about.
-use Rattle.std.specs.Prelude.{ℕ, List, codes, Ok, option_and_then}
+use Rattle.std.specs.Prelude.{ℕ, List, codes, Ok, option_and_then, ⊤}
 use Rattle.matchit.specs.Params.{named}
 use Rattle.http_cut.specs.declared.route.Route.{Route as Target}
 use Rattle.http_cut.specs.declared.route.Route.TheVariants as target
@@ -8,6 +8,7 @@ use Rattle.desk_json.specs.declared.route.Route.{Route}
 use Rattle.desk_json.specs.declared.route.Route.TheVariants.{AddClerk, AddSchema, AddMaster, AddRulebook, AddEdition}
 use Rattle.desk_json.specs.declared.route.Route.TheVariants.{AddRegion, Enter, Confirm, Withdraw, Commit, Abandon}
 use Rattle.desk_json.specs.declared.route.Route.TheVariants.{Batch, View, Suggest, Preview, Report, Records, DeskReport}
+use Rattle.desk_json.specs.declared.route.Route.TheVariants.{Explain, DeskDerive, AddDerived, SeeCarry, Carry}
 use Rattle.http_desk.specs.Checked.{Checked, ◌>>=◌, or_no_route}
 
 -- each name of a pattern with the part of the target that it took
@@ -42,7 +43,7 @@ edition_in = text_at (codes "edition")
 abbrev pub version_in : Parts → Checked ℕ
 version_in = number_at 9 (codes "version")
 
--- what a new version is of
+-- what a new version is of, or the attribute that is asked about
 abbrev pub name_in : Parts → Checked (List ℕ)
 name_in = text_at (codes "name")
 
@@ -128,3 +129,66 @@ route_in target.Records parts = do
   version ← version_in parts
   Ok (Records clerk edition version)
 route_in target.DeskReport parts = Ok DeskReport
+route_in target.Explain parts = do
+  clerk ← clerk_in parts
+  session ← session_in parts
+  name ← name_in parts
+  Ok (Explain clerk session name)
+route_in target.DeskDerive parts = do
+  edition ← edition_in parts
+  version ← version_in parts
+  Ok (DeskDerive edition version)
+route_in target.AddDerived parts = do
+  n ← write_in parts
+  edition ← edition_in parts
+  version ← version_in parts
+  Ok (AddDerived n edition version)
+route_in target.SeeCarry parts = do
+  clerk ← clerk_in parts
+  session ← session_in parts
+  version ← version_in parts
+  Ok (SeeCarry clerk session version)
+route_in target.Carry parts = do
+  clerk ← clerk_in parts
+  n ← write_in parts
+  session ← session_in parts
+  Ok (Carry clerk n session)
+
+-- ---- who asks
+
+-- the steward's writes
+abbrev pub IsOfSteward : Target → Type 0
+IsOfSteward target.AddClerk = ⊤
+IsOfSteward target.AddSchema = ⊤
+IsOfSteward target.AddMaster = ⊤
+IsOfSteward target.AddRulebook = ⊤
+IsOfSteward target.AddEdition = ⊤
+IsOfSteward target.AddRegion = ⊤
+IsOfSteward target.AddDerived = ⊤
+IsOfSteward asked = ⊥
+
+-- the writes of a clerk that enter sessions
+abbrev pub IsEntering : Target → Type 0
+IsEntering target.Enter = ⊤
+IsEntering target.Batch = ⊤
+IsEntering asked = ⊥
+
+-- the writes of a clerk to a session
+abbrev pub IsOfSession : Target → Type 0
+IsOfSession target.Confirm = ⊤
+IsOfSession target.Withdraw = ⊤
+IsOfSession target.Commit = ⊤
+IsOfSession target.Abandon = ⊤
+IsOfSession target.Carry = ⊤
+IsOfSession asked = ⊥
+
+-- the looks of a clerk
+abbrev pub IsLook : Target → Type 0
+IsLook target.View = ⊤
+IsLook target.Suggest = ⊤
+IsLook target.Preview = ⊤
+IsLook target.Report = ⊤
+IsLook target.Records = ⊤
+IsLook target.Explain = ⊤
+IsLook target.SeeCarry = ⊤
+IsLook asked = ⊥

@@ -6,9 +6,10 @@ use Rattle.desk_words.specs.declared.refusal.Refusal.{Refusal}
 use Rattle.desk_words.specs.declared.refusal.Refusal.TheVariants as refusal
 use Rattle.desk_words.specs.declared.reply.Reply.{Reply}
 use Rattle.desk_words.specs.declared.reply.Reply.TheVariants.{Made, Opened, View, Committed, Batched, Suggested, Report}
-use Rattle.desk_words.specs.declared.reply.Reply.TheVariants.{Records, Refused}
+use Rattle.desk_words.specs.declared.reply.Reply.TheVariants.{Records, Explained, Derived, Carried, Refused}
 use Rattle.desk_json.specs.Faults.{fault_shown}
 use Rattle.desk_json.specs.Replies.{reply_shown}
+use Rattle.desk_sheets.specs.Derived.{derived_text}
 use Rattle.desk_sheets.specs.Records.{records_text}
 use Rattle.desk_sheets.specs.Report.{report_text}
 use Rattle.http_desk.specs.declared.declined.Declined.{Declined}
@@ -43,6 +44,9 @@ refusal_status (refusal.Twice name) = status.UnprocessableContent
 refusal_status (refusal.Taken name) = status.Conflict
 refusal_status (refusal.BadName name) = status.UnprocessableContent
 refusal_status (refusal.RowWidth row) = status.UnprocessableContent
+refusal_status (refusal.NotFixed name) = status.UnprocessableContent
+refusal_status (refusal.NoColumn name) = status.UnprocessableContent
+refusal_status (refusal.NotNewer version) = status.Conflict
 
 -- the status of a reply: what was made, looked at or refused
 abbrev pub reply_status : Reply → Status
@@ -54,12 +58,16 @@ reply_status (Batched batch) = status.Created
 reply_status (Suggested suggested) = status.Ok
 reply_status (Report sheet) = status.Ok
 reply_status (Records sheet) = status.Ok
+reply_status (Explained explained) = status.Ok
+reply_status (Derived sheet) = status.Ok
+reply_status (Carried carried) = status.Ok
 reply_status (Refused refusal) = refusal_status refusal
 
 -- what the body of a reply is
 abbrev pub reply_type : Reply → ContentType
 reply_type (Report sheet) = Text
 reply_type (Records sheet) = Csv
+reply_type (Derived sheet) = Csv
 reply_type reply = Json
 
 -- the text of a value
@@ -71,6 +79,7 @@ json_text None = []
 abbrev pub reply_body : Reply → List ℕ
 reply_body (Report sheet) = report_text sheet
 reply_body (Records sheet) = records_text sheet
+reply_body (Derived sheet) = derived_text sheet
 reply_body reply = json_text (reply_shown reply)
 
 -- the response to a request that the machine replies to, which closes the stream or not, and whose method may be HEAD

@@ -1,6 +1,7 @@
 //! The parameters of a target, and its route with them.
 ghost use Rattle.std.specs.Prelude.{◌≤◌, ◌<◌, ◌^◌, IfOk};
 ghost use Rattle.http_desk.specs.Checked.{Finds};
+ghost use Rattle.http_desk.specs.Parameters.{IsEntering, IsLook, IsOfSession, IsOfSteward};
 ghost use Rattle.http_desk.specs.Parameters.{number_at, route_in, text_at, write_in};
 
 use crate::declined::Declined;
@@ -18,6 +19,37 @@ const NUMBER_DIGITS: usize = 9;
 
 /// The route that a target asks for, with its parameters.
 pub fn route_in(alloc: Global, found: &RouteMatch<'_, '_>) -> Result<Route, Declined>
+    ensures { Finds result (route_in found.now.0 found.now.1) }
+{
+    match found.route() {
+        Target::AddClerk
+        | Target::AddSchema
+        | Target::AddMaster
+        | Target::AddRulebook
+        | Target::AddEdition
+        | Target::AddRegion
+        | Target::AddDerived => steward_route(alloc, found),
+        Target::Enter | Target::Batch => entering_route(alloc, found),
+        Target::Confirm | Target::Withdraw | Target::Commit | Target::Abandon | Target::Carry =>
+            session_route(alloc, found),
+        Target::View
+        | Target::Suggest
+        | Target::Preview
+        | Target::Report
+        | Target::Records
+        | Target::Explain
+        | Target::SeeCarry => look_route(alloc, found),
+        Target::DeskReport => Ok(Route::DeskReport),
+        Target::DeskDerive => Ok(Route::DeskDerive {
+            edition: text_at(alloc, found, "edition")?,
+            version: number_at(found, "version")?,
+        }),
+    }
+}
+
+/// The route of a write of the steward.
+fn steward_route(alloc: Global, found: &RouteMatch<'_, '_>) -> Result<Route, Declined>
+    requires { IsOfSteward found.now.0 }
     ensures { Finds result (route_in found.now.0 found.now.1) }
 {
     match found.route() {
@@ -46,11 +78,43 @@ pub fn route_in(alloc: Global, found: &RouteMatch<'_, '_>) -> Result<Route, Decl
             edition: text_at(alloc, found, "edition")?,
             version: number_at(found, "version")?,
         }),
+        Target::AddDerived => Ok(Route::AddDerived {
+            n: write_in(found)?,
+            edition: text_at(alloc, found, "edition")?,
+            version: number_at(found, "version")?,
+        }),
+        // The steward has no other writes.
+        _ => unreachable!(),
+    }
+}
+
+/// The route of a write of a clerk that enters sessions.
+fn entering_route(alloc: Global, found: &RouteMatch<'_, '_>) -> Result<Route, Declined>
+    requires { IsEntering found.now.0 }
+    ensures { Finds result (route_in found.now.0 found.now.1) }
+{
+    match found.route() {
         Target::Enter => Ok(Route::Enter {
             clerk: text_at(alloc, found, "clerk")?,
             n: write_in(found)?,
             edition: text_at(alloc, found, "edition")?,
         }),
+        Target::Batch => Ok(Route::Batch {
+            clerk: text_at(alloc, found, "clerk")?,
+            n: write_in(found)?,
+            edition: text_at(alloc, found, "edition")?,
+        }),
+        // No other write enters any.
+        _ => unreachable!(),
+    }
+}
+
+/// The route of a write of a clerk to a session.
+fn session_route(alloc: Global, found: &RouteMatch<'_, '_>) -> Result<Route, Declined>
+    requires { IsOfSession found.now.0 }
+    ensures { Finds result (route_in found.now.0 found.now.1) }
+{
+    match found.route() {
         Target::Confirm => Ok(Route::Confirm {
             clerk: text_at(alloc, found, "clerk")?,
             n: write_in(found)?,
@@ -71,11 +135,22 @@ pub fn route_in(alloc: Global, found: &RouteMatch<'_, '_>) -> Result<Route, Decl
             n: write_in(found)?,
             session: number_at(found, "session")?,
         }),
-        Target::Batch => Ok(Route::Batch {
+        Target::Carry => Ok(Route::Carry {
             clerk: text_at(alloc, found, "clerk")?,
             n: write_in(found)?,
-            edition: text_at(alloc, found, "edition")?,
+            session: number_at(found, "session")?,
         }),
+        // There are no other writes to a session.
+        _ => unreachable!(),
+    }
+}
+
+/// The route of a look of a clerk.
+fn look_route(alloc: Global, found: &RouteMatch<'_, '_>) -> Result<Route, Declined>
+    requires { IsLook found.now.0 }
+    ensures { Finds result (route_in found.now.0 found.now.1) }
+{
+    match found.route() {
         Target::View => Ok(Route::View {
             clerk: text_at(alloc, found, "clerk")?,
             session: number_at(found, "session")?,
@@ -96,7 +171,18 @@ pub fn route_in(alloc: Global, found: &RouteMatch<'_, '_>) -> Result<Route, Decl
             edition: text_at(alloc, found, "edition")?,
             version: number_at(found, "version")?,
         }),
-        Target::DeskReport => Ok(Route::DeskReport),
+        Target::Explain => Ok(Route::Explain {
+            clerk: text_at(alloc, found, "clerk")?,
+            session: number_at(found, "session")?,
+            name: text_at(alloc, found, "name")?,
+        }),
+        Target::SeeCarry => Ok(Route::SeeCarry {
+            clerk: text_at(alloc, found, "clerk")?,
+            session: number_at(found, "session")?,
+            version: number_at(found, "version")?,
+        }),
+        // A clerk has no other looks.
+        _ => unreachable!(),
     }
 }
 

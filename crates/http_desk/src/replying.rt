@@ -3,7 +3,9 @@ ghost use Rattle.std.specs.Prelude.{◌≡◌, ◌≢◌, ◌⊎◌, IfOk};
 ghost use Rattle.serde_json.specs.Written.{compact_text};
 ghost use Rattle.desk_words.specs.declared.refusal.Refusal.TheVariants as refusal;
 ghost use Rattle.desk_words.specs.declared.reply.Reply.TheVariants as reply_variants;
+ghost use Rattle.desk_words.specs.declared.reply.DerivedSheet.{DerivedSheet};
 ghost use Rattle.desk_words.specs.declared.report.RecordSheet.{RecordSheet};
+ghost use Rattle.desk_sheets.specs.Derived.{IsFull as IsWide};
 ghost use Rattle.desk_sheets.specs.Records.{IsFull};
 ghost use Rattle.http_desk.specs.declared.refusal.Refused.TheVariants as refused;
 ghost use Rattle.http_desk.specs.Answered.{text_bytes};
@@ -18,7 +20,7 @@ use crate::status::{ContentType, Status};
 use crate::text::Text;
 use desk_base::{List, NoMemory};
 use desk_json::{JsonFault, fault_text, text_of};
-use desk_sheets::{records_text, report_text};
+use desk_sheets::{derived_text, records_text, report_text};
 use desk_words::{Refusal, Reply};
 use std::alloc::Global;
 
@@ -29,7 +31,8 @@ pub fn reply_text(
     closing: bool,
     asks_head: bool,
 ) -> Result<Vec<u8>, NoMemory>
-    requires { (sheet : RecordSheet) → reply.now ≡ reply_variants.Records sheet → IsFull sheet }
+    requires records { (sheet : RecordSheet) → reply.now ≡ reply_variants.Records sheet → IsFull sheet }
+    requires derived { (sheet : DerivedSheet) → reply.now ≡ reply_variants.Derived sheet → IsWide sheet }
     ensures text { IfOk result (λ text. text.items ≡ reply_text reply.now closing asks_head) }
     ensures weighed { IfOk result (λ _. reply.now ≢ reply_variants.Refused refusal.NoMemory) }
 {
@@ -49,12 +52,14 @@ pub fn reply_text(
 
 /// The body of a reply.
 fn reply_body(alloc: Global, reply: &Reply) -> Result<List<u8>, NoMemory>
-    requires { (sheet : RecordSheet) → reply.now ≡ reply_variants.Records sheet → IsFull sheet }
+    requires records { (sheet : RecordSheet) → reply.now ≡ reply_variants.Records sheet → IsFull sheet }
+    requires derived { (sheet : DerivedSheet) → reply.now ≡ reply_variants.Derived sheet → IsWide sheet }
     ensures { IfOk result (λ text. text ≡ reply_body reply.now) }
 {
     match reply {
         Reply::Report(sheet) => report_text(alloc, sheet),
         Reply::Records(sheet) => records_text(alloc, sheet),
+        Reply::Derived(sheet) => derived_text(alloc, sheet),
         _ => text_of(alloc, reply),
     }
 }
@@ -64,7 +69,7 @@ fn reply_type(reply: &Reply) -> ContentType
 {
     match reply {
         Reply::Report(_) => ContentType::Text,
-        Reply::Records(_) => ContentType::Csv,
+        Reply::Records(_) | Reply::Derived(_) => ContentType::Csv,
         _ => ContentType::Json,
     }
 }
@@ -74,6 +79,7 @@ fn reply_status(reply: &Reply) -> Status
 {
     match reply {
         Reply::View(_) | Reply::Suggested(_) | Reply::Report(_) | Reply::Records(_) => Status::Ok,
+        Reply::Explained(_) | Reply::Derived(_) | Reply::Carried(_) => Status::Ok,
         Reply::Made(_) | Reply::Opened(_) | Reply::Batched(_) => Status::Created,
         Reply::Committed { .. } => Status::Created,
         Reply::Refused(refusal) => refusal_status(refusal),
@@ -86,13 +92,14 @@ fn refusal_status(refusal: &Refusal) -> Status
     match refusal {
         Refusal::NoClerk | Refusal::NoSuch(_) => Status::NotFound,
         Refusal::Stale(_) | Refusal::Gap(_) | Refusal::Reused(_) => Status::Conflict,
-        Refusal::Closed(_) | Refusal::Taken(_) => Status::Conflict,
+        Refusal::Closed(_) | Refusal::Taken(_) | Refusal::NotNewer(_) => Status::Conflict,
         Refusal::UnknownAttr(_) | Refusal::ValueLong(_) | Refusal::NotConfirmed(_) => {
             Status::UnprocessableContent
         }
         Refusal::NotCertain(_) | Refusal::InConflict | Refusal::RowWidth(_) => {
             Status::UnprocessableContent
         }
+        Refusal::NotFixed(_) | Refusal::NoColumn(_) => Status::UnprocessableContent,
         Refusal::BadText(_, _, _, _) | Refusal::Twice(_) | Refusal::BadName(_) => {
             Status::UnprocessableContent
         }

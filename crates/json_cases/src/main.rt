@@ -1,4 +1,5 @@
-//! Tries the cases in `data/`: bodies of requests, the texts of replies, refusals and faults, reports and records.
+//! Tries the cases in `data/`: bodies of requests, the texts of replies, refusals and faults, reports, records and
+//! derived rows.
 //!
 //! The words are the files of cases. `docs/cases.md` says how a case is written, and the README which parts these have.
 #![tactic(auto)]
@@ -28,6 +29,7 @@ impl Subject for Desk {
             "fault" => refusals::printed_fault(alloc, case)?,
             "report" => sheets::report(alloc, case)?,
             "records" => sheets::records(alloc, case)?,
+            "derived" => sheets::derived(alloc, case)?,
             _ => return Err(Fail::new("a file of cases has an unknown kind")),
         };
         let mut answer = Vec::new(alloc);

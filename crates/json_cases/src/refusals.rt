@@ -52,6 +52,7 @@ fn refusal(alloc: Global, name: &str, fields: &str) -> Result<Refusal, Fail> {
         "Unavailable" => Ok(Refusal::Unavailable),
         "NoMemory" => Ok(Refusal::NoMemory),
         "RowWidth" => Ok(Refusal::RowWidth(long_number(fields)?)),
+        "NotNewer" => Ok(Refusal::NotNewer(long_number(fields)?)),
         _ => of_name(alloc, name, fields),
     }
 }
@@ -66,6 +67,8 @@ fn of_name(alloc: Global, refusal: &str, name: &str) -> Result<Refusal, Fail> {
         "Twice" => Ok(Refusal::Twice(name)),
         "Taken" => Ok(Refusal::Taken(name)),
         "BadName" => Ok(Refusal::BadName(name)),
+        "NotFixed" => Ok(Refusal::NotFixed(name)),
+        "NoColumn" => Ok(Refusal::NoColumn(name)),
         _ => Err(Fail::new("a case has an unknown refusal")),
     }
 }

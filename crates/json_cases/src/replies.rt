@@ -3,7 +3,9 @@ use crate::fields::{field, line, line_of, number, number_and, text, truth};
 use desk_base::{List, Text};
 use desk_cases::{Case, Part};
 use desk_json::text_of;
-use desk_words::{Batched, Made, Outcome, Reply, Shown, Stage, Suggested, View, ViewCell};
+use desk_words::{
+    Batched, Carried, Explained, Made, Outcome, Reply, Shown, Stage, Suggested, View, ViewCell,
+};
 use std::alloc::Global;
 use std::test::Fail;
 
@@ -17,8 +19,10 @@ pub fn printed(alloc: Global, case: &Case) -> Result<Part, Fail> {
         "committed" => committed(alloc, fields)?,
         "batched" => text_of(alloc, &Reply::Batched(batched(fields)?))?,
         "suggested" => text_of(alloc, &Reply::Suggested(suggested(alloc, case)?))?,
-        "opened" => text_of(alloc, &Reply::Opened(view(alloc, case, fields)?))?,
-        "view" => text_of(alloc, &Reply::View(view(alloc, case, fields)?))?,
+        "opened" => text_of(alloc, &Reply::Opened(view(alloc, case, fields, "")?))?,
+        "view" => text_of(alloc, &Reply::View(view(alloc, case, fields, "")?))?,
+        "explained" => text_of(alloc, &Reply::Explained(explained(alloc, case, fields)?))?,
+        "carried" => text_of(alloc, &Reply::Carried(carried(alloc, case, fields)?))?,
         made => text_of(alloc, &Reply::Made(made_of(alloc, made, fields)?))?,
     };
     Ok(Part::new(alloc, "text", text.as_slice())?)
@@ -117,8 +121,60 @@ fn gain(alloc: Global, fields: &str) -> Result<(Text, u16), Fail> {
     }
 }
 
-/// A session: its number, version, stage and edition, with the parts of the case.
-fn view(alloc: Global, case: &Case, fields: &str) -> Result<View, Fail> {
+/// An attribute, with the parts `step` and `use` of the case.
+fn explained(alloc: Global, case: &Case, attribute: &str) -> Result<Explained, Fail> {
+    Ok(Explained {
+        attribute: text(alloc, attribute)?,
+        steps: run(alloc, case, "step", "")?,
+        uses: texts(alloc, case, "use")?,
+    })
+}
+
+/// A session as it would be, and by the parts whose names begin with `old ` as it is, with the parts `added`, `dropped`
+/// and `changed` of the case.
+fn carried(alloc: Global, case: &Case, fields: &str) -> Result<Carried, Fail> {
+    Ok(Carried {
+        added: texts(alloc, case, "added")?,
+        dropped: texts(alloc, case, "dropped")?,
+        before: view(alloc, case, line_of(case, "old view")?, "old ")?,
+        after: view(alloc, case, fields, "")?,
+        changed: changed(alloc, case)?,
+    })
+}
+
+/// The places of the cells of the parts `changed`, before and after.
+fn changed(alloc: Global, case: &Case) -> Result<List<(u16, u16)>, Fail> {
+    let mut places = List::new(alloc);
+    for part in &case.parts {
+        if part.name.as_str() == "changed" {
+            let (old, new) = field(line(part)?)?;
+            places.push((place(old)?, place(new)?))?;
+        }
+    }
+    Ok(places)
+}
+
+/// A place of a cell, counted from 0.
+fn place(field: &str) -> Result<u16, Fail> {
+    match field.parse() {
+        Ok(place) => Ok(place),
+        Err(_) => Err(Fail::new("a case has a place that is no number")),
+    }
+}
+
+/// The texts of the parts of this name.
+fn texts(alloc: Global, case: &Case, name: &str) -> Result<List<Text>, Fail> {
+    let mut texts = List::new(alloc);
+    for part in &case.parts {
+        if part.name.as_str() == name {
+            texts.push(text(alloc, line(part)?)?)?;
+        }
+    }
+    Ok(texts)
+}
+
+/// A session: its number, version, stage and edition, with the parts of the case whose names begin so.
+fn view(alloc: Global, case: &Case, fields: &str, prefix: &str) -> Result<View, Fail> {
     let (session, rest) = number_and(fields)?;
     let (version, rest) = number_and(rest)?;
     let (stage_word, edition) = field(rest)?;
@@ -127,9 +183,9 @@ fn view(alloc: Global, case: &Case, fields: &str) -> Result<View, Fail> {
         edition: text(alloc, edition)?,
         version,
         stage: stage(stage_word)?,
-        cells: cells(alloc, case)?,
-        first: run(alloc, case, "first")?,
-        outcome: outcome(alloc, case)?,
+        cells: cells(alloc, case, prefix)?,
+        first: run(alloc, case, "first", prefix)?,
+        outcome: outcome(alloc, case, prefix)?,
     })
 }
 
@@ -144,27 +200,31 @@ pub fn stage(word: &str) -> Result<Stage, Fail> {
 }
 
 /// A conflict where the case has a part `conflict`, else a fix.
-fn outcome(alloc: Global, case: &Case) -> Result<Outcome, Fail> {
-    if case.part("conflict").is_some() {
+fn outcome(alloc: Global, case: &Case, prefix: &str) -> Result<Outcome, Fail> {
+    if case
+        .part(format!(in alloc; "{prefix}conflict")?.as_str())
+        .is_some()
+    {
         return Ok(Outcome::Conflict {
-            second: run(alloc, case, "second")?,
+            second: run(alloc, case, "second", prefix)?,
         });
     }
-    let dissent = match case.text("dissent") {
+    let dissent = match case.text(format!(in alloc; "{prefix}dissent")?.as_str()) {
         Some(fields) => Some(step(alloc, fields)?),
         None => None,
     };
+    let certain = format!(in alloc; "{prefix}certain")?;
     Ok(Outcome::Fix {
-        certain: truth(line_of(case, "certain")?),
+        certain: truth(line_of(case, certain.as_str())?),
         dissent,
     })
 }
 
-/// The steps of the parts of this name.
-fn run(alloc: Global, case: &Case, name: &str) -> Result<List<(Text, u32)>, Fail> {
+/// The steps of the parts of this name behind the prefix.
+fn run(alloc: Global, case: &Case, name: &str, prefix: &str) -> Result<List<(Text, u32)>, Fail> {
     let mut steps = List::new(alloc);
     for part in &case.parts {
-        if part.name.as_str() == name {
+        if part.name.as_str().strip_prefix(prefix) == Some(name) {
             steps.push(step(alloc, line(part)?)?)?;
         }
     }
@@ -177,15 +237,15 @@ fn step(alloc: Global, fields: &str) -> Result<(Text, u32), Fail> {
     Ok((text(alloc, rule)?, row))
 }
 
-/// The cells, in the order of the parts `open`, `confirmed` and `fixed`.
-fn cells(alloc: Global, case: &Case) -> Result<List<ViewCell>, Fail> {
+/// The cells, in the order of the parts `open`, `confirmed` and `fixed` behind the prefix.
+fn cells(alloc: Global, case: &Case, prefix: &str) -> Result<List<ViewCell>, Fail> {
     let mut cells = List::new(alloc);
     for part in &case.parts {
         let fields = line(part)?;
-        match part.name.as_str() {
-            "open" => cells.push(cell(alloc, Shown::Uncovered, fields)?)?,
-            "confirmed" => cells.push(cell(alloc, Shown::Confirmed, fields)?)?,
-            "fixed" => cells.push(fixed_cell(alloc, fields)?)?,
+        match part.name.as_str().strip_prefix(prefix) {
+            Some("open") => cells.push(cell(alloc, Shown::Uncovered, fields)?)?,
+            Some("confirmed") => cells.push(cell(alloc, Shown::Confirmed, fields)?)?,
+            Some("fixed") => cells.push(fixed_cell(alloc, fields)?)?,
             _ => {}
         }
     }

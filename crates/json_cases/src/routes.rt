@@ -1,5 +1,5 @@
 //! The route of a case.
-use crate::fields::{field, long_number, number, string};
+use crate::fields::{field, long_number, number, number_and, string};
 use desk_base::Str;
 use desk_json::Route;
 use std::alloc::Global;
@@ -13,8 +13,15 @@ pub fn route(alloc: Global, line: &str) -> Result<Route, Fail> {
         "report" => Ok(Route::Report {
             clerk: string(alloc, parameters)?,
         }),
-        "view" | "suggest" | "preview" | "records" => look(alloc, command, parameters),
-        "open" | "confirm" | "withdraw" | "commit" | "abandon" | "batch" => clerk_route(
+        "desk_derive" => {
+            let (edition, version) = version(alloc, parameters)?;
+            Ok(Route::DeskDerive { edition, version })
+        }
+        "view" | "suggest" | "preview" | "records" | "explain" | "see_carry" => look(
+            alloc, command, parameters,
+        ),
+        "open" | "batch" => entering(alloc, command, parameters),
+        "confirm" | "withdraw" | "commit" | "abandon" | "do_carry" => session_write(
             alloc, command, parameters,
         ),
         _ => steward_route(alloc, command, parameters),
@@ -40,15 +47,24 @@ fn steward_route(alloc: Global, command: &str, parameters: &str) -> Result<Route
             n,
             name: string(alloc, rest)?,
         }),
-        "regions" => {
-            let (edition, version) = version(alloc, rest)?;
-            Ok(Route::AddRegion {
-                n,
-                edition,
-                version,
-            })
-        }
+        "regions" | "steward_derive" => region_route(alloc, command, n, rest),
         _ => Err(unknown()),
+    }
+}
+
+fn region_route(alloc: Global, command: &str, n: u64, parameters: &str) -> Result<Route, Fail> {
+    let (edition, version) = version(alloc, parameters)?;
+    match command {
+        "regions" => Ok(Route::AddRegion {
+            n,
+            edition,
+            version,
+        }),
+        _ => Ok(Route::AddDerived {
+            n,
+            edition,
+            version,
+        }),
     }
 }
 
@@ -69,43 +85,30 @@ fn version(alloc: Global, line: &str) -> Result<(Str, u32), Fail> {
     Ok((string(alloc, name)?, number(version)?))
 }
 
-fn clerk_route(alloc: Global, command: &str, parameters: &str) -> Result<Route, Fail> {
+fn entering(alloc: Global, command: &str, parameters: &str) -> Result<Route, Fail> {
     let (clerk, rest) = field(parameters)?;
-    let (n, rest) = field(rest)?;
+    let (n, edition) = field(rest)?;
     let clerk = string(alloc, clerk)?;
     let n = long_number(n)?;
+    let edition = string(alloc, edition)?;
     match command {
-        "open" => Ok(Route::Enter {
-            clerk,
-            n,
-            edition: string(alloc, rest)?,
-        }),
-        "batch" => Ok(Route::Batch {
-            clerk,
-            n,
-            edition: string(alloc, rest)?,
-        }),
-        "confirm" => Ok(Route::Confirm {
-            clerk,
-            n,
-            session: number(rest)?,
-        }),
-        "withdraw" => Ok(Route::Withdraw {
-            clerk,
-            n,
-            session: number(rest)?,
-        }),
-        "commit" => Ok(Route::Commit {
-            clerk,
-            n,
-            session: number(rest)?,
-        }),
-        "abandon" => Ok(Route::Abandon {
-            clerk,
-            n,
-            session: number(rest)?,
-        }),
-        _ => Err(unknown()),
+        "open" => Ok(Route::Enter { clerk, n, edition }),
+        _ => Ok(Route::Batch { clerk, n, edition }),
+    }
+}
+
+fn session_write(alloc: Global, command: &str, parameters: &str) -> Result<Route, Fail> {
+    let (clerk, rest) = field(parameters)?;
+    let (n, session) = field(rest)?;
+    let clerk = string(alloc, clerk)?;
+    let n = long_number(n)?;
+    let session = number(session)?;
+    match command {
+        "confirm" => Ok(Route::Confirm { clerk, n, session }),
+        "withdraw" => Ok(Route::Withdraw { clerk, n, session }),
+        "commit" => Ok(Route::Commit { clerk, n, session }),
+        "abandon" => Ok(Route::Abandon { clerk, n, session }),
+        _ => Ok(Route::Carry { clerk, n, session }),
     }
 }
 
@@ -133,6 +136,23 @@ fn look(alloc: Global, command: &str, parameters: &str) -> Result<Route, Fail> {
                 version,
             })
         }
-        _ => Err(unknown()),
+        _ => longer_look(alloc, command, clerk, rest),
+    }
+}
+
+/// A look at a session, with what is asked of it.
+fn longer_look(alloc: Global, command: &str, clerk: Str, parameters: &str) -> Result<Route, Fail> {
+    let (session, rest) = number_and(parameters)?;
+    match command {
+        "explain" => Ok(Route::Explain {
+            clerk,
+            session,
+            name: string(alloc, rest)?,
+        }),
+        _ => Ok(Route::SeeCarry {
+            clerk,
+            session,
+            version: number(rest)?,
+        }),
     }
 }

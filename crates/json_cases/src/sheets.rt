@@ -1,12 +1,13 @@
-//! The report or the records of a case, and their texts.
+//! The report, the records or the derived rows of a case, and their texts.
 ghost use Rattle.std.specs.Prelude.{IsTrue};
+ghost use Rattle.desk_sheets.specs.Derived.{IsFull as IsWide};
 ghost use Rattle.desk_sheets.specs.Records.{IsFull};
 
 use crate::fields::{field, line, line_of, long_number, number, number_and, text, truth};
 use desk_base::{List, Text};
 use desk_cases::{Case, Part};
-use desk_sheets::{records_text, report_text};
-use desk_words::{RecordLine, RecordSheet, ReportLine, ReportSheet};
+use desk_sheets::{derived_text, records_text, report_text};
+use desk_words::{DerivedSheet, RecordLine, RecordSheet, ReportLine, ReportSheet};
 use std::alloc::Global;
 use std::test::Fail;
 
@@ -111,6 +112,28 @@ fn texts(alloc: Global, case: &Case, record: &str) -> Result<List<Text>, Fail> {
     Ok(texts)
 }
 
+/// The text of the derived rows that the parts of a case state; the texts of row N are the parts `text of N`.
+pub fn derived(alloc: Global, case: &Case) -> Result<Part, Fail> {
+    let mut sheet = DerivedSheet {
+        attributes: List::new(alloc),
+        rows: List::new(alloc),
+    };
+    for part in &case.parts {
+        let content = line(part)?;
+        match part.name.as_str() {
+            "attribute" => sheet.attributes.push(text(alloc, content)?)?,
+            "row" => sheet
+                .rows
+                .push((number(content)?, texts(alloc, case, content)?))?,
+            _ => {}
+        }
+    }
+    if !is_wide(&sheet) {
+        return Err(Fail::new("a derived row has not a text for each attribute"));
+    }
+    Ok(Part::new(alloc, "text", derived_text(alloc, &sheet)?.as_slice())?)
+}
+
 /// Whether each record has a text for each attribute.
 fn is_full(sheet: &RecordSheet) -> bool
     ensures { IsTrue result → IsFull sheet.now }
@@ -121,4 +144,12 @@ fn is_full(sheet: &RecordSheet) -> bool
         .as_slice()
         .iter()
         .all(|line| line.texts.len() == count)
+}
+
+/// Whether each derived row has a text for each attribute.
+fn is_wide(sheet: &DerivedSheet) -> bool
+    ensures { IsTrue result → IsWide sheet.now }
+{
+    let count = sheet.attributes.len();
+    sheet.rows.as_slice().iter().all(|row| row.1.len() == count)
 }

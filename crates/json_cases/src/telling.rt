@@ -33,6 +33,15 @@ pub fn told(alloc: Global, command: &Command) -> Result<String, Fail> {
             push_look(alloc, &mut lines, look)?;
         }
         Command::DeskReport => lines.push_str("desk report\n")?,
+        Command::DeskDerive {
+            edition,
+            version,
+            master,
+            pairs,
+        } => {
+            lines.push_str("desk derive\n")?;
+            push_derivation(alloc, &mut lines, edition, *version, master, pairs)?;
+        }
     }
     Ok(lines)
 }
@@ -81,8 +90,14 @@ fn push_cells(alloc: Global, lines: &mut String, cells: &List<(Str, Str)>) -> Re
     Ok(())
 }
 
-fn push_session(alloc: Global, lines: &mut String, name: &str, session: u32) -> Result<(), Fail> {
-    push_line(alloc, lines, name, session.to_string(alloc)?.as_str())
+fn push_number(alloc: Global, lines: &mut String, name: &str, number: u32) -> Result<(), Fail> {
+    push_line(alloc, lines, name, number.to_string(alloc)?.as_str())
+}
+
+/// The session that is carried, and the version to which it is.
+fn push_carry(alloc: Global, lines: &mut String, session: u32, version: u32) -> Result<(), Fail> {
+    push_number(alloc, lines, "carry", session)?;
+    push_number(alloc, lines, "to version", version)
 }
 
 fn push_body(lines: &mut String, body: &List<u8>) -> Result<(), Fail> {
@@ -113,6 +128,13 @@ fn push_steward_work(alloc: Global, lines: &mut String, work: &StewardWork) -> R
             push_version(alloc, lines, "over", schema.as_str(), *version)?;
             push_body(lines, body)
         }
+        _ => push_composed(alloc, lines, work),
+    }
+}
+
+/// What the steward makes of parts that are there: an edition or a region.
+fn push_composed(alloc: Global, lines: &mut String, work: &StewardWork) -> Result<(), Fail> {
+    match work {
         StewardWork::AddEdition {
             name,
             rulebook,
@@ -134,7 +156,36 @@ fn push_steward_work(alloc: Global, lines: &mut String, work: &StewardWork) -> R
             push_names(alloc, lines, "attribute", attrs)?;
             push_rows(alloc, lines, rows)
         }
+        StewardWork::AddDerived {
+            edition,
+            version,
+            master,
+            pairs,
+            from,
+        } => {
+            push_number(alloc, lines, "derived region from", *from)?;
+            push_derivation(alloc, lines, edition, *version, master, pairs)
+        }
+        _ => Err(Fail::new("a steward's work is told as what it is not")),
     }
+}
+
+/// Of which edition and by which master rows are derived, and for which pairs of an attribute and a column.
+fn push_derivation(
+    alloc: Global,
+    lines: &mut String,
+    edition: &Str,
+    version: u32,
+    master: &Str,
+    pairs: &List<(Str, Str)>,
+) -> Result<(), Fail> {
+    push_version(alloc, lines, "of", edition.as_str(), version)?;
+    push_line(alloc, lines, "by", master.as_str())?;
+    for pair in pairs.as_slice() {
+        let line = format!(in alloc; "pair {} {}\n", pair.0.as_str(), pair.1.as_str())?;
+        lines.push_str(line.as_str())?;
+    }
+    Ok(())
 }
 
 fn push_masters(alloc: Global, lines: &mut String, masters: &List<(Str, u32)>) -> Result<(), Fail> {
@@ -164,34 +215,35 @@ fn push_clerk_work(alloc: Global, lines: &mut String, work: &ClerkWork) -> Resul
             push_names(alloc, lines, "confirmed", confirmed)
         }
         ClerkWork::Confirm { session, cells } => {
-            push_session(alloc, lines, "confirm", *session)?;
+            push_number(alloc, lines, "confirm", *session)?;
             push_cells(alloc, lines, cells)
         }
         ClerkWork::Withdraw { session, names } => {
-            push_session(alloc, lines, "withdraw", *session)?;
+            push_number(alloc, lines, "withdraw", *session)?;
             push_names(alloc, lines, "name", names)
         }
         ClerkWork::Commit { session, accept } => {
-            push_session(alloc, lines, "commit", *session)?;
+            push_number(alloc, lines, "commit", *session)?;
             Ok(lines.push_str(match accept {
                 Accept::Certain => "certain\n",
                 Accept::Partial => "partial\n",
             })?)
         }
-        ClerkWork::Abandon { session } => push_session(alloc, lines, "abandon", *session),
+        ClerkWork::Abandon { session } => push_number(alloc, lines, "abandon", *session),
         ClerkWork::Batch { edition, body } => {
             push_line(alloc, lines, "batch", edition.as_str())?;
             push_body(lines, body)
         }
+        ClerkWork::Carry { session, version } => push_carry(alloc, lines, *session, *version),
     }
 }
 
 fn push_look(alloc: Global, lines: &mut String, look: &Look) -> Result<(), Fail> {
     match look {
-        Look::View { session } => push_session(alloc, lines, "view", *session),
-        Look::Suggest { session } => push_session(alloc, lines, "suggest", *session),
+        Look::View { session } => push_number(alloc, lines, "view", *session),
+        Look::Suggest { session } => push_number(alloc, lines, "suggest", *session),
         Look::Preview { session, cells } => {
-            push_session(alloc, lines, "preview", *session)?;
+            push_number(alloc, lines, "preview", *session)?;
             push_cells(alloc, lines, cells)
         }
         Look::Report => Ok(lines.push_str("report\n")?),
@@ -202,5 +254,10 @@ fn push_look(alloc: Global, lines: &mut String, look: &Look) -> Result<(), Fail>
             edition.as_str(),
             *version,
         ),
+        Look::Explain { session, name } => {
+            push_number(alloc, lines, "explain", *session)?;
+            push_line(alloc, lines, "name", name.as_str())
+        }
+        Look::Carry { session, version } => push_carry(alloc, lines, *session, *version),
     }
 }

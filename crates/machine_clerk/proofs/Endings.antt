@@ -24,7 +24,7 @@ use Rattle.machine_core.specs.Own.{Own}
 use Rattle.machine_core.specs.Tests.{active_session}
 use Rattle.machine_core.proofs.Chains.{bind-assoc}
 use Rattle.machine_clerk.specs.Ends.{accepted_record, fixed_end}
-use Rattle.machine_clerk.proofs.Answering.{Answers-found, Answers-stopped, Answers-then}
+use Rattle.machine_core.proofs.Answering.{Answers-found, Answers-stopped, Answers-then}
 
 -- what comes of an answer that is a fix comes of the end of its first run
 end-then : {B : Type 0} (kit : Kit) (state : State) (next : State → Checked B)

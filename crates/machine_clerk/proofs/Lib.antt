@@ -1,5 +1,4 @@
 pub mod FewTexts
-pub mod Answering
 pub mod Endings
 pub mod Columns
 pub mod Stars

@@ -9,6 +9,7 @@ ghost use Rattle.machine_core.specs.Shelves.{AreHeld, IsFullRoom};
 mod abandon;
 mod batch;
 mod bytes;
+mod carry;
 mod commit;
 mod confirm;
 mod enter;
@@ -17,6 +18,7 @@ mod withdraw;
 
 pub use abandon::abandon_deed;
 pub use batch::batch_deed;
+pub use carry::carry_deed;
 pub use commit::commit_deed;
 pub use confirm::{confirm_deed, confirm_row};
 use desk_words::{ClerkWork, Tables};
@@ -67,5 +69,6 @@ pub fn deed_of(
         ClerkWork::Batch { edition, body } => {
             batch_deed(alloc, tables, shelf, own, edition, body.as_slice())
         }
+        ClerkWork::Carry { session, version } => carry_deed(alloc, tables, own, *session, *version),
     }
 }

@@ -4,6 +4,6 @@
 mod clerk;
 
 pub use clerk::{
-    abandon_deed, batch_deed, commit_deed, confirm_deed, confirm_row, deed_of, enter_deed,
-    withdraw_deed,
+    abandon_deed, batch_deed, carry_deed, commit_deed, confirm_deed, confirm_row, deed_of,
+    enter_deed, withdraw_deed,
 };

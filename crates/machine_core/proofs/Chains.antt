@@ -1,5 +1,5 @@
 -- What a chain of tests gives, by what its parts give.
-use Rattle.std.proofs.Common.{◌≡◌, ◌⊎◌, ◌∙◌, inl, inr, refl, sym, subst}
+use Rattle.std.proofs.Common.{◌≡◌, ◌⊎◌, ◌∙◌, ℕ, List, inl, inr, refl, sym, subst}
 use Rattle.std.specs.Prelude.{Result, Ok, Err}
 use Rattle.desk_words.specs.declared.refusal.Refusal.{Refusal}
 use Rattle.fix_model.specs.declared.kit.Kit.{Kit}
@@ -7,7 +7,8 @@ use Rattle.fix_model.specs.declared.state.State.{State}
 use Rattle.fix_engine.specs.Verdicts.{IsAnswer}
 use Rattle.fix_engine.proofs.Once.{IsAnswer-unique}
 use Rattle.region_suggest.specs.declared.suggestion.Suggestion.{Suggestion}
-use Rattle.machine_core.specs.Checked.{Answer, Checked, done, refused, asked, advised, never, ◌>>=◌, Gives}
+use Rattle.machine_core.specs.Checked.{Answer, Checked, Explanation, done, refused, asked, advised, explained, derived, compared, never, ◌>>=◌, Gives}
+use Rattle.machine_core.proofs.Questions.{AreChanged-unique, AreDerived-unique, IsExplanation-unique}
 use Rattle.machine_core.proofs.Suggestions.{IsSuggestion-unique}
 
 -- what is done is not refused
@@ -48,6 +49,18 @@ Gives-unique {A} (advised kit state regions next) result other gives gives_too =
     let P : Suggestion → Type 0 = λ suggestion. Gives (next suggestion) result in
     Gives-unique (next gives_too.0) result other
     (subst P (IsSuggestion-unique kit state regions gives.0 gives_too.0 gives.1 gives_too.1) gives.2) gives_too.2
+Gives-unique {A} (explained kit state run attribute next) result other gives gives_too =
+    let P : Explanation → Type 0 = λ explanation. Gives (next explanation) result in
+    Gives-unique (next gives_too.0) result other
+    (subst P (IsExplanation-unique kit state run attribute gives.0 gives_too.0 gives.1 gives_too.1) gives.2) gives_too.2
+Gives-unique {A} (derived kit grid attributes columns next) result other gives gives_too =
+    let P : List (ℕ × List (List ℕ)) → Type 0 = λ rows. Gives (next rows) result in
+    Gives-unique (next gives_too.0) result other
+    (subst P (AreDerived-unique kit grid attributes columns gives.0 gives_too.0 gives.1 gives_too.1) gives.2) gives_too.2
+Gives-unique {A} (compared before after next) result other gives gives_too =
+    let P : List (ℕ × ℕ) → Type 0 = λ pairs. Gives (next pairs) result in
+    Gives-unique (next gives_too.0) result other
+    (subst P (AreChanged-unique before after gives.0 gives_too.0 gives.1 gives_too.1) gives.2) gives_too.2
 Gives-unique never result other gives gives_too = absurd gives
 
 -- where a chain gives a value, its first part gave one, and the rest gave it of that
@@ -59,6 +72,15 @@ Gives-bind_ok (asked kit state more) next value gives =
     let rest = Gives-bind_ok (more gives.0) next value gives.2 in
     (rest.0, (gives.0, gives.1, rest.1), rest.2)
 Gives-bind_ok (advised kit state regions more) next value gives =
+    let rest = Gives-bind_ok (more gives.0) next value gives.2 in
+    (rest.0, (gives.0, gives.1, rest.1), rest.2)
+Gives-bind_ok (explained kit state run attribute more) next value gives =
+    let rest = Gives-bind_ok (more gives.0) next value gives.2 in
+    (rest.0, (gives.0, gives.1, rest.1), rest.2)
+Gives-bind_ok (derived kit grid attributes columns more) next value gives =
+    let rest = Gives-bind_ok (more gives.0) next value gives.2 in
+    (rest.0, (gives.0, gives.1, rest.1), rest.2)
+Gives-bind_ok (compared before after more) next value gives =
     let rest = Gives-bind_ok (more gives.0) next value gives.2 in
     (rest.0, (gives.0, gives.1, rest.1), rest.2)
 Gives-bind_ok never next value gives = absurd gives
@@ -79,6 +101,21 @@ Gives-bind_err (advised kit state regions more) next refusal gives =
       | inl first ↦ inl (gives.0, gives.1, first)
       | inr rest ↦ inr (rest.0, (gives.0, gives.1, rest.1), rest.2)
     ]
+Gives-bind_err (explained kit state run attribute more) next refusal gives =
+    elim (Gives-bind_err (more gives.0) next refusal gives.2) [
+      | inl first ↦ inl (gives.0, gives.1, first)
+      | inr rest ↦ inr (rest.0, (gives.0, gives.1, rest.1), rest.2)
+    ]
+Gives-bind_err (derived kit grid attributes columns more) next refusal gives =
+    elim (Gives-bind_err (more gives.0) next refusal gives.2) [
+      | inl first ↦ inl (gives.0, gives.1, first)
+      | inr rest ↦ inr (rest.0, (gives.0, gives.1, rest.1), rest.2)
+    ]
+Gives-bind_err (compared before after more) next refusal gives =
+    elim (Gives-bind_err (more gives.0) next refusal gives.2) [
+      | inl first ↦ inl (gives.0, gives.1, first)
+      | inr rest ↦ inr (rest.0, (gives.0, gives.1, rest.1), rest.2)
+    ]
 Gives-bind_err never next refusal gives = absurd gives
 
 -- a chain gives what its parts give
@@ -93,6 +130,12 @@ Gives-bind (asked kit state more) next found result is rest =
     (is.0, is.1, Gives-bind (more is.0) next found result is.2 rest)
 Gives-bind (advised kit state regions more) next found result is rest =
     (is.0, is.1, Gives-bind (more is.0) next found result is.2 rest)
+Gives-bind (explained kit state run attribute more) next found result is rest =
+    (is.0, is.1, Gives-bind (more is.0) next found result is.2 rest)
+Gives-bind (derived kit grid attributes columns more) next found result is rest =
+    (is.0, is.1, Gives-bind (more is.0) next found result is.2 rest)
+Gives-bind (compared before after more) next found result is rest =
+    (is.0, is.1, Gives-bind (more is.0) next found result is.2 rest)
 Gives-bind never next found result is rest = absurd is
 
 -- a chain is refused where its first part is
@@ -104,6 +147,12 @@ Gives-bind_refused (asked kit state more) next refusal gives =
     (gives.0, gives.1, Gives-bind_refused (more gives.0) next refusal gives.2)
 Gives-bind_refused (advised kit state regions more) next refusal gives =
     (gives.0, gives.1, Gives-bind_refused (more gives.0) next refusal gives.2)
+Gives-bind_refused (explained kit state run attribute more) next refusal gives =
+    (gives.0, gives.1, Gives-bind_refused (more gives.0) next refusal gives.2)
+Gives-bind_refused (derived kit grid attributes columns more) next refusal gives =
+    (gives.0, gives.1, Gives-bind_refused (more gives.0) next refusal gives.2)
+Gives-bind_refused (compared before after more) next refusal gives =
+    (gives.0, gives.1, Gives-bind_refused (more gives.0) next refusal gives.2)
 Gives-bind_refused never next refusal gives = absurd gives
 
 -- a chain that finds nothing more is its first part
@@ -112,6 +161,11 @@ bind-done (done value) = refl
 bind-done (refused refusal) = refl
 bind-done (asked kit state more) = λ i. asked kit state (λ answer. bind-done (more answer) i)
 bind-done (advised kit state regions more) = λ i. advised kit state regions (λ suggestion. bind-done (more suggestion) i)
+bind-done (explained kit state run attribute more) =
+    λ i. explained kit state run attribute (λ explanation. bind-done (more explanation) i)
+bind-done (derived kit grid attributes columns more) =
+    λ i. derived kit grid attributes columns (λ rows. bind-done (more rows) i)
+bind-done (compared before after more) = λ i. compared before after (λ pairs. bind-done (more pairs) i)
 bind-done never = refl
 
 -- chains may be grouped either way
@@ -122,4 +176,10 @@ bind-assoc (refused refusal) next last = refl
 bind-assoc (asked kit state more) next last = λ i. asked kit state (λ answer. bind-assoc (more answer) next last i)
 bind-assoc (advised kit state regions more) next last =
     λ i. advised kit state regions (λ suggestion. bind-assoc (more suggestion) next last i)
+bind-assoc (explained kit state run attribute more) next last =
+    λ i. explained kit state run attribute (λ explanation. bind-assoc (more explanation) next last i)
+bind-assoc (derived kit grid attributes columns more) next last =
+    λ i. derived kit grid attributes columns (λ rows. bind-assoc (more rows) next last i)
+bind-assoc (compared before after more) next last =
+    λ i. compared before after (λ pairs. bind-assoc (more pairs) next last i)
 bind-assoc never next last = refl

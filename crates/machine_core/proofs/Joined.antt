@@ -2,7 +2,7 @@
 use Rattle.std.proofs.Common.{◌≡◌, ◌∙◌, ℕ, ◌+◌, ◌<◌, ◌≤◌, suc, refl, sym, ap, List, [], ◌∷◌, ◌++◌, length, get_or, drop, append_assoc, drop-cons, add-one}
 use Rattle.std.proofs.lemmas.List.{append-nil, drop_all}
 use Rattle.desk_words.specs.declared.refusal.Refusal.{Refusal}
-use Rattle.machine_core.specs.Checked.{Checked, done, refused, asked, advised, never, ◌>>=◌, each, each_behind}
+use Rattle.machine_core.specs.Checked.{Checked, done, refused, asked, advised, explained, derived, compared, never, ◌>>=◌, each, each_behind}
 use Rattle.machine_core.proofs.Chains.{bind-done}
 
 -- what is found stands behind what was found before
@@ -17,6 +17,12 @@ joined-next before found (refused refusal) = refl
 joined-next before found (asked kit state next) = λ i. asked kit state (λ answer. joined-next before found (next answer) i)
 joined-next before found (advised kit state regions next) =
     λ i. advised kit state regions (λ suggestion. joined-next before found (next suggestion) i)
+joined-next before found (explained kit state run attribute next) =
+    λ i. explained kit state run attribute (λ explanation. joined-next before found (next explanation) i)
+joined-next before found (derived kit grid attributes columns next) =
+    λ i. derived kit grid attributes columns (λ rows. joined-next before found (next rows) i)
+joined-next before found (compared one other next) =
+    λ i. compared one other (λ pairs. joined-next before found (next pairs) i)
 joined-next before found never = refl
 
 -- where nothing was found before, all is still to find

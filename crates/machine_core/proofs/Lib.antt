@@ -1,4 +1,5 @@
 pub mod Suggestions
+pub mod Questions
 pub mod Chains
 pub mod Tested
 pub mod Joined
@@ -9,5 +10,12 @@ pub mod InOrder
 pub mod Masters
 pub mod FullRows
 pub mod Widths
+pub mod EditionWords
 pub mod GoodRows
 pub mod Placing
+pub mod Distinct
+pub mod Deriving
+pub mod Answering
+pub mod Pairs
+pub mod ReadRows
+pub mod Carried

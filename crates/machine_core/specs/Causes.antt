@@ -5,27 +5,29 @@ use Rattle.desk_base.specs.declared.limits.TheConstants.{MAX_ENTRIES, MAX_TEXT}
 use Rattle.desk_base.specs.Words.{is_name}
 use Rattle.desk_words.specs.declared.clerk_work.Accept.{Accept}
 use Rattle.desk_words.specs.declared.clerk_work.Accept.TheVariants.{Certain}
-use Rattle.desk_words.specs.declared.clerk_work.ClerkWork.TheVariants.{Enter, Confirm, Withdraw, Commit, Abandon, Batch}
+use Rattle.desk_words.specs.declared.clerk_work.ClerkWork.TheVariants.{Enter, Confirm, Withdraw, Commit, Abandon, Batch, Carry}
 use Rattle.desk_words.specs.declared.command.Command.{Command}
-use Rattle.desk_words.specs.declared.command.Command.TheVariants.{Steward, Clerk, Look, DeskReport}
+use Rattle.desk_words.specs.declared.command.Command.TheVariants.{Steward, Clerk, Look, DeskReport, DeskDerive}
 use Rattle.desk_words.specs.declared.command.Ticket.{Ticket}
 use Rattle.desk_words.specs.declared.limit.Which.{Which}
 use Rattle.desk_words.specs.declared.limit.Which.TheVariants as which
+use Rattle.desk_words.specs.declared.look.Look.TheVariants.{Explain}
 use Rattle.desk_words.specs.declared.refusal.Kind.TheVariants as kind
 use Rattle.desk_words.specs.declared.refusal.Reader.TheVariants as reader
 use Rattle.desk_words.specs.declared.refusal.Refusal.{Refusal}
-use Rattle.desk_words.specs.declared.refusal.Refusal.TheVariants.{NoClerk, Stale, Gap, Reused, NoSuch, Closed, UnknownAttr, ValueLong, NotCertain, InConflict, NotConfirmed, Limit, BadText, Unavailable, NoMemory, Twice, Taken, BadName, RowWidth}
+use Rattle.desk_words.specs.declared.refusal.Refusal.TheVariants.{NoClerk, Stale, Gap, Reused, NoSuch, Closed, UnknownAttr, ValueLong, NotCertain, InConflict, NotConfirmed, Limit, BadText, Unavailable, NoMemory, Twice, Taken, BadName, RowWidth, NotFixed, NoColumn, NotNewer}
 use Rattle.desk_words.specs.declared.rows.clerk.ClerkRow.{ClerkRow}
 use Rattle.desk_words.specs.declared.rows.edition.EditionRow.{EditionRow}
 use Rattle.desk_words.specs.declared.rows.session.SessionRow.{SessionRow}
 use Rattle.desk_words.specs.declared.rows.session.Stage.TheVariants.{Active}
-use Rattle.desk_words.specs.declared.steward_work.StewardWork.TheVariants.{AddClerk, AddSchema, AddMaster, AddRulebook, AddEdition, AddRegion}
+use Rattle.desk_words.specs.declared.steward_work.StewardWork.TheVariants.{AddClerk, AddSchema, AddMaster, AddRulebook, AddEdition, AddRegion, AddDerived}
 use Rattle.desk_words.specs.Tables.{Rows, published_of}
 use Rattle.desk_valid.specs.declared.bound.Bound.{Bound}
 use Rattle.desk_valid.specs.Bindings.{binding, bound_at, parts_of}
 use Rattle.desk_valid.specs.Readings.{all_of, rules_at, schema_at}
 use Rattle.desk_valid.specs.Tallies.{active_count, bytes_in, cell_count, master_cells, text_bytes, typed_bytes}
 use Rattle.fix_engine.specs.declared.verdict.Verdict.TheVariants.{Conflict}
+use Rattle.fix_explain.specs.Reasons.{IsFixed}
 use Rattle.fix_engine.specs.Verdicts.{IsAnswer}
 use Rattle.fix_model.specs.declared.kit.Kit.{Kit}
 use Rattle.fix_model.specs.Entries.{entries}
@@ -47,14 +49,17 @@ use Rattle.machine_core.specs.Clerk.Batch.{another_column, row_session}
 use Rattle.machine_core.specs.Clerk.Commit.{record_at}
 use Rattle.machine_core.specs.Clerk.Confirm.{bytes_with, confirm_row}
 use Rattle.machine_core.specs.Clerk.Enter.{typed_over}
+use Rattle.machine_core.specs.Deriving.{master_of}
 use Rattle.machine_core.specs.Faults.{bind_refusal, rules_refusal, schema_refusal, sheet_refusal}
 use Rattle.machine_core.specs.Finding.{edition_named, master_named, newest_edition, rulebook_named, schema_named, session_at}
 use Rattle.machine_core.specs.Limits.{limit_of}
 use Rattle.machine_core.specs.Machine.{clerk_of}
-use Rattle.machine_core.specs.Named.{GivesText, attributes_in, clerk_in, edition_in, masters_in, new_name_in, rulebook_in, schema_in, session_in, version_in}
+use Rattle.machine_core.specs.Named.{GivesText, attributes_in, carried_in, clerk_in, columns_in, edition_in, master_in, masters_in, new_name_in, rulebook_in, schema_in, session_in, version_in}
 use Rattle.machine_core.specs.Own.{Own, own_of}
+use Rattle.machine_core.specs.Steward.AddEdition.{master_name}
 use Rattle.machine_core.specs.Steward.AddRegion.{region_count}
 use Rattle.machine_core.specs.Tests.{typed_cell}
+use Rattle.machine_core.specs.Views.{edition_at}
 
 -- a clerk asks, and these are the clerk's own rows
 pub record AsksWith (rows : Rows) (command : Command) (own : Own) : Type 0 where
@@ -71,6 +76,7 @@ WritesWith rows (Clerk name ticket work) row one =
     (place : ℕ) × (clerk_of rows.clerks name ≡ done place) × (row ≡ (own_of rows place).row) × (one ≡ ticket)
 WritesWith rows (Look name look) row one = ⊥
 WritesWith rows DeskReport row one = ⊥
+WritesWith rows (DeskDerive edition version master pairs) row one = ⊥
 
 -- the command names this session of the clerk who asks
 pub record Names (rows : Rows) (command : Command) (session : SessionRow) : Type 0 where
@@ -119,6 +125,23 @@ pub record Commits (rows : Rows) (command : Command) (accept : Accept) (session 
   pub binds : bound_at (published_of rows) session.edition ≡ Some bound
   pub answers : IsAnswer bound.kit (state_of session) answer.first answer.second answer.verdict
 
+-- the command asks why this attribute of this session is fixed, and the rules make this of it
+pub record Explains (rows : Rows) (command : Command) (word : List ℕ) (session : SessionRow) (bound : Bound)
+    (answer : Answer) : Type 0 where
+  pub name : List ℕ
+  pub number : ℕ
+  pub is : command ≡ Look name (Explain number word)
+  pub names : Names rows command session
+  pub binds : bound_at (published_of rows) session.edition ≡ Some bound
+  pub answers : IsAnswer bound.kit (state_of session) answer.first answer.second answer.verdict
+
+-- the edition's row that the command is about, and the name of one of its masters
+pub record AsksMaster (rows : Rows) (command : Command) (edition : EditionRow) (name : List ℕ) : Type 0 where
+  pub place : ℕ
+  pub about : IsAbout rows command place
+  pub is : edition ≡ edition_at (published_of rows) place
+  pub names : master_in command ≡ Some name
+
 -- so many attributes are uncovered at the end of the first run
 abbrev pub open_count : SessionRow → Bound → Answer → ℕ
 open_count session bound answer = uncovered_count (end_of bound.kit (state_of session) answer.first)
@@ -155,6 +178,7 @@ RefusesBody rows (Steward ticket (AddEdition name rulebook masters folded)) refu
     × (refusal ≡ BadText reader.Index 1 (entries kit) 0)))
 RefusesBody rows (Steward ticket (AddClerk name)) refusal = ⊥
 RefusesBody rows (Steward ticket (AddRegion edition version attributes texts)) refusal = ⊥
+RefusesBody rows (Steward ticket (AddDerived edition version master pairs from)) refusal = ⊥
 RefusesBody rows (Clerk name ticket (Batch edition body)) refusal =
     (fault : SheetFault) × (read_sheet body ≡ Err fault) × (refusal ≡ sheet_refusal fault)
 RefusesBody rows (Clerk name ticket (Enter edition cells confirmed)) refusal = ⊥
@@ -162,8 +186,10 @@ RefusesBody rows (Clerk name ticket (Confirm number cells)) refusal = ⊥
 RefusesBody rows (Clerk name ticket (Withdraw number words)) refusal = ⊥
 RefusesBody rows (Clerk name ticket (Commit number accept)) refusal = ⊥
 RefusesBody rows (Clerk name ticket (Abandon number)) refusal = ⊥
+RefusesBody rows (Clerk name ticket (Carry number version)) refusal = ⊥
 RefusesBody rows (Look name look) refusal = ⊥
 RefusesBody rows DeskReport refusal = ⊥
+RefusesBody rows (DeskDerive edition version master pairs) refusal = ⊥
 
 -- a row of this number in a new region has not one text for each attribute
 abbrev pub HasNarrowRow : Command → ℕ → Type 0
@@ -175,9 +201,11 @@ HasNarrowRow (Steward ticket (AddSchema body)) number = ⊥
 HasNarrowRow (Steward ticket (AddMaster name body)) number = ⊥
 HasNarrowRow (Steward ticket (AddRulebook name schema version body)) number = ⊥
 HasNarrowRow (Steward ticket (AddEdition name rulebook masters folded)) number = ⊥
+HasNarrowRow (Steward ticket (AddDerived edition version master pairs from)) number = ⊥
 HasNarrowRow (Clerk name ticket work) number = ⊥
 HasNarrowRow (Look name look) number = ⊥
 HasNarrowRow DeskReport number = ⊥
+HasNarrowRow (DeskDerive edition version master pairs) number = ⊥
 
 -- an equal name stands before this one among names
 pub record StandsTwice (names : List (List ℕ)) (name : List ℕ) : Type 0 where
@@ -195,9 +223,11 @@ MakesSessions (Clerk name ticket (Confirm number cells)) count = ⊥
 MakesSessions (Clerk name ticket (Withdraw number words)) count = ⊥
 MakesSessions (Clerk name ticket (Commit number accept)) count = ⊥
 MakesSessions (Clerk name ticket (Abandon number)) count = ⊥
+MakesSessions (Clerk name ticket (Carry number version)) count = ⊥
 MakesSessions (Look name look) count = ⊥
 MakesSessions (Steward ticket work) count = ⊥
 MakesSessions DeskReport count = ⊥
+MakesSessions (DeskDerive edition version master pairs) count = ⊥
 
 -- so many bytes of a clerk's texts would stand
 abbrev pub HoldsBytes : Rows → Command → Own → ℕ → Type 0
@@ -223,9 +253,11 @@ HoldsBytes rows (Clerk name ticket (Batch edition body)) own count =
     (length bound.names.attributes) (length own.batches + 1) columns) sheet.grid.rows))
 HoldsBytes rows (Clerk name ticket (Withdraw number words)) own count = ⊥
 HoldsBytes rows (Clerk name ticket (Abandon number)) own count = ⊥
+HoldsBytes rows (Clerk name ticket (Carry number version)) own count = ⊥
 HoldsBytes rows (Look name look) own count = ⊥
 HoldsBytes rows (Steward ticket work) own count = ⊥
 HoldsBytes rows DeskReport own count = ⊥
+HoldsBytes rows (DeskDerive edition version master pairs) own count = ⊥
 
 -- so many of a kind would stand after the command
 abbrev pub WouldStand : Rows → Command → Which → ℕ → Type 0
@@ -287,8 +319,10 @@ Cause rows command (NoSuch kind.Schema) =
     (version : List ℕ × ℕ) × (schema_in command ≡ Some version)
     × (schema_named rows.schemas version.0 version.1 ≡ None)
 Cause rows command (NoSuch kind.Master) =
-    (version : List ℕ × ℕ) × Contains (masters_in command) version
-    × (master_named rows.masters version.0 version.1 ≡ None)
+    ((version : List ℕ × ℕ) × Contains (masters_in command) version
+    × (master_named rows.masters version.0 version.1 ≡ None))
+    ⊎ ((edition : EditionRow) × (name : List ℕ) × AsksMaster rows command edition name
+    × All (λ place. master_name rows.masters place ≢ name) edition.masters)
 Cause rows command (NoSuch kind.Rulebook) =
     (version : List ℕ × ℕ) × (rulebook_in command ≡ Some version)
     × (rulebook_named rows.rulebooks version.0 version.1 ≡ None)
@@ -296,6 +330,8 @@ Cause rows command (NoSuch kind.Edition) =
     ((name : List ℕ) × (edition_in command ≡ Some name) × (newest_edition rows.editions name ≡ None))
     ⊎ ((version : List ℕ × ℕ) × (version_in command ≡ Some version)
     × (edition_named rows.editions version.0 version.1 ≡ None))
+    ⊎ ((session : SessionRow) × (version : ℕ) × Names rows command session × (carried_in command ≡ Some version)
+    × (edition_named rows.editions (edition_at (published_of rows) session.edition).name version ≡ None))
 Cause rows command (NoSuch kind.Session) =
     (own : Own) × (number : ℕ) × AsksWith rows command own × (session_in command ≡ Some number)
     × (session_at own.sessions number ≡ None)
@@ -309,8 +345,9 @@ Cause rows command (NotCertain count) =
     (session : SessionRow) × (bound : Bound) × (answer : Answer) × Commits rows command Certain session bound answer
     × (answer.verdict ≢ Conflict) × (count ≡ open_count session bound answer) × (0 < count)
 Cause rows command InConflict =
-    (accept : Accept) × (session : SessionRow) × (bound : Bound) × (answer : Answer)
-    × Commits rows command accept session bound answer × (answer.verdict ≡ Conflict)
+    (session : SessionRow) × (bound : Bound) × (answer : Answer) × (answer.verdict ≡ Conflict)
+    × (((accept : Accept) × Commits rows command accept session bound answer)
+    ⊎ ((word : List ℕ) × Explains rows command word session bound answer))
 Cause rows command (NotConfirmed word) =
     (session : SessionRow) × (place : ℕ) × Withdraws rows command word session place
     × (slice_index_or session.confirmed place false ≡ false)
@@ -321,8 +358,21 @@ Cause rows command Unavailable = ⊥
 Cause rows command NoMemory = ⊥
 Cause rows command (Twice name) =
     StandsTwice (attributes_in command) name ⊎ StandsTwice (map (λ master. master.0) (masters_in command)) name
+    ⊎ StandsTwice (columns_in command) name
 Cause rows command (Taken name) =
     (ticket : Ticket) × (row : ClerkRow) × (command ≡ Steward ticket (AddClerk name)) × Contains rows.clerks row
     × (row.name ≡ name)
 Cause rows command (BadName name) = (new_name_in command ≡ Some name) × ¬ IsTrue (is_name name)
 Cause rows command (RowWidth number) = HasNarrowRow command number
+Cause rows command (NotFixed word) =
+    (session : SessionRow) × (bound : Bound) × (answer : Answer) × (place : ℕ)
+    × Explains rows command word session bound answer × (answer.verdict ≢ Conflict)
+    × (position (bytes_eq word) bound.names.attributes ≡ Some place)
+    × ¬ IsFixed (end_of bound.kit (state_of session) answer.first) place
+Cause rows command (NoColumn word) =
+    (edition : EditionRow) × (name : List ℕ) × (sheet : Master) × AsksMaster rows command edition name
+    × (master_of (published_of rows) edition name ≡ done sheet) × Contains (columns_in command) word
+    × All (λ one. one ≢ word) sheet.columns
+Cause rows command (NotNewer version) =
+    (session : SessionRow) × (asked_for : ℕ) × Names rows command session × (carried_in command ≡ Some asked_for)
+    × (version ≡ (edition_at (published_of rows) session.edition).version) × (asked_for ≤ version)

@@ -5,3 +5,4 @@ pub mod Withdraw
 pub mod Commit
 pub mod Abandon
 pub mod Batch
+pub mod Carry

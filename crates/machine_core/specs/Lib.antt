@@ -11,7 +11,9 @@ pub mod Ticket
 pub mod Own
 pub mod OwnRows
 pub mod Answers
+pub mod Words
 pub mod Views
+pub mod Deriving
 pub mod Steward
 pub mod Clerk
 pub mod Look

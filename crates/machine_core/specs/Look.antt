@@ -4,3 +4,5 @@ pub mod Suggest
 pub mod Preview
 pub mod Report
 pub mod Records
+pub mod Explain
+pub mod Carry

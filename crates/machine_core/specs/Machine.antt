@@ -4,31 +4,34 @@ use Rattle.std.specs.Str.{bytes_eq}
 use Rattle.desk_words.specs.declared.change.Change.{Change}
 use Rattle.desk_words.specs.declared.change.Change.TheVariants as change
 use Rattle.desk_words.specs.declared.clerk_work.ClerkWork.{ClerkWork}
-use Rattle.desk_words.specs.declared.clerk_work.ClerkWork.TheVariants.{Enter, Confirm, Withdraw, Commit, Abandon, Batch}
+use Rattle.desk_words.specs.declared.clerk_work.ClerkWork.TheVariants.{Enter, Confirm, Withdraw, Commit, Abandon, Batch, Carry}
 use Rattle.desk_words.specs.declared.command.Command.{Command}
-use Rattle.desk_words.specs.declared.command.Command.TheVariants.{Steward, Clerk, Look, DeskReport}
+use Rattle.desk_words.specs.declared.command.Command.TheVariants.{Steward, Clerk, Look, DeskReport, DeskDerive}
 use Rattle.desk_words.specs.declared.command.Ticket.{Ticket}
 use Rattle.desk_words.specs.declared.look.Look.{Look as LookOf}
-use Rattle.desk_words.specs.declared.look.Look.TheVariants.{View, Suggest, Preview, Report, Records}
+use Rattle.desk_words.specs.declared.look.Look.TheVariants.{View, Suggest, Preview, Report, Records, Explain, Carry as CarryLook}
 use Rattle.desk_words.specs.declared.refusal.Refusal.{Refusal}
 use Rattle.desk_words.specs.declared.refusal.Refusal.TheVariants.{NoClerk}
 use Rattle.desk_words.specs.declared.reply.Reply.{Reply}
 use Rattle.desk_words.specs.declared.reply.Reply.TheVariants as reply
-use Rattle.desk_words.specs.declared.rows.act.Act.{Act}
 use Rattle.desk_words.specs.declared.rows.act.Act.TheVariants as act
 use Rattle.desk_words.specs.declared.rows.clerk.ClerkRow.{ClerkRow}
 use Rattle.desk_words.specs.declared.steward_work.StewardWork.{StewardWork}
-use Rattle.desk_words.specs.declared.steward_work.StewardWork.TheVariants.{AddClerk, AddSchema, AddMaster, AddRulebook, AddEdition, AddRegion}
+use Rattle.desk_words.specs.declared.steward_work.StewardWork.TheVariants.{AddClerk, AddSchema, AddMaster, AddRulebook, AddEdition, AddRegion, AddDerived}
 use Rattle.desk_words.specs.Changes.{changed}
 use Rattle.desk_words.specs.Tables.{Published, Rows, published_of}
 use Rattle.machine_core.specs.Checked.{Checked, ◌>>=◌, done, Gives, some_or}
 use Rattle.machine_core.specs.Clerk.Abandon.{abandon}
 use Rattle.machine_core.specs.Clerk.Batch.{enter_batch}
+use Rattle.machine_core.specs.Clerk.Carry.{carry}
 use Rattle.machine_core.specs.Clerk.Commit.{commit}
 use Rattle.machine_core.specs.Clerk.Confirm.{confirm}
 use Rattle.machine_core.specs.Clerk.Enter.{enter}
 use Rattle.machine_core.specs.Clerk.Withdraw.{withdraw}
+use Rattle.machine_core.specs.Deriving.{derived_sheet}
 use Rattle.machine_core.specs.Kept.{kept_reply, kept_made}
+use Rattle.machine_core.specs.Look.Carry.{carrying}
+use Rattle.machine_core.specs.Look.Explain.{explain}
 use Rattle.machine_core.specs.Look.Preview.{preview}
 use Rattle.machine_core.specs.Look.Records.{records_of}
 use Rattle.machine_core.specs.Look.Report.{report_of}
@@ -38,6 +41,7 @@ use Rattle.machine_core.specs.Own.{Own, after, changes_of, own_of}
 use Rattle.machine_core.specs.declared.deed.Deed.{Deed}
 use Rattle.machine_core.specs.declared.making.Making.{Making}
 use Rattle.machine_core.specs.Steward.AddClerk.{clerk_row}
+use Rattle.machine_core.specs.Steward.AddDerived.{derived_region}
 use Rattle.machine_core.specs.Steward.AddEdition.{edition_row}
 use Rattle.machine_core.specs.Steward.AddMaster.{master_row}
 use Rattle.machine_core.specs.Steward.AddRegion.{region_row}
@@ -67,6 +71,9 @@ making_of rows (AddEdition name rulebook masters folded) = do
 making_of rows (AddRegion edition version attributes texts) = do
   row ← region_row (published_of rows) edition version attributes texts
   done (record { change = change.Region row; act = act.Region; target = length rows.regions })
+making_of rows (AddDerived edition version master pairs from) = do
+  row ← derived_region (published_of rows) edition version master pairs from
+  done (record { change = change.Region row; act = act.Region; target = length rows.regions })
 
 -- the changes of what the steward makes: the steward's own row stands last
 abbrev pub making_changes : ClerkRow → Ticket → Making → List Change
@@ -91,6 +98,7 @@ deed_of published own (Withdraw number names) = withdraw published own number na
 deed_of published own (Commit number accept) = commit published own number accept
 deed_of published own (Abandon number) = abandon own number
 deed_of published own (Batch edition body) = enter_batch published own edition body
+deed_of published own (Carry number version) = carry published own number version
 
 -- a clerk's write at its turn: the reply is the kept one over the rows after it
 abbrev pub clerk_write_at : Published → Own → ClerkWork → UseOf → Checked (Reply × Option Deed)
@@ -125,6 +133,12 @@ look_reply published own Report = do
 look_reply published own (Records edition version) = do
   sheet ← records_of published own edition version
   done (reply.Records sheet)
+look_reply published own (Explain number word) = do
+  explanation ← explain published own number word
+  done (reply.Explained explanation)
+look_reply published own (CarryLook number version) = do
+  carried ← carrying published own number version
+  done (reply.Carried carried)
 
 -- the place of a clerk who is not the steward
 abbrev pub clerk_of : List ClerkRow → List ℕ → Checked ℕ
@@ -152,6 +166,9 @@ machine rows (Look name look) = do
 machine rows DeskReport = do
   sheet ← report_of (published_of rows) None (flat_map (λ sessions. sessions) rows.sessions)
   done (reply.Report sheet, [])
+machine rows (DeskDerive edition version master pairs) = do
+  sheet ← derived_sheet (published_of rows) edition version master pairs
+  done (reply.Derived sheet, [])
 
 -- what is answered: the reply, or that the request is refused, which changes nothing
 abbrev pub answered : Result (Reply × List Change) Refusal → Reply × List Change

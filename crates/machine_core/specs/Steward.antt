@@ -5,3 +5,4 @@ pub mod AddMaster
 pub mod AddRulebook
 pub mod AddEdition
 pub mod AddRegion
+pub mod AddDerived

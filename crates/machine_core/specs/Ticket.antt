@@ -2,7 +2,7 @@
 use Rattle.std.specs.Prelude.{ℕ, ◌+◌, ◌≤◌, nat_lt, ◌==◌, List, sum_by, if◌then◌else◌, ⊤}
 use Rattle.desk_base.specs.declared.limits.TheConstants.{MAX_REQUEST}
 use Rattle.desk_words.specs.declared.command.Command.{Command}
-use Rattle.desk_words.specs.declared.command.Command.TheVariants.{Steward, Clerk, Look, DeskReport}
+use Rattle.desk_words.specs.declared.command.Command.TheVariants.{Steward, Clerk, Look, DeskReport, DeskDerive}
 use Rattle.std.specs.Str.{bytes_eq}
 use Rattle.desk_words.specs.declared.command.Ticket.{Ticket}
 use Rattle.desk_words.specs.declared.refusal.Refusal.TheVariants.{Gap, Reused, Stale}
@@ -32,6 +32,7 @@ IsNumbered (Steward ticket work) = (1 ≤ ticket.number) × (ticket.number ≤ M
 IsNumbered (Clerk name ticket work) = (1 ≤ ticket.number) × (ticket.number ≤ MAX_REQUEST)
 IsNumbered (Look name look) = ⊤
 IsNumbered DeskReport = ⊤
+IsNumbered (DeskDerive edition version master pairs) = ⊤
 
 -- the turn of a desk: the numbers of all callers' last accepted requests, added up
 abbrev pub turn_of : List ClerkRow → ℕ

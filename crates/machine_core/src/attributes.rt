@@ -66,7 +66,11 @@ pub fn typed_cells(
 }
 
 /// The place of an attribute that is none of those before it.
-fn another_attribute(attributes: &[Text], before: &[u16], word: &Str) -> Result<u16, Stop>
+pub(crate) fn another_attribute(
+    attributes: &[Text],
+    before: &[u16],
+    word: &Str,
+) -> Result<u16, Stop>
     requires { length attributes.now < 65536 }
     ensures finds { Finds result (another_attribute attributes.now before.now word.now) }
     ensures within { IfOk result (λ place. place < length attributes.now) }
@@ -78,7 +82,7 @@ fn another_attribute(attributes: &[Text], before: &[u16], word: &Str) -> Result<
     Ok(place)
 }
 
-fn is_among(places: &[u16], place: u16) -> bool
+pub(crate) fn is_among(places: &[u16], place: u16) -> bool
     ensures { result ≡ list_any (λ earlier. earlier == place) places.now }
 {
     places.iter().any(|earlier| *earlier == place)

@@ -7,8 +7,11 @@
 
 mod answers;
 mod attributes;
+mod carrying;
 mod column;
 mod deed;
+mod derivation;
+mod derived;
 mod faults;
 mod finding;
 mod holding;
@@ -21,11 +24,15 @@ mod sessions;
 mod steward;
 mod stop;
 mod ticket;
+mod words;
 
 pub use answers::state_of;
 pub use attributes::{another_attributes, attribute_of, attributes_of, typed_cells};
+pub use carrying::carry_row;
 pub use column::Column;
 pub use deed::Deed;
+pub use derivation::Derivation;
+pub use derived::{derivation_of, derived_rows};
 pub use faults::{bind_stop, read_master, read_rulebook, read_schema};
 pub use finding::{named, newest_of, next_version, place_of};
 pub use holding::{hold, shelved};
@@ -35,6 +42,8 @@ pub use making::Making;
 pub use naming::proper_name;
 pub use own::Own;
 pub use sessions::{active, active_session, session_of};
-pub use steward::{clerk_row, edition_row, master_row, region_on, rulebook_row, schema_row};
+pub use steward::{
+    clerk_row, derived_region, edition_row, master_row, region_on, rulebook_row, schema_row,
+};
 pub use stop::Stop;
 pub use ticket::{Use, ticketed, use_of};

@@ -5,9 +5,9 @@ use Rattle.std.proofs.lemmas.List.{length-append, set-get_or}
 use Rattle.desk_words.specs.declared.change.Change.{Change}
 use Rattle.desk_words.specs.declared.change.Change.TheVariants as change
 use Rattle.desk_words.specs.declared.clerk_work.ClerkWork.{ClerkWork}
-use Rattle.desk_words.specs.declared.clerk_work.ClerkWork.TheVariants.{Enter, Confirm, Withdraw, Commit, Abandon, Batch}
+use Rattle.desk_words.specs.declared.clerk_work.ClerkWork.TheVariants.{Enter, Confirm, Withdraw, Commit, Abandon, Batch, Carry}
 use Rattle.desk_words.specs.declared.command.Command.{Command}
-use Rattle.desk_words.specs.declared.command.Command.TheVariants.{Steward, Clerk, Look, DeskReport}
+use Rattle.desk_words.specs.declared.command.Command.TheVariants.{Steward, Clerk, Look, DeskReport, DeskDerive}
 use Rattle.desk_words.specs.declared.command.Ticket.{Ticket}
 use Rattle.desk_words.specs.declared.refusal.Refusal.{Refusal}
 use Rattle.desk_words.specs.declared.reply.Reply.{Reply}
@@ -15,7 +15,7 @@ use Rattle.desk_words.specs.declared.rows.act.Act.{Act}
 use Rattle.desk_words.specs.declared.rows.act.Act.TheVariants as act
 use Rattle.desk_words.specs.declared.rows.clerk.ClerkRow.{ClerkRow}
 use Rattle.desk_words.specs.declared.steward_work.StewardWork.{StewardWork}
-use Rattle.desk_words.specs.declared.steward_work.StewardWork.TheVariants.{AddClerk, AddSchema, AddMaster, AddRulebook, AddEdition, AddRegion}
+use Rattle.desk_words.specs.declared.steward_work.StewardWork.TheVariants.{AddClerk, AddSchema, AddMaster, AddRulebook, AddEdition, AddRegion, AddDerived}
 use Rattle.desk_words.specs.Changes.{Fits, FitAll, changed, changed_all}
 use Rattle.desk_words.specs.Tables.{AreTables, Rows, new_clerk, published_of}
 use Rattle.desk_words.proofs.Changes.{AreTables-changed, AreTables-changed_all}
@@ -28,15 +28,17 @@ use Rattle.machine_core.specs.declared.deed.Deed.{Deed}
 use Rattle.machine_core.specs.Ticket.{IsNumbered, ticketed}
 use Rattle.machine_core.specs.OwnRows.{AreOwnRows, HasOwnTarget, IsSoundDeed}
 use Rattle.machine_laws.proofs.Callers.{AreNoFewer, HasTarget-more, IsClerkRow-ticketed, IsDone, names_of}
+use Rattle.machine_laws.proofs.Carries.{IsSoundDeed-carry}
 use Rattle.machine_laws.proofs.Changing.{IsGoodOwn, IsSoundDeed-abandon, IsSoundDeed-commit, IsSoundDeed-confirm, IsSoundDeed-withdraw}
 use Rattle.machine_laws.proofs.Deeds.{changed-caller, changed-deed, fit-deed, length-put_all, own_after}
+use Rattle.machine_laws.proofs.DerivedRegions.{IsSoundMaking-add_derived}
 use Rattle.machine_laws.proofs.Editions.{IsSoundMaking-add_edition}
 use Rattle.machine_laws.proofs.Entering.{IsSoundDeed-batch, IsSoundDeed-enter}
 use Rattle.machine_laws.proofs.Lists.{list_at-set_same, map-set_same, slice_get-read, slice_get-there}
 use Rattle.machine_laws.proofs.Makings.{IsSoundMaking, IsSoundMaking-add_clerk, IsSoundMaking-add_master, IsSoundMaking-add_rulebook, IsSoundMaking-add_schema}
 use Rattle.machine_laws.proofs.Regions.{IsSoundMaking-add_region}
 use Rattle.machine_laws.proofs.Valid.{AreNoFewer-own, AreValid-own, own-rows, with_own}
-use Rattle.machine_laws.proofs.Writes.{clerk-written, look-unchanged, report-unchanged, steward-written}
+use Rattle.machine_laws.proofs.Writes.{clerk-written, derive-unchanged, look-unchanged, report-unchanged, steward-written}
 
 -- a caller's own rows in valid tables are good, and no list is too long
 pub good-own : (rows : Rows) (place : ℕ) → AreValid rows → place < length rows.clerks
@@ -64,6 +66,8 @@ deed-sound rows place (Abandon number) deed valid within gives = IsSoundDeed-aba
     (own_of rows place) (good-own rows place valid within) number deed gives
 deed-sound rows place (Batch edition body) deed valid within gives = IsSoundDeed-batch (published_of rows)
     (own_of rows place) (good-own rows place valid within) edition body deed gives
+deed-sound rows place (Carry number version) deed valid within gives = IsSoundDeed-carry (published_of rows)
+    (own_of rows place) (good-own rows place valid within) number version deed gives
 
 -- each command of the steward makes what is sound
 pub making-sound : (rows : Rows) (work : StewardWork) (making : Making) → AreValid rows
@@ -77,6 +81,8 @@ making-sound rows (AddEdition name rulebook masters folded) making valid gives =
     IsSoundMaking-add_edition rows valid name rulebook masters folded making gives
 making-sound rows (AddRegion edition version attributes texts) making valid gives =
     IsSoundMaking-add_region rows valid edition version attributes texts making gives
+making-sound rows (AddDerived edition version master pairs from) making valid gives =
+    IsSoundMaking-add_derived rows valid edition version master pairs from making gives
 
 -- what a clerk did is done in the tables with the clerk's rows
 IsDone-own : (rows : Rows) (place : ℕ) (own : Own) (row : ClerkRow) (what : Act) (target : ℕ) → 0 < place
@@ -224,6 +230,8 @@ made-valid rows (Clerk name ticket work) made valid numbered gives = elim (clerk
 made-valid rows (Look name look) made valid numbered gives =
     none-valid rows made.1 valid (look-unchanged rows name look made gives)
 made-valid rows DeskReport made valid numbered gives = none-valid rows made.1 valid (report-unchanged rows made gives)
+made-valid rows (DeskDerive edition version master pairs) made valid numbered gives =
+    none-valid rows made.1 valid (derive-unchanged rows edition version master pairs made gives)
 
 outcome-valid : (rows : Rows) (command : Command) (outcome : Result (Reply × List Change) Refusal) → AreValid rows
     → IsNumbered command → Gives (machine rows command) outcome

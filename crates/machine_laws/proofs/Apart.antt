@@ -8,7 +8,7 @@ use Rattle.std.proofs.lemmas.Slice.Eq.{bytes_eq-Decides}
 use Rattle.desk_words.specs.declared.change.Change.{Change}
 use Rattle.desk_words.specs.declared.change.Change.TheVariants as change
 use Rattle.desk_words.specs.declared.command.Command.{Command}
-use Rattle.desk_words.specs.declared.command.Command.TheVariants.{Steward, Clerk, Look, DeskReport}
+use Rattle.desk_words.specs.declared.command.Command.TheVariants.{Steward, Clerk, Look, DeskReport, DeskDerive}
 use Rattle.desk_words.specs.declared.command.Ticket.{Ticket}
 use Rattle.desk_words.specs.declared.refusal.Refusal.{Refusal}
 use Rattle.desk_words.specs.declared.refusal.Refusal.TheVariants.{NoClerk}
@@ -35,7 +35,7 @@ use Rattle.machine_laws.proofs.Names.{clerk_of-begins, clerk_of-same, none-passe
 use Rattle.machine_laws.proofs.Staying.{after-steward, chain-done, clerk_of-named, step-kept, step-longer, with_making}
 use Rattle.machine_laws.proofs.Stewards.{AreAsToSteward, changed-names, changed-published, steward-machine}
 use Rattle.machine_laws.proofs.Unchanged.{step-unchanged}
-use Rattle.machine_laws.proofs.Writes.{IsStewardsNew, clerk_of-ok, look-unchanged, report-unchanged, steward-written}
+use Rattle.machine_laws.proofs.Writes.{IsStewardsNew, clerk_of-ok, derive-unchanged, look-unchanged, report-unchanged, steward-written}
 
 -- the steward's step is a new write, or changes nothing
 steward-cases : (rows : Rows) (ticket : Ticket) (work : StewardWork) (answer : Reply) (changes : List Change)
@@ -276,6 +276,7 @@ other-as name rows other (Look named look) answer changes valid of_other step al
     none-alike name rows other changes [] (step-unchanged rows (Look named look) answer changes
     (look-unchanged rows named look) step) refl alike
 other-as name rows other DeskReport answer changes valid of_other step alike = absurd (cc)
+other-as name rows other (DeskDerive edition version master pairs) answer changes valid of_other step alike = absurd (cc)
 other-as name rows other (Clerk named ticket work) answer changes valid of_other step alike =
     let seen : LookAlike name rows (changed_all rows changes) =
     other-alike name rows named ticket work answer changes valid (λ same. different ((bytes_eq-Decides named name).1 same))
@@ -310,6 +311,14 @@ own-step name rows other DeskReport answer answer_too changes others valid valid
   none-alike name rows other changes others (step-unchanged rows DeskReport answer changes
       (report-unchanged rows) step) (step-unchanged other DeskReport answer_too others (report-unchanged other) step_too) alike,
 )
+own-step name rows other (DeskDerive edition version master pairs) answer answer_too changes others valid valid_too alike own
+    step step_too = (
+      λ asked_it. absurd (cc),
+      none-alike name rows other changes others (step-unchanged rows (DeskDerive edition version master pairs) answer changes
+          (derive-unchanged rows edition version master pairs) step) (step-unchanged other
+          (DeskDerive edition version master pairs) answer_too others (derive-unchanged other edition version master pairs)
+          step_too) alike,
+    )
 own-step name rows other (Look named look) answer answer_too changes others valid valid_too alike own step step_too =
     let same : named ≡ name = named-so named name own in
     let seen : LookAlike name rows other = record { published = alike.to_steward.published; own = alike.own } in (
@@ -382,6 +391,7 @@ answers-apart name rows other (event ∷ events) others valid valid_too alike st
         not-true true is = absurd (cc)
         not-true false is = refl
     not-asked DeskReport is = refl
+    not-asked (DeskDerive edition version master pairs) is = refl
 
     with-own : (others : List Event) → AreAnswered other others
         → commands_of others ≡ event.command ∷ commands_of (without_others name events)

@@ -15,6 +15,7 @@ use Rattle.desk_words.specs.Changes.{put}
 use Rattle.desk_words.specs.Tables.{IsShort, Published, Rows, published_of}
 use Rattle.desk_valid.specs.declared.bound.Bound.{Bound}
 use Rattle.desk_valid.specs.Bindings.{bound_at}
+use Rattle.desk_valid.specs.Rows.Session.{IsSessionRow}
 use Rattle.desk_valid.specs.Tallies.{bytes_in, text_bytes}
 use Rattle.desk_valid.specs.Valid.{AreValid}
 use Rattle.fix_model.specs.declared.state.State.{State}
@@ -34,7 +35,7 @@ use Rattle.machine_core.proofs.Chains.{Gives-bind_ok, done-value}
 use Rattle.machine_core.proofs.Tested.{certainly-ok}
 use Rattle.machine_core.specs.OwnRows.{AreOwnRows, IsSoundDeed}
 use Rattle.machine_laws.proofs.Deeds.{put-within}
-use Rattle.machine_laws.proofs.Sessions.{AreOwnRows-committed, AreOwnRows-set, IsActiveAt, StaysAs, active_session-ok, records-few}
+use Rattle.machine_laws.proofs.Sessions.{AreOwnRows-committed, AreOwnRows-set, IsActiveAt, IsSessionRow-stays, StaysAs, active_session-ok, records-few}
 use Rattle.machine_laws.proofs.Valid.{AreOwnRows-same}
 use Rattle.machine_core.proofs.Widths.{kit-width, length-cleared, length-confirmed_at, length-typed_over, typed-width}
 
@@ -46,10 +47,10 @@ pub record IsGoodOwn (published : Published) (own : Own) : Type 0 where
   pub batches : IsShort own.batches
 
 module _ (published : Published) (own : Own) (good : IsGoodOwn published own) where
-  -- an active session that stays where it was may be put at its place
-  IsSoundDeed-changed : (number : ℕ) (old new : SessionRow) → IsActiveAt own.sessions number old → StaysAs old new
-      → IsSoundDeed published own (puts (number - 1) new act.Changed)
-  IsSoundDeed-changed number old new is stays =
+  -- a session in place of an active one
+  pub IsSoundDeed-put : (number : ℕ) (old new : SessionRow) → IsActiveAt own.sessions number old
+      → IsSessionRow published own.batches new → IsSoundDeed published own (puts (number - 1) new act.Changed)
+  IsSoundDeed-put number old new is good_row =
       let place : ℕ = number - 1 in
       let within : place < length own.sessions = slice_get_within own.sessions place old is.stands in
       let same : put own.sessions place new ≡ set own.sessions place new = put-within own.sessions place new within in
@@ -61,8 +62,15 @@ module _ (published : Published) (own : Own) (good : IsGoodOwn published own) wh
         rows = AreOwnRows-same published (set own.sessions place new) (put own.sessions place new)
             own.records (own.records ++ []) own.batches (own.batches ++ []) same (append-nil own.records)
             (append-nil own.batches)
-            (AreOwnRows-set published own.sessions own.records own.batches good.rows place old new is.stands is.is_open stays);
+            (AreOwnRows-set published own.sessions own.records own.batches good.rows place old new is.stands is.is_open
+            good_row);
       }
+
+  -- as one that stays where it was
+  IsSoundDeed-changed : (number : ℕ) (old new : SessionRow) → IsActiveAt own.sessions number old → StaysAs old new
+      → IsSoundDeed published own (puts (number - 1) new act.Changed)
+  IsSoundDeed-changed number old new is stays = IsSoundDeed-put number old new is (IsSessionRow-stays published own.batches
+      old new stays (good.rows.sessions_valid (number - 1) old is.stands))
 
   pub IsSoundDeed-abandon : (number : ℕ) (deed : Deed) → Gives (abandon own number) (Ok deed) → IsSoundDeed published own deed
   IsSoundDeed-abandon number deed gives =
@@ -198,7 +206,8 @@ module _ (rows : Rows) (valid : AreValid rows) (own : Own) (good : IsGoodOwn (pu
       ∙ sym (kit-width rows session.edition bound valid binds) ∙ sym width in
       let are : AreOwnRows published (set own.sessions place new) (own.records ++ row ∷ []) own.batches =
       AreOwnRows-committed published own.sessions own.records own.batches good.rows place session new is.stands is.is_open
-      stays row refl is.counted refl whole in
+      (IsSessionRow-stays published own.batches session new stays (good.rows.sessions_valid place session is.stands)) row refl
+      is.counted refl whole in
       let few : length (own.records ++ row ∷ []) ≤ length (set own.sessions place new) =
       records-few published (set own.sessions place new) (own.records ++ row ∷ []) own.batches are in
       record {

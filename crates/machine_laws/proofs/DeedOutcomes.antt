@@ -1,15 +1,15 @@
 -- What a clerk does, and what a clerk looks at, comes to a result over valid tables.
 use Rattle.std.proofs.Common.{◌≡◌, ℕ, ◌-◌, ◌<◌, Bool, List, [], length, map, Some, sym, subst}
-use Rattle.std.specs.Prelude.{IfSome, Ok}
+use Rattle.std.specs.Prelude.{IfSome, Ok, is_some, nat_lt}
 use Rattle.master_rows.specs.Sheet.{read_sheet}
 use Rattle.desk_words.specs.declared.clerk_work.Accept.{Accept}
 use Rattle.desk_words.specs.declared.clerk_work.Accept.TheVariants.{Certain, Partial}
 use Rattle.desk_words.specs.declared.clerk_work.ClerkWork.{ClerkWork}
-use Rattle.desk_words.specs.declared.clerk_work.ClerkWork.TheVariants.{Enter, Confirm, Withdraw, Commit, Abandon, Batch}
+use Rattle.desk_words.specs.declared.clerk_work.ClerkWork.TheVariants.{Enter, Confirm, Withdraw, Commit, Abandon, Batch, Carry}
 use Rattle.desk_words.specs.declared.look.Look.{Look as LookOf}
-use Rattle.desk_words.specs.declared.look.Look.TheVariants.{View, Suggest, Preview, Report, Records}
+use Rattle.desk_words.specs.declared.look.Look.TheVariants.{View, Suggest, Preview, Report, Records, Explain, Carry as CarryLook}
 use Rattle.desk_words.specs.declared.refusal.Kind.TheVariants as kind
-use Rattle.desk_words.specs.declared.refusal.Refusal.TheVariants.{InConflict, NoSuch}
+use Rattle.desk_words.specs.declared.refusal.Refusal.TheVariants.{InConflict, NoSuch, NotFixed, NotNewer}
 use Rattle.desk_words.specs.declared.rows.edition.EditionRow.{EditionRow}
 use Rattle.desk_words.specs.declared.rows.session.SessionRow.{SessionRow}
 use Rattle.desk_words.specs.Tables.{Rows, published_of}
@@ -18,28 +18,36 @@ use Rattle.desk_valid.specs.Readings.{width_at}
 use Rattle.desk_valid.specs.Valid.{AreValid}
 use Rattle.fix_engine.specs.declared.verdict.Verdict.{Verdict}
 use Rattle.fix_engine.specs.declared.verdict.Verdict.TheVariants.{Fix, Conflict}
-use Rattle.machine_core.specs.Answers.{bound_for}
+use Rattle.fix_model.specs.declared.state.State.{State}
+use Rattle.fix_model.specs.Run.{end_of}
+use Rattle.fix_model.specs.States.{cell_at, fixed_by}
+use Rattle.machine_core.specs.Answers.{bound_for, state_of}
 use Rattle.machine_core.specs.Checked.{Checked, ◌>>=◌, done, each, some_or, Gives}
 use Rattle.machine_core.specs.Clerk.Batch.{another_column}
+use Rattle.machine_core.specs.Clerk.Carry.{carry_row}
 use Rattle.machine_core.specs.Clerk.Commit.{accepts, not_in_conflict}
 use Rattle.machine_core.specs.Clerk.Confirm.{confirm_row, with_cells}
 use Rattle.machine_core.specs.Clerk.Withdraw.{confirmed_place}
 use Rattle.machine_core.specs.declared.column.Column.{Column}
 use Rattle.machine_core.specs.Faults.{sheet_refusal}
-use Rattle.machine_core.specs.Finding.{edition_named, newest_edition, version_count}
+use Rattle.machine_core.specs.Finding.{edition_named, newest_edition, session_at, version_count}
 use Rattle.machine_core.specs.Look.Suggest.{regions_of}
 use Rattle.machine_core.specs.Machine.{deed_of, look_reply}
 use Rattle.machine_core.specs.Own.{Own}
 use Rattle.machine_core.specs.OwnRows.{AreOwnRows}
 use Rattle.machine_core.specs.Sessions.{IsSessionOf}
-use Rattle.machine_core.specs.Tests.{active_session, attribute_of, typed_cell}
+use Rattle.machine_core.specs.Tests.{active_session, attribute_of, session_of, typed_cell}
+use Rattle.machine_core.specs.Views.{edition_at}
+use Rattle.machine_core.proofs.Carried.{carried-stands}
 use Rattle.machine_core.proofs.Chains.{Gives-bind_ok, done-value}
-use Rattle.machine_core.proofs.Tested.{some_or-ok}
+use Rattle.machine_core.proofs.Tested.{some_or-ok, unless-ok}
 use Rattle.machine_core.proofs.Widths.{length-confirmed_at, length-typed_over}
+use Rattle.machine_laws.proofs.Carries.{carry-found}
+use Rattle.machine_laws.proofs.Comparing.{view_at-apart}
 use Rattle.machine_laws.proofs.Makings.{place_of-within}
-use Rattle.machine_laws.proofs.Outcomes.{HasOutcome, outcome-all, outcome-behind, outcome-bind, outcome-done, outcome-refused, outcome-some_or, outcome-unless, outcome-value_or, plain_tests}
-use Rattle.machine_laws.proofs.OwnOutcomes.{outcome-bound, outcome-report, outcome-view, outcome-view_at, session-advised, session-answered, session-of, sessions-of}
-use Rattle.machine_laws.proofs.Sessions.{active_session-ok}
+use Rattle.machine_laws.proofs.Outcomes.{HasOutcome, outcome-all, outcome-behind, outcome-bind, outcome-changes, outcome-done, outcome-refused, outcome-some_or, outcome-unless, outcome-value_or, plain_tests}
+use Rattle.machine_laws.proofs.OwnOutcomes.{outcome-bound, outcome-report, outcome-view, outcome-view_at, session-advised, session-answered, session-explained, session-of, sessions-of}
+use Rattle.machine_laws.proofs.Sessions.{active_session-ok, session_at-found}
 
 -- an active session is found, or it is refused
 outcome-active : (sessions : List SessionRow) (number : ℕ) → HasOutcome (active_session sessions number)
@@ -136,6 +144,31 @@ module _ (rows : Rows) (valid : AreValid rows) where
               (sym (length-confirmed_at found.0.confirmed (map (λ cell. cell.0) texts.0))) old.confirmed;
         })
 
+    -- a session by its number stands
+    found-of : (number : ℕ) (session : SessionRow) → Gives (session_of own.sessions number) (Ok session)
+        → IsSessionOf (published_of rows) session
+    found-of number session gives = session-of rows valid own are (number - 1) session (session_at-found own.sessions number
+        session (some_or-ok (session_at own.sessions number) (NoSuch kind.Session) session gives)).1
+
+    -- a Carry of it is tested
+    outcome-carry : (number version : ℕ) → HasOutcome (carry_row (published_of rows) own number version)
+    outcome-carry number version = outcome-bind (outcome-active own.sessions number) (λ session is.
+        let pinned : EditionRow = edition_at (published_of rows) session.edition in
+        outcome-bind (outcome-some_or (edition_named rows.editions pinned.name version) (NoSuch kind.Edition))
+        (λ edition found.
+        outcome-bind (outcome-unless (nat_lt pinned.version version) (NotNewer pinned.version)) (λ _ _.
+        outcome-bind (outcome-active_bound number session is) (λ before binds.
+        outcome-bind (outcome-bound rows valid edition (named-within pinned.name version edition found)) (λ behind binds_too.
+        outcome-done _)))))
+
+    -- the session that a Carry leaves stands
+    carried-of : (number version : ℕ) (session : SessionRow)
+        → Gives (carry_row (published_of rows) own number version) (Ok session) → IsSessionOf (published_of rows) session
+    carried-of number version session gives =
+        let found = carry-found (published_of rows) own number version session gives in
+        subst (IsSessionOf (published_of rows)) (sym found.is) (carried-stands (published_of rows) found.session
+        found.edition found.before found.behind found.binds_behind)
+
     -- each command of a clerk
     pub outcome-deed : (work : ClerkWork) → HasOutcome (deed_of (published_of rows) own work)
     outcome-deed (Enter edition cells confirmed) = outcome-bind (outcome-bind
@@ -163,6 +196,7 @@ module _ (rows : Rows) (valid : AreValid rows) where
         outcome-bind (outcome-value_or (read_sheet body) sheet_refusal) (λ sheet reads.
         outcome-bind (outcome-behind [] _ sheet.columns (outcome-column bound.names.attributes)) (λ columns ok.
         search plain_tests depth 8))))
+    outcome-deed (Carry number version) = outcome-bind (outcome-carry number version) (λ session ok. outcome-done _)
 
     -- each look of a clerk
     pub outcome-look : (look : LookOf) → HasOutcome (look_reply (published_of rows) own look)
@@ -180,3 +214,21 @@ module _ (rows : Rows) (valid : AreValid rows) where
         (outcome-some_or (edition_named rows.editions edition version) (NoSuch kind.Edition)) (λ place found.
         outcome-bind (outcome-bound rows valid place (named-within edition version place found)) (λ bound binds.
         outcome-done _))) (λ sheet ok. outcome-done _)
+    outcome-look (Explain number word) = outcome-bind (outcome-bind
+        (outcome-some_or (session_at own.sessions number) (NoSuch kind.Session)) (λ session found.
+        let is = found-of number session found in
+        outcome-bind (outcome-bound rows valid session.edition is.edition) (λ bound binds.
+        outcome-bind (outcome-attribute bound.names.attributes word) (λ attribute there.
+        outcome-bind (session-answered rows valid session bound is binds) (λ answer given.
+        let end : State = end_of bound.kit (state_of session) answer.first in
+        let is_fixed : Bool = is_some (fixed_by (cell_at end attribute)) in
+        outcome-bind (outcome-not_in_conflict answer.verdict) (λ _ _.
+        outcome-bind (outcome-unless is_fixed (NotFixed word)) (λ passed ok.
+        outcome-bind (session-explained rows valid session bound answer attribute is binds given
+        (unless-ok is_fixed (NotFixed word) passed ok)) (λ explanation told. outcome-done _)))))))) (λ explained ok.
+        outcome-done _)
+    outcome-look (CarryLook number version) = outcome-bind (outcome-bind (outcome-carry number version) (λ moved is.
+        outcome-bind (outcome-view_at rows valid own are number) (λ before shown_before.
+        outcome-bind (outcome-view rows valid number moved (carried-of number version moved is)) (λ behind shown_behind.
+        outcome-bind (outcome-changes before behind (view_at-apart rows valid own number before shown_before))
+        (λ pairs told. outcome-done _))))) (λ carried ok. outcome-done _)

@@ -1,7 +1,7 @@
 -- The deeds that make sessions: Enter and Batch.
-use Rattle.std.proofs.Common.{◌≡◌, ◌∙◌, ℕ, zero, suc, ◌+◌, ◌-◌, ◌<◌, ◌≤◌, ◌^◌, List, [], ◌∷◌, ◌++◌, length, get_or, map, take, drop, Some, None, refl, sym, ap, subst, arith}
+use Rattle.std.proofs.Common.{◌≡◌, ◌∙◌, ℕ, zero, suc, ◌+◌, ◌<◌, ◌≤◌, ◌^◌, List, [], ◌∷◌, ◌++◌, length, get_or, map, Some, None, refl, sym, ap, subst, arith}
 use Rattle.std.specs.Prelude.{All, Ok, filter, slice_get, zip}
-use Rattle.std.proofs.lemmas.List.{append-nil, append_assoc, drop_at, length-append, length-map, take_all}
+use Rattle.std.proofs.lemmas.List.{append-nil, append_assoc, length-append, length-map}
 use Rattle.std.proofs.lemmas.List.Elements.{All-map}
 use Rattle.std.proofs.lemmas.Option.{slice_get_within}
 use Rattle.master_rows.specs.declared.master.Master.{Master}
@@ -143,25 +143,19 @@ module _ (published : Published) (own : Own) (good : IsGoodOwn published own) wh
   -- sessions on an edition behind the others, with their batch
   IsSoundDeed-entered : (edition : ℕ) (news : List SessionRow) → edition < length published.editions
       → ((batches : List BatchRow) → length own.batches + 1 ≤ length batches → All (IsSessionRow published batches) news)
-      → All (λ session. session.edition ≡ edition) news → length own.sessions + length news ≤ 20000
-      → length own.batches + 1 < 2 ^ 31 → IsSoundDeed published own (entering edition news)
-  IsSoundDeed-entered edition news stands valid on few short =
+      → length own.sessions + length news ≤ 20000 → length own.batches + 1 < 2 ^ 31
+      → IsSoundDeed published own (entering edition news)
+  IsSoundDeed-entered edition news stands valid few short =
       let row : BatchRow = record { edition = edition; first = length own.sessions + 1; count = length news } in
       let sessions : List SessionRow = own.sessions ++ news in
       let batches : List BatchRow = own.batches ++ row ∷ [] in
       let same : put_all own.sessions (placed (length own.sessions) news) ≡ sessions =
       put_all-placed own.sessions news (length own.sessions) refl in
       let long : length batches ≡ length own.batches + 1 = length-append own.batches (row ∷ []) in
-      let start : length own.sessions + 1 - 1 ≡ length own.sessions = omega arith in
-      let covered : take (length news) (drop (length own.sessions + 1 - 1) sessions) ≡ news =
-      ap (λ first. take (length news) (drop first sessions)) start
-      ∙ ap (take (length news)) (drop_at own.sessions news (length own.sessions) refl)
-      ∙ take_all (length news) news (omega arith) in
       let good_row : IsBatchRow published sessions row = record {
         edition = stands;
         counted = omega arith;
         within = omega (arith, length-append own.sessions news);
-        on_edition = subst (All (λ session. session.edition ≡ edition)) (sym covered) on;
       } in
       record {
         puts_fit = PutsFit-placed own.sessions news (length own.sessions) refl (omega (arith, few));
@@ -229,7 +223,6 @@ module _ (published : Published) (own : Own) (good : IsGoodOwn published own) wh
       (λ others enough. All-map (IsSessionRow published others) one_row rows (λ index past inside.
       IsSessionRow-new published others edition.0 bound.0 (cells_of columns.0 (get_or rows index past))
       (confirmed_of columns.0 (get_or rows index past)) (length own.batches + 1) binds enough))
-      (All-map (λ session. session.edition ≡ edition.0) one_row rows (λ index past inside. refl))
       (omega (arith, as_many, within-ok which.Sessions (length own.sessions + count) few.0 few.1))
       (omega (arith, within-ok which.Batches (length own.batches + 1) few_batches.0 few_batches.1)))
     where

@@ -6,7 +6,7 @@ use Rattle.std.proofs.lemmas.List.{get_or_default}
 use Rattle.desk_words.specs.declared.change.Change.{Change}
 use Rattle.desk_words.specs.declared.clerk_work.ClerkWork.{ClerkWork}
 use Rattle.desk_words.specs.declared.command.Command.{Command}
-use Rattle.desk_words.specs.declared.command.Command.TheVariants.{Steward, Clerk, Look, DeskReport}
+use Rattle.desk_words.specs.declared.command.Command.TheVariants.{Steward, Clerk, Look, DeskReport, DeskDerive}
 use Rattle.desk_words.specs.declared.command.Ticket.{Ticket}
 use Rattle.desk_words.specs.declared.refusal.Refusal.TheVariants.{Gap, Stale}
 use Rattle.desk_words.specs.declared.reply.Reply.{Reply}
@@ -32,7 +32,7 @@ use Rattle.machine_laws.proofs.Again.{use_at}
 use Rattle.machine_laws.proofs.Callers.{IsDone}
 use Rattle.machine_laws.proofs.DeedOutcomes.{outcome-deed, outcome-look}
 use Rattle.machine_laws.proofs.Lists.{slice_get-read, slice_get-there}
-use Rattle.machine_laws.proofs.MadeOutcomes.{outcome-made, outcome-making}
+use Rattle.machine_laws.proofs.MadeOutcomes.{outcome-made, outcome-making, outcome-sheet}
 use Rattle.machine_laws.proofs.Outcomes.{HasOutcome, outcome-bind, outcome-done, outcome-refused, plain_tests}
 use Rattle.machine_laws.proofs.OwnOutcomes.{outcome-kept, outcome-report, sessions-of}
 use Rattle.machine_laws.proofs.Totals.{all-flat}
@@ -156,6 +156,8 @@ module _ (rows : Rows) (valid : AreValid rows) where
       (λ answer ok. outcome-done _))
   outcome-machine DeskReport numbered = outcome-bind (outcome-report rows valid None
       (flat_map (λ sessions. sessions) rows.sessions) all-sessions) (λ sheet ok. outcome-done _)
+  outcome-machine (DeskDerive edition version master pairs) numbered =
+      outcome-bind (outcome-sheet rows valid edition version master pairs) (λ sheet ok. outcome-done _)
 
 -- a request over valid tables has a reply and changes
 pub some-step : (rows : Rows) (command : Command) → AreValid rows → IsNumbered command

@@ -7,17 +7,19 @@ use Rattle.std.proofs.lemmas.Slice.Eq.{bytes_eq-Decides}
 use Rattle.desk_words.specs.declared.change.Change.{Change}
 use Rattle.desk_words.specs.declared.clerk_work.ClerkWork.{ClerkWork}
 use Rattle.desk_words.specs.declared.command.Command.{Command}
-use Rattle.desk_words.specs.declared.command.Command.TheVariants.{Clerk, Look}
+use Rattle.desk_words.specs.declared.command.Command.TheVariants.{Clerk, Look, DeskDerive}
 use Rattle.desk_words.specs.declared.command.Ticket.{Ticket}
 use Rattle.desk_words.specs.declared.look.Look.{Look as LookOf}
 use Rattle.desk_words.specs.declared.refusal.Refusal.{Refusal}
 use Rattle.desk_words.specs.declared.refusal.Refusal.TheVariants.{NoClerk}
 use Rattle.desk_words.specs.declared.reply.Reply.{Reply}
 use Rattle.desk_words.specs.declared.reply.Reply.TheVariants.{Refused}
+use Rattle.desk_words.specs.declared.reply.Reply.TheVariants as reply
 use Rattle.desk_words.specs.Changes.{changed_all}
 use Rattle.desk_words.specs.Tables.{Published, Rows, published_of}
 use Rattle.desk_valid.specs.Valid.{AreValid}
-use Rattle.machine_core.specs.Checked.{Checked, done, refused, asked, advised, never, ◌>>=◌, some_or, Gives}
+use Rattle.machine_core.specs.Checked.{Checked, done, refused, asked, advised, explained, derived, compared, never, ◌>>=◌, some_or, Gives}
+use Rattle.machine_core.specs.Deriving.{derived_sheet}
 use Rattle.machine_core.specs.Machine.{IsStep, answered, changes_if, clerk_of, clerk_write, clerk_write_at, deed_of, look_reply, machine}
 use Rattle.machine_core.specs.Own.{Own, after, changes_of, own_of}
 use Rattle.machine_core.specs.declared.ticket.Use.TheVariants.{Fresh}
@@ -48,6 +50,12 @@ replied-alone (asked kit state more) own write changes =
     λ i. asked kit state (λ answer. replied-alone (more answer) own write changes i)
 replied-alone (advised kit state regions more) own write changes =
     λ i. advised kit state regions (λ suggestion. replied-alone (more suggestion) own write changes i)
+replied-alone (explained kit state run attribute more) own write changes =
+    λ i. explained kit state run attribute (λ explanation. replied-alone (more explanation) own write changes i)
+replied-alone (derived kit grid attributes columns more) own write changes =
+    λ i. derived kit grid attributes columns (λ rows. replied-alone (more rows) own write changes i)
+replied-alone (compared before after_it more) own write changes =
+    λ i. compared before after_it (λ pairs. replied-alone (more pairs) own write changes i)
 replied-alone never own write changes = refl
 
 -- the same of a look
@@ -60,6 +68,12 @@ looked-alone (asked kit state more) own look none =
     λ i. asked kit state (λ answer. looked-alone (more answer) own look none i)
 looked-alone (advised kit state regions more) own look none =
     λ i. advised kit state regions (λ suggestion. looked-alone (more suggestion) own look none i)
+looked-alone (explained kit state run attribute more) own look none =
+    λ i. explained kit state run attribute (λ explanation. looked-alone (more explanation) own look none i)
+looked-alone (derived kit grid attributes columns more) own look none =
+    λ i. derived kit grid attributes columns (λ rows. looked-alone (more rows) own look none i)
+looked-alone (compared before after_it more) own look none =
+    λ i. compared before after_it (λ pairs. looked-alone (more pairs) own look none i)
 looked-alone never own look none = refl
 
 -- the reply to a clerk's request, from what was published and the clerk's own rows
@@ -134,6 +148,18 @@ module _ (name : List ℕ) (rows other : Rows) (alike : LookAlike name rows othe
       λ i. reply_to_look (sym alike.published i) (sym alike.own i) look in
       same-answer (reply_to_look (published_of rows) (own_by rows (clerk name)) look) rows other (Look name look) answer
       answer_too changes others (of_rows rows) (of_rows other ∙ same) step step_too
+
+-- derived rows are made of what was published alone
+pub same-derived : (rows other : Rows) → published_of rows ≡ published_of other → (edition : List ℕ) (version : ℕ)
+    (master : List ℕ) (pairs : List (List ℕ × List ℕ)) (answer answer_too : Reply) (changes others : List Change)
+    → IsStep rows (DeskDerive edition version master pairs) answer changes
+    → IsStep other (DeskDerive edition version master pairs) answer_too others → answer ≡ answer_too
+same-derived rows other same edition version master pairs answer answer_too changes others step step_too =
+    let command : Command = DeskDerive edition version master pairs in
+    let of_published : Published → Checked Reply = λ published. replied (derived_sheet published edition version master pairs
+    >>= (λ sheet. done (reply.Derived sheet, no_changes))) in
+    same-answer (of_published (published_of rows)) rows other command answer answer_too changes others refl
+    (ap of_published (sym same)) step step_too
 
 -- a clerk's own rows after a new write
 pub own_by-new : (rows : Rows) (name : List ℕ) (ticket : Ticket) (work : ClerkWork) (answer : Reply) (changes : List Change)

@@ -50,7 +50,7 @@ module _ (rows : Rows) (valid : AreValid rows) (other : Published) (more : AreMo
       ∙ sym (ap (option_and_then (bound_in (published_of rows))) here.1)
 
   -- its name
-  edition_at-more : (place : ℕ) → place < length rows.editions → edition_at other place ≡ edition_at (published_of rows) place
+  pub edition_at-more : (place : ℕ) → place < length rows.editions → edition_at other place ≡ edition_at (published_of rows) place
   edition_at-more place within =
       let here = slice_get-there rows.editions place within in
       let there : slice_get other.editions place ≡ Some here.0 =
@@ -62,7 +62,7 @@ module _ (rows : Rows) (valid : AreValid rows) (other : Published) (more : AreMo
       no_edition = record { name = []; version = 0; rulebook = 0; masters = []; folded = [] }
 
   -- a session as it is shown
-  view_of-more : (number : ℕ) (session : SessionRow) → session.edition < length rows.editions
+  pub view_of-more : (number : ℕ) (session : SessionRow) → session.edition < length rows.editions
       → view_of other number session ≡ view_of (published_of rows) number session
   view_of-more number session within =
       let bound = bound_at-more session.edition within in
@@ -92,7 +92,7 @@ module _ (rows : Rows) (valid : AreValid rows) (other : Published) (more : AreMo
     within-editions index past inside =
         (are.sessions_valid index (get_or own.sessions index past) (slice_get-get_or own.sessions index past inside)).edition
 
-    view_at-more : (number : ℕ) → view_at other own number ≡ view_at (published_of rows) own number
+    pub view_at-more : (number : ℕ) → view_at other own number ≡ view_at (published_of rows) own number
     view_at-more number = found (session_at own.sessions number) (λ session is.
         (are.sessions_valid (number - 1) session (session_at-found own.sessions number session is).1).edition)
       where

@@ -10,6 +10,8 @@ pub mod Writes
 pub mod Makings
 pub mod Editions
 pub mod Regions
+pub mod DerivedRegions
+pub mod Carries
 pub mod Accepted
 pub mod Unchanged
 pub mod Names
@@ -23,8 +25,14 @@ pub mod Stewards
 pub mod Apart
 pub mod Why
 pub mod Wrong
+pub mod Told
+pub mod DerivingWhy
+pub mod Derived
 pub mod StewardWhy
 pub mod Refusing
+pub mod Carried
+pub mod Lasting
+pub mod Explained
 pub mod Totals
 pub mod RowByRow
 pub mod Decisions
@@ -33,6 +41,9 @@ pub mod Answering
 pub mod Hoping
 pub mod Advising
 pub mod Suggesting
+pub mod Explanations
+pub mod Deriving
+pub mod Comparing
 pub mod Outcomes
 pub mod OwnOutcomes
 pub mod DeedOutcomes

@@ -1,8 +1,9 @@
 -- Lists of rows: what stands at a place, what each row is, and lists that begin alike.
-use Rattle.std.proofs.Common.{◌≡◌, ◌≢◌, ◌∙◌, ℕ, zero, suc, ◌<◌, ◌≤◌, List, [], ◌∷◌, ◌++◌, length, get_or, map, set, take, Some, inl, inr, refl, sym, ap, subst, arith}
-use Rattle.std.specs.Prelude.{All, slice_get}
-use Rattle.std.proofs.lemmas.Bool.{cases_eq, cases_lt}
+use Rattle.std.proofs.Common.{◌≡◌, ◌≢◌, ◌∙◌, ℕ, zero, suc, ◌<◌, ◌≤◌, Bool, true, false, cond, List, [], ◌∷◌, ◌++◌, length, get_or, map, set, take, Some, None, inl, inr, refl, sym, ap, subst, arith}
+use Rattle.std.specs.Prelude.{All, Contains, find, slice_get}
+use Rattle.std.proofs.lemmas.Bool.{cases_Bool, cases_eq, cases_lt}
 use Rattle.std.proofs.lemmas.List.{append-nil, get_or-map, get_or-set_other, get_or-set_same, get_or_at, get_or_past, get_or_append_left, length-append, length-map, length-set, take-append-le}
+use Rattle.std.proofs.lemmas.List.Elements.{All-cons, All-nil}
 use Rattle.std.proofs.lemmas.Option.{same_Some, slice_get_within}
 use Rattle.desk_words.specs.Tables.{list_at}
 use Rattle.desk_valid.specs.Valid.{EachAt}
@@ -141,4 +142,30 @@ list_at-push lists clerk = elim (cases_lt clerk (length lists)) [
     | inr behind ↦ get_or_past (lists ++ [] ∷ []) clerk [] (omega (arith, length-append lists ([] ∷ [])))
         ∙ sym (get_or_past lists clerk [] past)
   ]
+]
+
+-- what is found in a list stands in it, and passes
+pub find-Some : {T : Type 0} (test : T → Bool) (items : List T) (found : T) → find test items ≡ Some found
+    → Contains items found × (test found ≡ true)
+find-Some test [] found is = absurd (cc)
+find-Some test (item ∷ items) found is = elim (cases_Bool (test item)) [
+  | inl passes ↦
+      let same : item ≡ found =
+      same_Some item found (sym (ap (λ told. cond told (Some item) (find test items)) passes) ∙ is) in
+      ((0, omega arith, same), subst (λ one. test one ≡ true) same passes)
+  | inr fails ↦
+      let rest = find-Some test items found (sym (ap (λ told. cond told (Some item) (find test items)) fails) ∙ is) in
+      ((suc rest.0.0, omega (arith, rest.0.1), rest.0.2), rest.1)
+]
+
+-- where nothing is found, none passes
+pub find-None : {T : Type 0} (test : T → Bool) (items : List T) → find test items ≡ None
+    → All (λ item. test item ≡ false) items
+find-None test [] is = All-nil (λ item. test item ≡ false)
+find-None test (item ∷ items) is = elim (cases_Bool (test item)) [
+  | inl passes ↦ absurd (
+      let both : Some item ≡ None = sym (ap (λ told. cond told (Some item) (find test items)) passes) ∙ is in
+      cc)
+  | inr fails ↦ All-cons (λ item. test item ≡ false) item items fails (find-None test items
+      (sym (ap (λ told. cond told (Some item) (find test items)) fails) ∙ is))
 ]

@@ -1,9 +1,11 @@
 -- What the steward publishes comes to a result over valid tables, and is told.
-use Rattle.std.proofs.Common.{◌∙◌, ℕ, ◌+◌, ◌<◌, List, [], ◌∷◌, length, map, refl, ap, arith}
-use Rattle.std.specs.Prelude.{◌==◌, All, Ok, option_and_then, option_map, slice_get, zip}
-use Rattle.std.proofs.lemmas.List.Elements.{All-nil}
+use Rattle.std.proofs.Common.{◌≡◌, ◌∙◌, ℕ, ◌+◌, ◌<◌, List, [], ◌∷◌, length, map, Option, Some, None, refl, sym, ap, subst, arith}
+use Rattle.std.specs.Prelude.{◌==◌, All, Ok, find, option_and_then, option_map, slice_get, zip}
+use Rattle.std.specs.Str.{bytes_eq}
+use Rattle.std.proofs.lemmas.List.Elements.{All-cons, All-nil}
 use Rattle.master_rows.specs.declared.master.Master.{Master}
 use Rattle.fix_model.specs.Regions.{row_state}
+use Rattle.region_suggest.proofs.Lists.{All-Contains}
 use Rattle.region_suggest.proofs.Rows.{Fits-row}
 use Rattle.desk_words.specs.declared.limit.Which.TheVariants as which
 use Rattle.desk_words.specs.declared.refusal.Kind.TheVariants as kind
@@ -14,8 +16,9 @@ use Rattle.desk_words.specs.declared.rows.edition.EditionRow.{EditionRow}
 use Rattle.desk_words.specs.declared.rows.master.MasterRow.{MasterRow}
 use Rattle.desk_words.specs.declared.rows.region.RegionRow.{RegionRow}
 use Rattle.desk_words.specs.declared.steward_work.StewardWork.{StewardWork}
-use Rattle.desk_words.specs.declared.steward_work.StewardWork.TheVariants.{AddClerk, AddSchema, AddMaster, AddRulebook, AddEdition, AddRegion}
+use Rattle.desk_words.specs.declared.steward_work.StewardWork.TheVariants.{AddClerk, AddSchema, AddMaster, AddRulebook, AddEdition, AddRegion, AddDerived}
 use Rattle.desk_words.specs.Tables.{Rows, published_of}
+use Rattle.desk_valid.specs.declared.bound.Bound.{Bound}
 use Rattle.desk_valid.specs.declared.parts.Parts.{Parts}
 use Rattle.desk_valid.specs.declared.reading.Rules.{Rules}
 use Rattle.desk_valid.specs.Bindings.{bound_at, parts_of}
@@ -23,20 +26,24 @@ use Rattle.desk_valid.specs.Readings.{all_of, master_at, rules_at, schema_at, sc
 use Rattle.desk_valid.specs.Valid.{AreValid}
 use Rattle.desk_valid.proofs.Kits.{masters-read, rules-read}
 use Rattle.machine_core.specs.Checked.{certainly, each_behind, Gives}
+use Rattle.machine_core.specs.declared.derivation.Derivation.{Derivation}
+use Rattle.machine_core.specs.Deriving.{another_column, another_pair, derivation_of, derived_rows, derived_sheet, master_of}
 use Rattle.machine_core.specs.Finding.{edition_named, rulebook_named, schema_named}
 use Rattle.machine_core.specs.Kept.{kept_made, region_made}
 use Rattle.machine_core.specs.Machine.{making_of}
-use Rattle.machine_core.specs.Steward.AddEdition.{AreOthers, another_master, bindable, in_order, narrow, next_edition}
-use Rattle.machine_core.specs.Steward.AddRegion.{full_row, full_rows, short_text}
+use Rattle.machine_core.specs.Steward.AddEdition.{AreOthers, another_master, bindable, in_order, master_name, narrow, next_edition}
+use Rattle.machine_core.specs.Steward.AddRegion.{full_row, full_rows, region_count, short_text}
 use Rattle.machine_core.specs.Tests.{another_attribute, proper_name}
+use Rattle.machine_core.specs.Views.{edition_at}
+use Rattle.machine_core.proofs.Deriving.{derivation-derivable}
 use Rattle.machine_core.proofs.Masters.{another-master}
 use Rattle.machine_core.proofs.Tested.{certainly-ok, each_behind-all, some_or-ok}
-use Rattle.machine_core.proofs.Widths.{named-kit}
+use Rattle.machine_core.proofs.Widths.{edition-stands, named-kit}
 use Rattle.machine_laws.proofs.Callers.{IsDone}
 use Rattle.machine_laws.proofs.DeedOutcomes.{named-within}
-use Rattle.machine_laws.proofs.Lists.{slice_get-there}
+use Rattle.machine_laws.proofs.Lists.{find-Some, slice_get-read, slice_get-there}
 use Rattle.machine_laws.proofs.Makings.{place_of-within}
-use Rattle.machine_laws.proofs.Outcomes.{HasOutcome, outcome-all, outcome-answer, outcome-behind, outcome-bind, outcome-certainly, outcome-done, outcome-some_or, outcome-unless, outcome-within, plain_tests}
+use Rattle.machine_laws.proofs.Outcomes.{HasOutcome, outcome-all, outcome-answer, outcome-behind, outcome-bind, outcome-certainly, outcome-done, outcome-rows, outcome-some_or, outcome-unless, outcome-within, plain_tests}
 use Rattle.machine_laws.proofs.OwnOutcomes.{outcome-bound}
 
 -- a name is tested
@@ -47,6 +54,10 @@ outcome-name text = search plain_tests
 outcome-another : (words : List (List ℕ)) (before : List ℕ) (word : List ℕ)
     → HasOutcome (another_attribute words before word)
 outcome-another words before word = search plain_tests
+
+-- a column that none before it is
+outcome-column : (names : List (List ℕ)) (before : List ℕ) (word : List ℕ) → HasOutcome (another_column names before word)
+outcome-column names before word = search plain_tests
 
 -- a master under another name
 outcome-master : (masters : List MasterRow) (before : List ℕ) (master : List ℕ × ℕ)
@@ -71,6 +82,13 @@ outcome-full_rows words number [] = outcome-done []
 outcome-full_rows words number (first ∷ others) = outcome-bind (outcome-full_row words number first) (λ texts ok.
     outcome-bind (outcome-full_rows words (number + 1) others) (λ more all_ok. outcome-done _))
 
+-- a pair of an attribute and a column, neither of which stands before
+outcome-pair : (words names : List (List ℕ)) (before : List (ℕ × ℕ)) (pair : List ℕ × List ℕ)
+    → HasOutcome (another_pair words names before pair)
+outcome-pair words names before pair = outcome-bind (outcome-another words (map (λ one. one.0) before) pair.0)
+    (λ attribute ok. outcome-bind (outcome-column names (map (λ one. one.1) before) pair.1) (λ column ok_too.
+    outcome-done _))
+
 module _ (rows : Rows) (valid : AreValid rows) where
   -- the schema at a place reads
   schema-there : (place : ℕ) → place < length rows.schemas
@@ -80,6 +98,18 @@ module _ (rows : Rows) (valid : AreValid rows) where
       let good = valid.schemas place row.0 row.1 in
       outcome-certainly (schema_at (published_of rows) place) good.schema
       (ap (option_and_then schema_in) row.1 ∙ good.reads)
+
+  -- and so does a master
+  master-there : (place : ℕ) → place < length rows.masters → HasOutcome (certainly (master_at (published_of rows) place))
+  master-there place within =
+      let Within : ℕ → Type 0 = λ one. one < length rows.masters in
+      let one = masters-read rows valid (place ∷ []) (All-cons Within place [] within (All-nil Within)) in
+      first-there (master_at (published_of rows) place) one.0 one.1
+    where
+      first-there : (found : Option (List ℕ × Master)) (all : List (List ℕ × Master)) → all_of (found ∷ []) ≡ Some all
+          → HasOutcome (certainly found)
+      first-there None all is = absurd (cc)
+      first-there (Some master) all is = outcome-done master
 
   -- the parts of an edition read
   parts-there : (row : EditionRow) → row.rulebook < length rows.rulebooks
@@ -122,6 +152,51 @@ module _ (rows : Rows) (valid : AreValid rows) where
       (named-kit rows row.edition bound valid
       (certainly-ok (bound_at (published_of rows) row.edition) bound binds)).valid
       (Fits-row bound.kit row.region.attrs texts))) (λ answers ok. outcome-done _))
+
+  -- a master of an edition by its name
+  outcome-master_of : (edition : ℕ) (bound : Bound) (name : List ℕ) → bound_at (published_of rows) edition ≡ Some bound
+      → HasOutcome (master_of (published_of rows) (edition_at (published_of rows) edition) name)
+  outcome-master_of edition bound name binds =
+      let past : EditionRow = record { name = []; version = 0; rulebook = 0; masters = []; folded = [] } in
+      let row : EditionRow = edition_at (published_of rows) edition in
+      let there = slice_get-there rows.editions edition (edition-stands (published_of rows) edition bound binds) in
+      let is : row ≡ there.0 = slice_get-read rows.editions edition there.0 past there.1 in
+      let stand : All (λ place. place < length rows.masters) row.masters =
+      subst (λ (one : EditionRow). All (λ place. place < length rows.masters) one.masters) (sym is)
+      (valid.editions edition there.0 there.1).masters in
+      outcome-bind (outcome-some_or (find (λ place. bytes_eq (master_name rows.masters place) name) row.masters)
+      (NoSuch kind.Master)) (λ place found.
+      let listed = find-Some (λ place. bytes_eq (master_name rows.masters place) name) row.masters place
+      (some_or-ok (find (λ place. bytes_eq (master_name rows.masters place) name) row.masters) (NoSuch kind.Master) place
+      found) in
+      outcome-bind (master-there place (All-Contains (λ one. one < length rows.masters) row.masters place stand listed.0))
+      (λ sheet reads. outcome-done _))
+
+  -- what a derivation is asked of
+  pub outcome-derivation : (edition : List ℕ) (version : ℕ) (master : List ℕ) (pairs : List (List ℕ × List ℕ))
+      → HasOutcome (derivation_of (published_of rows) edition version master pairs)
+  outcome-derivation edition version master pairs = outcome-bind
+      (outcome-some_or (edition_named rows.editions edition version) (NoSuch kind.Edition)) (λ place found.
+      outcome-bind (outcome-bound rows valid place (named-within rows valid edition version place found)) (λ bound binds.
+      outcome-bind (outcome-master_of place bound master (certainly-ok (bound_at (published_of rows) place) bound binds))
+      (λ sheet ok.
+      outcome-bind (outcome-bind (outcome-behind [] _ pairs (outcome-pair bound.names.attributes sheet.columns))
+      (λ places all_ok. outcome-done _)) (λ places all_ok. outcome-done _))))
+
+  -- and its rows
+  outcome-derived : (derivation : Derivation) (edition : derivation.edition < length rows.editions)
+      → HasOutcome (derived_rows (published_of rows) derivation)
+  outcome-derived derivation edition = outcome-bind (outcome-bound rows valid derivation.edition edition) (λ bound binds.
+      outcome-rows bound.kit derivation.grid derivation.attributes derivation.columns
+      (named-kit rows derivation.edition bound valid
+      (certainly-ok (bound_at (published_of rows) derivation.edition) bound binds)).valid)
+
+  -- the sheet of them
+  pub outcome-sheet : (edition : List ℕ) (version : ℕ) (master : List ℕ) (pairs : List (List ℕ × List ℕ))
+      → HasOutcome (derived_sheet (published_of rows) edition version master pairs)
+  outcome-sheet edition version master pairs = outcome-bind (outcome-derivation edition version master pairs)
+      (λ derivation found. outcome-bind (outcome-derived derivation (derivation-derivable rows edition version master pairs
+      derivation valid found).edition) (λ all ok. outcome-done _))
 
   -- what was published is told
   pub outcome-made : (what : Act) (target : ℕ) → IsDone rows 0 what target → HasOutcome (kept_made rows what target)
@@ -184,3 +259,8 @@ module _ (rows : Rows) (valid : AreValid rows) where
       outcome-bind (outcome-bound rows valid place stands) (λ bound binds.
       outcome-bind (outcome-behind [] _ attributes (outcome-another bound.names.attributes)) (λ places ok.
       search (plain_tests, outcome-full_rows))))) (λ row ok. outcome-done _)
+  outcome-making (AddDerived edition version master pairs from) = outcome-bind (outcome-bind
+      (outcome-derivation edition version master pairs) (λ derivation found.
+      let stands = (derivation-derivable rows edition version master pairs derivation valid found).edition in
+      outcome-bind (outcome-within which.Regions (region_count rows.regions derivation.edition + 1)) (λ _ _.
+      outcome-bind (outcome-derived derivation stands) (λ all ok. outcome-done _)))) (λ row ok. outcome-done _)

@@ -183,5 +183,4 @@ module _ (rows : Rows) (valid : AreValid rows) (other : Published) (more : AreMo
         edition = omega (arith, is.edition, length-begins rows.editions other.editions more.editions);
         counted = is.counted;
         within = is.within;
-        on_edition = is.on_edition;
       }

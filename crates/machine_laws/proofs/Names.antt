@@ -30,7 +30,7 @@ position-map test image items =
     λ i. cond (nat_lt (first i) (long i)) (Some (first i)) None
 
 -- the first that passes is the first of a longer list
-position-append : {A : Type 0} (test : A → Bool) (items others : List A) (place : ℕ) → position test items ≡ Some place
+pub position-append : {A : Type 0} (test : A → Bool) (items others : List A) (place : ℕ) → position test items ≡ Some place
     → position test (items ++ others) ≡ Some place
 position-append test items others place is =
     let first : ℕ = position_or_len test items in

@@ -2,19 +2,28 @@
 use Rattle.std.proofs.Common.{◌≡◌, ◌++◌, ℕ, Bool, true, false, List, [], ◌∷◌, Option, Some, None, refl, sym, subst}
 use Rattle.std.specs.Prelude.{All, IsSomeAnd, Result, Ok, Err, nat_le}
 use Rattle.std.proofs.lemmas.List.Elements.{All-head, All-tail}
+use Rattle.desk_base.specs.Grid.{GridRows}
+use Rattle.fix_explain.specs.Reasons.{IsFixed}
 use Rattle.fix_model.specs.declared.kit.Kit.{Kit}
 use Rattle.fix_model.specs.declared.region.Region.{Region}
 use Rattle.fix_model.specs.declared.state.State.{State}
+use Rattle.fix_model.specs.declared.state.Step.{Step}
+use Rattle.fix_model.specs.Run.{IsRun, end_of}
 use Rattle.fix_model.specs.States.{Fits}
 use Rattle.fix_model.specs.Valid.{IsValid}
 use Rattle.desk_words.specs.declared.limit.Which.{Which}
 use Rattle.desk_words.specs.declared.refusal.Refusal.{Refusal}
 use Rattle.desk_words.specs.declared.refusal.Refusal.TheVariants.{Limit}
-use Rattle.machine_core.specs.Checked.{Checked, done, ◌>>=◌, advice_for, answer_for, certainly, each, each_behind, refused, some_or, unless, value_or, Gives}
+use Rattle.desk_words.specs.declared.view.View.{View}
+use Rattle.desk_carry.specs.Changes.{AreApart}
+use Rattle.machine_core.specs.Checked.{Checked, done, ◌>>=◌, advice_for, answer_for, certainly, changes_for, each, each_behind, explanation_for, refused, rows_for, some_or, unless, value_or, Gives}
 use Rattle.machine_core.specs.Limits.{limit_of, within}
 use Rattle.machine_core.proofs.Chains.{Gives-bind, Gives-bind_refused}
 use Rattle.machine_core.proofs.Tested.{certainly-some}
 use Rattle.machine_laws.proofs.Answering.{some-answer}
+use Rattle.machine_laws.proofs.Comparing.{some-changes}
+use Rattle.machine_laws.proofs.Deriving.{some-rows}
+use Rattle.machine_laws.proofs.Explanations.{some-explanation}
 use Rattle.machine_laws.proofs.Suggesting.{some-suggestion}
 
 -- there is a result to which the chain comes
@@ -114,6 +123,27 @@ pub outcome-advice : (kit : Kit) (state : State) (regions : List Region) → IsV
 outcome-advice kit state regions valid fits =
     let suggestion = some-suggestion kit state regions valid fits in
     record { outcome = Ok suggestion.0; gives = (suggestion.0, suggestion.1, refl) }
+
+-- why a run fixes an attribute, where it does
+pub outcome-explanation : (kit : Kit) (state : State) (run : List Step) (attribute : ℕ) → IsValid kit → Fits kit state
+    → IsRun kit state run → IsFixed (end_of kit state run) attribute
+    → HasOutcome (explanation_for kit state run attribute)
+outcome-explanation kit state run attribute valid fits runs fixed =
+    let explanation = some-explanation kit state run attribute valid fits runs fixed in
+    record { outcome = Ok explanation.0; gives = (explanation.0, explanation.1, refl) }
+
+-- which rows a grid gives
+pub outcome-rows : (kit : Kit) (grid : GridRows) (attributes columns : List ℕ) → IsValid kit
+    → HasOutcome (rows_for kit grid attributes columns)
+outcome-rows kit grid attributes columns valid =
+    let found = some-rows kit grid attributes columns valid in
+    record { outcome = Ok found.0; gives = (found.0, found.1, refl) }
+
+-- and which cells two views show otherwise
+pub outcome-changes : (before after : View) → AreApart before.cells → HasOutcome (changes_for before after)
+outcome-changes before after apart =
+    let changes = some-changes before after apart in
+    record { outcome = Ok changes.0; gives = (changes.0, changes.1, refl) }
 
 -- what holds of a value that is there
 pub there-and : {T : Type 0} (found : Option T) (P : T → Type 0) → IsSomeAnd found P

@@ -14,12 +14,14 @@ use Rattle.desk_valid.specs.declared.bound.Bound.{Bound}
 use Rattle.desk_valid.specs.Bindings.{IsNamedKit, bound_at}
 use Rattle.desk_valid.specs.Valid.{AreValid}
 use Rattle.desk_valid.proofs.Kits.{edition-kit}
+use Rattle.fix_explain.specs.Reasons.{IsFixed}
 use Rattle.fix_model.specs.declared.region.Region.{Region}
+use Rattle.fix_model.specs.Run.{end_of}
 use Rattle.fix_model.specs.States.{Fits}
 use Rattle.fix_model.specs.Valid.{IsValid}
 use Rattle.fix_model.proofs.States.{Fits-confirmed}
 use Rattle.machine_core.specs.Answers.{bound_for, state_of}
-use Rattle.machine_core.specs.Checked.{advice_for, answer_for, certainly, Gives}
+use Rattle.machine_core.specs.Checked.{Answer, advice_for, answer_for, certainly, explanation_for, Gives}
 use Rattle.machine_core.specs.Finding.{session_at}
 use Rattle.machine_core.specs.Kept.{kept_reply}
 use Rattle.machine_core.specs.Look.Report.{assessment_of, report_line, report_of}
@@ -30,8 +32,9 @@ use Rattle.machine_core.specs.Sessions.{IsSessionOf}
 use Rattle.machine_core.specs.Views.{view_of}
 use Rattle.machine_core.proofs.Tested.{certainly-ok, some_or-ok}
 use Rattle.machine_core.proofs.Widths.{kit-width, named-kit, width-bound}
+use Rattle.machine_laws.proofs.Explanations.{answer-given, answer-run}
 use Rattle.machine_laws.proofs.Lists.{slice_get-there}
-use Rattle.machine_laws.proofs.Outcomes.{HasOutcome, outcome-advice, outcome-answer, outcome-bind, outcome-certainly, outcome-done, outcome-each, outcome-all, outcome-some_or, there-and}
+use Rattle.machine_laws.proofs.Outcomes.{HasOutcome, outcome-advice, outcome-answer, outcome-bind, outcome-certainly, outcome-done, outcome-each, outcome-all, outcome-explanation, outcome-some_or, there-and}
 use Rattle.machine_laws.proofs.Sessions.{session_at-found}
 
 module _ (rows : Rows) (valid : AreValid rows) where
@@ -43,7 +46,7 @@ module _ (rows : Rows) (valid : AreValid rows) where
       outcome-certainly (bound_at (published_of rows) edition) there.0 there.1
 
   -- which is valid
-  session-kit : (session : SessionRow) (bound : Bound) → Gives (bound_for (published_of rows) session) (Ok bound)
+  pub session-kit : (session : SessionRow) (bound : Bound) → Gives (bound_for (published_of rows) session) (Ok bound)
       → IsValid bound.kit
   session-kit session bound gives = (named-kit rows session.edition bound valid
       (certainly-ok (bound_at (published_of rows) session.edition) bound gives)).valid
@@ -75,6 +78,17 @@ module _ (rows : Rows) (valid : AreValid rows) where
   session-advised session bound regions is gives = outcome-advice bound.kit (state_of session) regions
       (session-kit session bound gives)
       (session-fits session bound is gives)
+
+  -- and why the first run of an answer fixes an attribute
+  pub session-explained : (session : SessionRow) (bound : Bound) (answer : Answer) (attribute : ℕ)
+      → IsSessionOf (published_of rows) session → Gives (bound_for (published_of rows) session) (Ok bound)
+      → Gives (answer_for bound.kit (state_of session)) (Ok answer)
+      → IsFixed (end_of bound.kit (state_of session) answer.first) attribute
+      → HasOutcome (explanation_for bound.kit (state_of session) answer.first attribute)
+  session-explained session bound answer attribute is gives given fixed = outcome-explanation bound.kit (state_of session)
+      answer.first attribute (session-kit session bound gives) (session-fits session bound is gives)
+      (answer-run bound.kit (state_of session) answer.first answer.second answer.verdict
+      (answer-given bound.kit (state_of session) answer given)) fixed
 
   -- it is shown
   pub outcome-view : (number : ℕ) (session : SessionRow) → IsSessionOf (published_of rows) session

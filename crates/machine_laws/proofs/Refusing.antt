@@ -8,10 +8,10 @@ use Rattle.std.proofs.lemmas.Slice.Eq.{bytes_eq-Decides}
 use Rattle.desk_words.specs.declared.change.Change.{Change}
 use Rattle.desk_words.specs.declared.clerk_work.ClerkWork.{ClerkWork}
 use Rattle.desk_words.specs.declared.command.Command.{Command}
-use Rattle.desk_words.specs.declared.command.Command.TheVariants.{Steward, Clerk, Look, DeskReport}
+use Rattle.desk_words.specs.declared.command.Command.TheVariants.{Steward, Clerk, Look, DeskReport, DeskDerive}
 use Rattle.desk_words.specs.declared.command.Ticket.{Ticket}
 use Rattle.desk_words.specs.declared.look.Look.{Look as LookOf}
-use Rattle.desk_words.specs.declared.look.Look.TheVariants.{View, Suggest, Preview, Report, Records}
+use Rattle.desk_words.specs.declared.look.Look.TheVariants.{View, Suggest, Preview, Report, Records, Explain, Carry as CarryLook}
 use Rattle.desk_words.specs.declared.refusal.Kind.TheVariants as kind
 use Rattle.desk_words.specs.declared.refusal.Refusal.{Refusal}
 use Rattle.desk_words.specs.declared.refusal.Refusal.TheVariants.{Gap, NoClerk, NoSuch, Reused, Stale}
@@ -31,9 +31,13 @@ use Rattle.fix_model.specs.Regions.{row_state}
 use Rattle.machine_core.specs.Answers.{bound_for}
 use Rattle.machine_core.specs.Causes.{AsksWith, Cause, WritesWith}
 use Rattle.machine_core.specs.Checked.{Answer, Checked, ◌>>=◌, answer_for, certainly, done, each, some_or, unless, Gives}
+use Rattle.machine_core.specs.Clerk.Carry.{carry_row}
 use Rattle.machine_core.specs.Clerk.Confirm.{confirm_row}
+use Rattle.machine_core.specs.Deriving.{derivation_of, derived_rows, derived_sheet}
 use Rattle.machine_core.specs.Finding.{edition_named, session_at}
 use Rattle.machine_core.specs.Kept.{kept_made, kept_reply}
+use Rattle.machine_core.specs.Look.Carry.{carrying}
+use Rattle.machine_core.specs.Look.Explain.{explain}
 use Rattle.machine_core.specs.Look.Preview.{preview}
 use Rattle.machine_core.specs.Look.Records.{records_of}
 use Rattle.machine_core.specs.Look.Report.{assessment_of, line_over, report_line, report_of}
@@ -42,6 +46,7 @@ use Rattle.machine_core.specs.Look.View.{view_at}
 use Rattle.machine_core.specs.Machine.{IsStep, answered, clerk_of, clerk_write, clerk_write_at, deed_of, look_reply, machine, making_of, steward_write}
 use Rattle.machine_core.specs.Own.{Own, after, own_of}
 use Rattle.machine_core.specs.Tests.{active_session, session_of}
+use Rattle.machine_core.specs.Views.{view_of}
 use Rattle.machine_core.specs.declared.ticket.Use.{Use}
 use Rattle.machine_core.specs.declared.ticket.Use.TheVariants.{Fresh, Repeated}
 use Rattle.machine_core.specs.Ticket.{use_of}
@@ -50,11 +55,12 @@ use Rattle.machine_core.proofs.Tested.{certainly-why, chain-why, done-why, each-
 use Rattle.machine_core.specs.OwnRows.{HasOwnTarget}
 use Rattle.machine_laws.proofs.Accepted.{deed-sound}
 use Rattle.machine_laws.proofs.Again.{use_at}
+use Rattle.machine_laws.proofs.DerivingWhy.{derivation-why, derived_rows-why}
 use Rattle.machine_laws.proofs.Lists.{slice_get-read, slice_get-there}
 use Rattle.machine_laws.proofs.Names.{none-passes}
 use Rattle.machine_laws.proofs.StewardWhy.{making-why}
 use Rattle.machine_laws.proofs.Unchanged.{kept-not_refused}
-use Rattle.machine_laws.proofs.Why.{active-why, answer-why, confirm-why, deed-why, view-why}
+use Rattle.machine_laws.proofs.Why.{active-why, answer-why, carry_row-why, confirm-why, deed-why, explain-why, view-why}
 use Rattle.machine_laws.proofs.Writes.{clerk-written, clerk_of-ok, steward-written}
 
 -- what the rules make of a session is never refused
@@ -327,9 +333,25 @@ module _ (rows : Rows) (valid : AreValid rows) where
           chain-why P (records_of (published_of rows) (own_of rows place) edition version) _
           (chain-why P (some_or (edition_named rows.editions edition version) (NoSuch kind.Edition)) _
           (some_or-why P (edition_named rows.editions edition version) (NoSuch kind.Edition) (λ none.
-          inr ((edition, version), refl, none)))
+          inr (inl ((edition, version), refl, none))))
           (λ at found. chain-why P (certainly (bound_at (published_of rows) at)) _
           (certainly-why P (bound_at (published_of rows) at)) (λ bound binds. done-why P _))) (λ sheet ok. done-why P _)
+      at_look (Explain number word) place asks =
+          let P : Refusal → Type 0 = Cause rows (Look name (Explain number word)) in
+          chain-why P (explain (published_of rows) (own_of rows place) number word) _
+          (explain-why rows name number word (own_of rows place) asks) (λ explained ok. done-why P _)
+      at_look (CarryLook number version) place asks =
+          let command : Command = Look name (CarryLook number version) in
+          let P : Refusal → Type 0 = Cause rows command in
+          let own : Own = own_of rows place in
+          chain-why P (carrying (published_of rows) own number version) _
+          (chain-why P (carry_row (published_of rows) own number version) _
+          (carry_row-why rows command own number version asks refl refl) (λ moved moved_ok.
+          chain-why P (view_at (published_of rows) own number) _ (chain-why P (session_of own.sessions number) _
+          (some_or-why P (session_at own.sessions number) (NoSuch kind.Session) (λ none. (own, number, asks, refl, none)))
+          (λ session ok. view-why P (published_of rows) number session)) (λ before before_ok.
+          chain-why P (view_of (published_of rows) number moved) _ (view-why P (published_of rows) number moved)
+          (λ behind behind_ok refusal gives. done-why P _ refusal gives.2)))) (λ carried ok. done-why P _)
 
   -- each request
   pub refusal-why : (command : Command) (refusal : Refusal) → Gives (machine rows command) (Err refusal)
@@ -341,6 +363,14 @@ module _ (rows : Rows) (valid : AreValid rows) where
       let P : Refusal → Type 0 = Cause rows DeskReport in
       chain-why P (report_of (published_of rows) None (flat_map (λ sessions. sessions) rows.sessions)) _
       (report-why P (published_of rows) None (flat_map (λ sessions. sessions) rows.sessions)) (λ sheet ok. done-why P _)
+  refusal-why (DeskDerive edition version master pairs) =
+      let command : Command = DeskDerive edition version master pairs in
+      let P : Refusal → Type 0 = Cause rows command in
+      chain-why P (derived_sheet (published_of rows) edition version master pairs) _
+      (chain-why P (derivation_of (published_of rows) edition version master pairs) _
+      (derivation-why rows command edition version master pairs refl refl refl refl) (λ derivation found.
+      chain-why P (derived_rows (published_of rows) derivation) _ (derived_rows-why P (published_of rows) derivation)
+      (λ all ok. done-why P _))) (λ sheet ok. done-why P _)
 
 -- what is given is no refusal
 look-not_refused : (published : Published) (own : Own) (look : LookOf) (refusal : Refusal)
@@ -364,6 +394,14 @@ look-not_refused published own Report refusal gives =
 look-not_refused published own (Records edition version) refusal gives =
     let sheet = Gives-bind_ok (records_of published own edition version) _ (reply.Refused refusal) gives in
     let same = done-value (reply.Records sheet.0) (reply.Refused refusal) sheet.2 in
+    cc
+look-not_refused published own (Explain number word) refusal gives =
+    let explained = Gives-bind_ok (explain published own number word) _ (reply.Refused refusal) gives in
+    let same = done-value (reply.Explained explained.0) (reply.Refused refusal) explained.2 in
+    cc
+look-not_refused published own (CarryLook number version) refusal gives =
+    let carried = Gives-bind_ok (carrying published own number version) _ (reply.Refused refusal) gives in
+    let same = done-value (reply.Carried carried.0) (reply.Refused refusal) carried.2 in
     cc
 
 made-not_refused : (rows : Rows) (command : Command) (made : Reply × List Change) (refusal : Refusal)
@@ -393,6 +431,11 @@ made-not_refused rows DeskReport made refusal gives is =
     let sheet = Gives-bind_ok (report_of (published_of rows) None (flat_map (λ sessions. sessions) rows.sessions)) (λ sheet.
     done (reply.Report sheet, [])) made gives in
     let same = sym (ap (λ (one : Reply × List Change). one.0) (done-value (reply.Report sheet.0, []) made sheet.2)) ∙ is in
+    cc
+made-not_refused rows (DeskDerive edition version master pairs) made refusal gives is =
+    let sheet = Gives-bind_ok (derived_sheet (published_of rows) edition version master pairs) (λ sheet.
+    done (reply.Derived sheet, [])) made gives in
+    let same = sym (ap (λ (one : Reply × List Change). one.0) (done-value (reply.Derived sheet.0, []) made sheet.2)) ∙ is in
     cc
 
 -- a request that is answered by a refusal has its cause

@@ -1,20 +1,18 @@
 -- A new region is good where it is put.
-use Rattle.std.proofs.Common.{◌≡◌, ◌≢◌, ◌∙◌, ℕ, ◌+◌, ◌<◌, ◌≤◌, ◌*◌, ◌^◌, Bool, true, cond, List, [], ◌∷◌, ◌++◌, length, get_or, map, take, suc, inl, inr, refl, sym, ap, subst, arith}
-use Rattle.std.specs.Prelude.{◌==◌, All, AllPairs, IfSome, Ok, count_by, not, position, zip}
-use Rattle.std.specs.List.{list_any, range_with_len}
-use Rattle.std.specs.Str.{bytes_eq}
+use Rattle.std.proofs.Common.{◌≡◌, ◌∙◌, ℕ, ◌+◌, ◌<◌, ◌≤◌, ◌*◌, ◌^◌, Bool, true, cond, List, [], ◌∷◌, ◌++◌, length, get_or, map, take, suc, inl, inr, refl, sym, ap, subst, arith}
+use Rattle.std.specs.Prelude.{◌==◌, All, IfSome, Ok, count_by, zip}
+use Rattle.std.specs.List.{range_with_len}
 use Rattle.std.proofs.lemmas.Bool.{cases_lt}
 use Rattle.std.proofs.lemmas.Bool.Decides.{nat_tests}
 use Rattle.std.proofs.lemmas.List.{length-append, length-map, take_at, take-take}
-use Rattle.std.proofs.lemmas.List.Elements.{All-cons, All-nil, All-push, All-weaker}
+use Rattle.std.proofs.lemmas.List.Elements.{All-cons, All-nil, All-weaker}
 use Rattle.std.proofs.lemmas.List.FromFn.{get_or-map-range_with_len, length-range_with_len}
 use Rattle.std.proofs.lemmas.List.Sums.{count_by_more_yes, sum_by-take-le}
 use Rattle.std.proofs.lemmas.Slice.Zip.{length-zip}
-use Rattle.std.proofs.lemmas.List.Quantifiers.{all_pairs_push, position-Some}
 use Rattle.desk_words.specs.declared.change.Change.TheVariants as change
 use Rattle.desk_words.specs.declared.limit.Which.TheVariants as which
 use Rattle.desk_words.specs.declared.refusal.Kind.TheVariants as kind
-use Rattle.desk_words.specs.declared.refusal.Refusal.TheVariants.{NoSuch, RowWidth, Twice, UnknownAttr}
+use Rattle.desk_words.specs.declared.refusal.Refusal.TheVariants.{NoSuch, RowWidth, UnknownAttr}
 use Rattle.desk_words.specs.declared.rows.act.Act.TheVariants as act
 use Rattle.desk_words.specs.declared.rows.region.RegionRow.{RegionRow}
 use Rattle.desk_words.specs.declared.steward_work.StewardWork.TheVariants.{AddRegion}
@@ -31,40 +29,16 @@ use Rattle.machine_core.specs.Limits.{within}
 use Rattle.machine_core.specs.Machine.{making_of}
 use Rattle.machine_core.specs.declared.making.Making.{Making}
 use Rattle.machine_core.specs.Steward.AddRegion.{full_row, full_rows, region_count, region_row, short_text}
-use Rattle.machine_core.specs.Tests.{another_attribute, attribute_of}
+use Rattle.machine_core.specs.Tests.{another_attribute}
 use Rattle.machine_core.proofs.Chains.{Gives-bind_ok, done-value}
-use Rattle.machine_core.proofs.Masters.{not-any}
-use Rattle.machine_core.proofs.Tested.{certainly-ok, each-length, each_behind-all, each_behind-length, some_or-ok, unless-ok, within-ok}
+use Rattle.machine_core.proofs.Distinct.{AreDistinct, another-place, no-places}
+use Rattle.machine_core.proofs.Tested.{certainly-ok, each-length, each_behind-all, each_behind-length, unless-ok, within-ok}
 use Rattle.machine_laws.proofs.Callers.{names_of}
 use Rattle.machine_laws.proofs.Lists.{Begins-push, Begins-same, pushed, slice_get-read, slice_get-there}
 use Rattle.machine_laws.proofs.Makings.{IsSoundMaking, stays}
 use Rattle.machine_laws.proofs.Sessions.{distinct-below}
 use Rattle.machine_laws.proofs.Valid.{AreValid-published}
 use Rattle.machine_core.proofs.Widths.{edition-stands, width-bound}
-
--- distinct places below a number
-record AreDistinct (most : ℕ) (places : List ℕ) : Type 0 where
-  below : All (λ place. place < most) places
-  apart : AllPairs (λ one other. one ≢ other) places
-
--- an attribute that is none of those before it
-another-attribute : (attributes : List (List ℕ)) (before word : List ℕ) (place : ℕ)
-    → AreDistinct (length attributes) before → Gives (another_attribute attributes before word) (Ok place)
-    → AreDistinct (length attributes) (before ++ place ∷ [])
-another-attribute attributes before word place are gives =
-    let taken : ℕ → ℕ → Bool = λ one earlier. earlier == one in
-    let found = Gives-bind_ok (attribute_of attributes word) (λ one. unless (not (list_any (taken one) before)) (Twice word)
-    >> done one) place gives in
-    let free = Gives-bind_ok (unless (not (list_any (taken found.0) before)) (Twice word)) (λ _. done found.0) place found.2 in
-    let same : place ≡ found.0 = done-value found.0 place free.2 in
-    let there = position-Some (bytes_eq word) attributes found.0 []
-    (some_or-ok (position (bytes_eq word) attributes) (UnknownAttr word) found.0 found.1) in
-    let none = not-any (taken found.0) before (unless-ok (not (list_any (taken found.0) before)) (Twice word) free.0 free.1) in
-    subst (λ one. AreDistinct (length attributes) (before ++ one ∷ [])) (sym same) (record {
-      below = All-push (λ one. one < length attributes) before found.0 are.below there.0;
-      apart = all_pairs_push (λ one other. one ≢ other) before found.0 are.apart (λ index past inside equal.
-          none index past inside (grind (arith, nat_tests, equal)));
-    })
 
 -- each row has a text for each attribute, and there are as many as were given
 full_rows-ok : (attributes : List (List ℕ)) (number : ℕ) (rows found : List (List (List ℕ)))
@@ -100,7 +74,7 @@ full_rows-ok attributes number (first ∷ others) found gives =
 
 module _ (rows : Rows) (valid : AreValid rows) where
   -- a new region
-  IsSoundMaking-region : (row : RegionRow) → length rows.regions + 1 < 2 ^ 31
+  pub IsSoundMaking-region : (row : RegionRow) → length rows.regions + 1 < 2 ^ 31
       → IsRegionRow (record (published_of rows) { regions = rows.regions ++ row ∷ [] }) (length rows.regions) row
       → IsSoundMaking rows (record { change = change.Region row; act = act.Region; target = length rows.regions })
   IsSoundMaking-region row few good =
@@ -178,7 +152,7 @@ module _ (rows : Rows) (valid : AreValid rows) where
       omega (arith, more, least, same_count, parts)
 
   -- so there are no more than eight times as many regions as editions
-  regions-few : length rows.regions ≤ 512
+  pub regions-few : length rows.regions ≤ 512
   regions-few =
       let number : ℕ → ℕ = λ place. edition_in place * 8 + earlier_count place in
       let places : List ℕ = range_with_len 0 (length rows.regions) in
@@ -241,12 +215,8 @@ module _ (rows : Rows) (valid : AreValid rows) where
       let few = Gives-bind_ok (within which.Regions (region_count rows.regions edition.0 + 1)) (λ _. done made) row.0 full.2 in
       let binds = certainly-ok (bound_at published edition.0) bound.0 bound.1 in
       let distinct : AreDistinct (length words) places.0 = each_behind-all (AreDistinct (length words))
-      (another_attribute words) attributes [] places.0 (λ before word place are found. another-attribute words before word
-      place are found) (record {
-        below = All-nil (λ place. place < length words);
-        apart = λ i j past before last.
-            absurd (omega arith);
-      }) places.1 in
+      (another_attribute words) attributes [] places.0 (λ before word place are found. another-place words before word
+      (UnknownAttr word) place are found) (no-places (length words)) places.1 in
       let as_many : length attributes ≡ length places.0 =
       omega (arith, each_behind-length (another_attribute words) attributes [] places.0 places.1) in
       let whole = full_rows-ok attributes 1 texts full.0 full.1 in

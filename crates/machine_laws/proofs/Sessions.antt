@@ -1,8 +1,8 @@
 -- A clerk's sessions: one is replaced, or others come behind.
-use Rattle.std.proofs.Common.{◌≡◌, ◌≢◌, ◌∙◌, ℕ, ◌-◌, ◌<◌, ◌≤◌, Bool, true, false, List, [], ◌∷◌, ◌++◌, length, get_or, map, set, take, drop, Option, Some, None, refl, sym, ap, subst, eqb, eqb-true, arith}
+use Rattle.std.proofs.Common.{◌≡◌, ◌≢◌, ◌∙◌, ℕ, ◌-◌, ◌<◌, ◌≤◌, Bool, true, false, List, [], ◌∷◌, ◌++◌, length, get_or, map, set, take, Option, Some, None, refl, sym, ap, subst, eqb, eqb-true, arith}
 use Rattle.std.specs.Prelude.{◌==◌, All, AllPairs, IfSome, Ok, slice_get, if◌then◌else◌}
 use Rattle.std.proofs.lemmas.Bool.Decides.{Decides-eqb, nat_tests}
-use Rattle.std.proofs.lemmas.List.{drop-append-le, drop-map, get_or-map, get_or-take, length-take, length-append, length-drop, length-map, length-set, take-append-le, take-map, take_at}
+use Rattle.std.proofs.lemmas.List.{get_or-map, get_or-take, length-take, length-append, length-map, length-set, take-append-le, take_at}
 use Rattle.std.proofs.lemmas.List.Elements.{All-map}
 use Rattle.std.proofs.lemmas.List.Folds.{Any-from_list_any}
 use Rattle.std.proofs.lemmas.Map.Made.{IsDistinct-from_AllPairs}
@@ -27,7 +27,7 @@ use Rattle.machine_core.specs.Tests.{active, active_session, session_of}
 use Rattle.machine_core.proofs.Chains.{Gives-bind_ok, done-value}
 use Rattle.machine_core.proofs.Tested.{some_or-ok, unless-ok}
 use Rattle.machine_core.specs.OwnRows.{AreOwnRows}
-use Rattle.machine_laws.proofs.Lists.{All-from_map, EachAt-begins, EachAt-set, Begins-push, map-set_same, pushed, slice_get-append, slice_get-read, slice_get-set_other, slice_get-set_same, slice_get-there}
+use Rattle.machine_laws.proofs.Lists.{EachAt-begins, EachAt-set, Begins-push, pushed, slice_get-append, slice_get-read, slice_get-set_other, slice_get-set_same, slice_get-there}
 
 -- distinct numbers below a number are no more than it
 pub distinct-below : (numbers : List ℕ) (most : ℕ) → AllPairs (λ one other. one ≢ other) numbers
@@ -80,7 +80,7 @@ pub record StaysAs (old new : SessionRow) : Type 0 where
   pub batch : new.batch ≡ old.batch
 
 -- is good where the one before it was
-IsSessionRow-stays : (published : Published) (batches : List BatchRow) (old new : SessionRow) → StaysAs old new
+pub IsSessionRow-stays : (published : Published) (batches : List BatchRow) (old new : SessionRow) → StaysAs old new
     → IsSessionRow published batches old → IsSessionRow published batches new
 IsSessionRow-stays published batches old new stays is = record {
   edition = omega (arith, stays.edition, is.edition);
@@ -100,28 +100,11 @@ IsSessionRow-stays published batches old new stays is = record {
         weaker None holds_too = tt
         weaker (Some width) holds_too = more width holds_too
 
--- the sessions of a batch are on its edition where the editions are the same
-on_edition-same : (sessions others : List SessionRow) (row : BatchRow) (edition_of : SessionRow → ℕ)
-    → map edition_of others ≡ map edition_of sessions
-    → All (λ session. edition_of session ≡ row.edition) (take row.count (drop (row.first - 1) sessions))
-    → All (λ session. edition_of session ≡ row.edition) (take row.count (drop (row.first - 1) others))
-on_edition-same sessions others row edition_of same all =
-    let On : ℕ → Type 0 = λ edition. edition ≡ row.edition in
-    let part : (list : List SessionRow) → map edition_of (take row.count (drop (row.first - 1) list))
-    ≡ take row.count (drop (row.first - 1) (map edition_of list)) = λ list.
-    sym (take-map edition_of row.count (drop (row.first - 1) list))
-    ∙ ap (take row.count) (sym (drop-map edition_of (row.first - 1) list)) in
-    let editions : map edition_of (take row.count (drop (row.first - 1) sessions))
-    ≡ map edition_of (take row.count (drop (row.first - 1) others)) =
-    part sessions ∙ ap (λ list. take row.count (drop (row.first - 1) list)) (sym same) ∙ sym (part others) in
-    All-from_map On edition_of (take row.count (drop (row.first - 1) others))
-    (subst (All On) editions (All-map On edition_of (take row.count (drop (row.first - 1) sessions)) all))
-
 module _ (published : Published) (sessions : List SessionRow) (records : List RecordRow) (batches : List BatchRow)
     (are : AreOwnRows published sessions records batches) where
   -- an active session is replaced: a record names none, for its session is committed
   module _ (place : ℕ) (old new : SessionRow) (stands : slice_get sessions place ≡ Some old) (is_open : old.stage ≡ Active)
-      (stays : StaysAs old new) where
+      (good : IsSessionRow published batches new) where
     not-named : (index : ℕ) (row : RecordRow) → IsRecordRow sessions records index row → row.session - 1 ≢ place
     not-named index row is same =
         let there : slice_get sessions place ≡ Some is.session = subst (λ one. slice_get sessions one ≡ Some is.session) same
@@ -146,15 +129,12 @@ module _ (published : Published) (sessions : List SessionRow) (records : List Re
       edition = is.edition;
       counted = is.counted;
       within = omega (arith, is.within, length-set sessions place new);
-      on_edition = on_edition-same sessions (set sessions place new) row (λ session. session.edition)
-          (map-set_same (λ session. session.edition) sessions place new old stands stays.edition) is.on_edition;
     }
 
     pub AreOwnRows-set : AreOwnRows published (set sessions place new) records batches
     AreOwnRows-set = record {
       sessions_valid = EachAt-set (λ index. IsSessionRow published batches) (λ index. IsSessionRow published batches) sessions
-          place new are.sessions_valid (λ index row apart is. is)
-          (IsSessionRow-stays published batches old new stays (are.sessions_valid place old stands));
+          place new are.sessions_valid (λ index row apart is. is) good;
       records_valid = λ index row there. IsRecordRow-set index row (are.records_valid index row there);
       batches_valid = λ index row there. IsBatchRow-set row (are.batches_valid index row there);
     }
@@ -204,19 +184,11 @@ module _ (published : Published) (sessions : List SessionRow) (records : List Re
       (good_batch : (place : ℕ) (row : BatchRow) → length batches ≤ place → slice_get (batches ++ more) place ≡ Some row
       → IsBatchRow published (sessions ++ news) row) where
     IsBatchRow-append : (row : BatchRow) → IsBatchRow published sessions row → IsBatchRow published (sessions ++ news) row
-    IsBatchRow-append row is =
-        let start : row.first - 1 ≤ length sessions = omega (arith, is.within, is.counted) in
-        let enough : row.count ≤ length (drop (row.first - 1) sessions) =
-        omega (arith, is.within, is.counted, length-drop (row.first - 1) sessions) in
-        let same : take row.count (drop (row.first - 1) (sessions ++ news)) ≡ take row.count (drop (row.first - 1) sessions) =
-        ap (take row.count) (drop-append-le (row.first - 1) sessions news start)
-        ∙ take-append-le row.count (drop (row.first - 1) sessions) news enough in
-        record {
-          edition = is.edition;
-          counted = is.counted;
-          within = omega (arith, is.within, length-append sessions news);
-          on_edition = subst (All (λ session. session.edition ≡ row.edition)) (sym same) is.on_edition;
-        }
+    IsBatchRow-append row is = record {
+      edition = is.edition;
+      counted = is.counted;
+      within = omega (arith, is.within, length-append sessions news);
+    }
 
     pub AreOwnRows-append : AreOwnRows published (sessions ++ news) records (batches ++ more)
     AreOwnRows-append = record {

@@ -9,7 +9,7 @@ use Rattle.desk_words.specs.declared.change.Change.{Change}
 use Rattle.desk_words.specs.declared.change.Change.TheVariants as change
 use Rattle.desk_words.specs.declared.clerk_work.ClerkWork.{ClerkWork}
 use Rattle.desk_words.specs.declared.command.Command.{Command}
-use Rattle.desk_words.specs.declared.command.Command.TheVariants.{Steward, Clerk, Look, DeskReport}
+use Rattle.desk_words.specs.declared.command.Command.TheVariants.{Steward, Clerk, Look, DeskReport, DeskDerive}
 use Rattle.desk_words.specs.declared.command.Ticket.{Ticket}
 use Rattle.desk_words.specs.declared.refusal.Refusal.{Refusal}
 use Rattle.desk_words.specs.declared.reply.Reply.{Reply}
@@ -19,7 +19,7 @@ use Rattle.desk_words.specs.declared.steward_work.StewardWork.{StewardWork}
 use Rattle.desk_words.specs.Changes.{changed, changed_all}
 use Rattle.desk_words.specs.Tables.{AreTables, Published, Rows, new_clerk, published_of}
 use Rattle.desk_valid.specs.Valid.{AreValid}
-use Rattle.machine_core.specs.Checked.{Checked, done, refused, asked, advised, never, ◌>>=◌, Gives}
+use Rattle.machine_core.specs.Checked.{Checked, done, refused, asked, advised, explained, derived, compared, never, ◌>>=◌, Gives}
 use Rattle.machine_core.specs.Machine.{IsStep, answered, clerk_of, machine}
 use Rattle.machine_core.specs.declared.making.Making.{Making}
 use Rattle.machine_core.specs.Own.{Own, own_of}
@@ -33,7 +33,7 @@ use Rattle.machine_laws.proofs.Lists.{Begins, Begins-push, Begins-same, list_at-
 use Rattle.machine_laws.proofs.More.{AreMore}
 use Rattle.machine_laws.proofs.Names.{clerk_of-begins, found-place}
 use Rattle.machine_laws.proofs.Valid.{with_own}
-use Rattle.machine_laws.proofs.Writes.{IsNew, IsPlaceOf, IsStewardsNew, clerk-written, clerk_of-ok, look-unchanged, report-unchanged, steward-written}
+use Rattle.machine_laws.proofs.Writes.{IsNew, IsPlaceOf, IsStewardsNew, clerk-written, clerk_of-ok, derive-unchanged, look-unchanged, report-unchanged, steward-written}
 
 -- what an accepted request is: a new write of a clerk or of the steward
 pub data IsAccepted (rows : Rows) : Command → Reply → List Change → Type 0 where
@@ -54,6 +54,8 @@ made-cases rows (Clerk name ticket work) made gives = elim (clerk-written rows n
 ]
 made-cases rows (Look name look) made gives = inl (look-unchanged rows name look made gives)
 made-cases rows DeskReport made gives = inl (report-unchanged rows made gives)
+made-cases rows (DeskDerive edition version master pairs) made gives =
+    inl (derive-unchanged rows edition version master pairs made gives)
 
 -- a step changes nothing, or its request is accepted
 pub step-cases : (rows : Rows) (command : Command) (answer : Reply) (changes : List Change)
@@ -163,6 +165,9 @@ chain-done (done found) make value is = (found, refl, cc)
 chain-done (refused refusal) make value is = absurd (cc)
 chain-done (asked kit state next) make value is = absurd (cc)
 chain-done (advised kit state regions next) make value is = absurd (cc)
+chain-done (explained kit state run attribute next) make value is = absurd (cc)
+chain-done (derived kit grid attributes columns next) make value is = absurd (cc)
+chain-done (compared before after next) make value is = absurd (cc)
 chain-done never make value is = absurd (cc)
 
 -- a caller who is found has a row; a clerk's is behind the steward's

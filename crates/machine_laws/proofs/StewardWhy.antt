@@ -26,17 +26,19 @@ use Rattle.desk_words.specs.declared.refusal.Refusal.TheVariants.{BadName, BadTe
 use Rattle.desk_words.specs.declared.rows.clerk.ClerkRow.{ClerkRow}
 use Rattle.desk_words.specs.declared.rows.edition.EditionRow.{EditionRow}
 use Rattle.desk_words.specs.declared.steward_work.StewardWork.{StewardWork}
-use Rattle.desk_words.specs.declared.steward_work.StewardWork.TheVariants.{AddClerk, AddSchema, AddMaster, AddRulebook, AddEdition, AddRegion}
+use Rattle.desk_words.specs.declared.steward_work.StewardWork.TheVariants.{AddClerk, AddSchema, AddMaster, AddRulebook, AddEdition, AddRegion, AddDerived}
 use Rattle.desk_words.specs.Tables.{Published, Rows, published_of}
 use Rattle.desk_valid.specs.Bindings.{binding, bound_at, parts_of}
 use Rattle.desk_valid.specs.Readings.{all_of, rules_at, schema_at}
 use Rattle.machine_core.specs.Causes.{AreWords, Cause, StandsTwice}
 use Rattle.machine_core.specs.Checked.{◌>>◌, certainly, done, each_behind, some_or, unless, value_or, Gives}
 use Rattle.machine_core.specs.Faults.{bind_refusal, rules_refusal, schema_refusal, sheet_refusal}
+use Rattle.machine_core.specs.Deriving.{derivation_of, derived_rows}
 use Rattle.machine_core.specs.Finding.{edition_named, master_named, rulebook_named, schema_named}
 use Rattle.machine_core.specs.Limits.{within}
 use Rattle.machine_core.specs.Machine.{making_of}
 use Rattle.machine_core.specs.Steward.AddClerk.{clerk_row}
+use Rattle.machine_core.specs.Steward.AddDerived.{derived_region}
 use Rattle.machine_core.specs.Steward.AddEdition.{another_master, bindable, edition_row, in_order, master_name, next_edition}
 use Rattle.machine_core.specs.Steward.AddMaster.{master_row}
 use Rattle.machine_core.specs.Steward.AddRegion.{full_row, full_rows, region_row, short_text}
@@ -46,6 +48,8 @@ use Rattle.machine_core.specs.Tests.{another_attribute, attribute_of, proper_nam
 use Rattle.machine_core.proofs.Chains.{Gives-bind_ok, done-value}
 use Rattle.machine_core.proofs.Masters.{master-named}
 use Rattle.machine_core.proofs.Tested.{certainly-ok, certainly-why, chain-why, done-why, each-why, each_behind-found, each_behind-refused, some_or-ok, some_or-why, unless-why, value_or-ok, value_or-why, within-why}
+use Rattle.machine_laws.proofs.Derived.{IsAskedOf-found}
+use Rattle.machine_laws.proofs.DerivingWhy.{derivation-why, derived_rows-why}
 use Rattle.machine_laws.proofs.Why.{Contains-image, attribute-why, sheet-why, word-at}
 use Rattle.machine_laws.proofs.Wrong.{bind-why, rules-why, schema-why}
 
@@ -366,7 +370,7 @@ module _ (rows : Rows) (ticket : Ticket) where
       (λ attributes attributes_ok. chain-why P (within which.EditionMasters (length masters)) _
       (within-why P which.EditionMasters (length masters) (λ more. (_, refl, refl, more)))
       (λ few few_ok. chain-why P (each_behind [] (another_master published.masters) masters) _
-      (masters-why P published masters (λ master listed none. (master, listed, none)) (λ one twice. inr twice))
+      (masters-why P published masters (λ master listed none. inl (master, listed, none)) (λ one twice. inr (inl twice)))
       (λ places places_ok.
       let at = masters-places published masters [] places places_ok in
       let made : EditionRow =
@@ -402,7 +406,7 @@ module _ (rows : Rows) (ticket : Ticket) where
       → P refusal =
       chain-why P (some_or (edition_named rows.editions edition version) (NoSuch kind.Edition)) _
       (some_or-why P (edition_named rows.editions edition version) (NoSuch kind.Edition) (λ none.
-      inr ((edition, version), refl, none)))
+      inr (inl ((edition, version), refl, none))))
       (λ at found. chain-why P (certainly (bound_at published at)) _ (certainly-why P (bound_at published at)) (λ bound is.
       let there = some_or-ok (edition_named rows.editions edition version) (NoSuch kind.Edition) at found in
       let words : AreWords rows command bound.names.attributes = inl (record {
@@ -446,6 +450,28 @@ module _ (rows : Rows) (ticket : Ticket) where
       (λ room room_ok. done-why P _)))))) in
       chain-why P (region_row published edition version attributes texts) _ whole (λ row ok. done-why P _)
 
+  add_derived-why : (edition : List ℕ) (version : ℕ) (master : List ℕ) (pairs : List (List ℕ × List ℕ)) (from : ℕ)
+      (refusal : Refusal) → Gives (making_of rows (AddDerived edition version master pairs from)) (Err refusal)
+      → Cause rows (Steward ticket (AddDerived edition version master pairs from)) refusal
+  add_derived-why edition version master pairs from =
+      let command : Command = Steward ticket (AddDerived edition version master pairs from) in
+      let published : Published = published_of rows in
+      let P : Refusal → Type 0 = Cause rows command in
+      let whole : (refusal : Refusal) → Gives (derived_region published edition version master pairs from) (Err refusal)
+      → P refusal =
+      chain-why P (derivation_of published edition version master pairs) _
+      (derivation-why rows command edition version master pairs refl refl refl refl) (λ derivation found.
+      let there = (IsAskedOf-found published edition version master pairs derivation found).named in
+      chain-why P _ _ (within-why P which.Regions _ (λ more. (
+        _,
+        (derivation.edition, inr (inl ((edition, version), refl, there)), refl),
+        refl,
+        more,
+      )))
+      (λ room room_ok. chain-why P (derived_rows published derivation) _ (derived_rows-why P published derivation)
+      (λ all all_ok. done-why P _))) in
+      chain-why P (derived_region published edition version master pairs from) _ whole (λ row ok. done-why P _)
+
   -- each command of the steward
   pub making-why : (work : StewardWork) (refusal : Refusal) → Gives (making_of rows work) (Err refusal)
       → Cause rows (Steward ticket work) refusal
@@ -455,3 +481,4 @@ module _ (rows : Rows) (ticket : Ticket) where
   making-why (AddRulebook name schema version body) = add_rulebook-why name schema version body
   making-why (AddEdition name rulebook masters folded) = add_edition-why name rulebook masters folded
   making-why (AddRegion edition version attributes texts) = add_region-why edition version attributes texts
+  making-why (AddDerived edition version master pairs from) = add_derived-why edition version master pairs from

@@ -18,7 +18,7 @@ use Rattle.desk_words.specs.declared.rows.act.Act.{Act}
 use Rattle.desk_words.specs.declared.rows.act.Act.TheVariants as act
 use Rattle.desk_words.specs.declared.rows.clerk.ClerkRow.{ClerkRow}
 use Rattle.desk_words.specs.declared.steward_work.StewardWork.{StewardWork}
-use Rattle.desk_words.specs.declared.steward_work.StewardWork.TheVariants.{AddClerk, AddSchema, AddMaster, AddRulebook, AddEdition, AddRegion}
+use Rattle.desk_words.specs.declared.steward_work.StewardWork.TheVariants.{AddClerk, AddSchema, AddMaster, AddRulebook, AddEdition, AddRegion, AddDerived}
 use Rattle.desk_words.specs.Changes.{changed, put}
 use Rattle.desk_words.specs.Tables.{Published, Rows, new_clerk, published_of}
 use Rattle.machine_core.specs.Checked.{Checked, ◌>>=◌, ◌>>◌, certainly, done, unless}
@@ -29,6 +29,7 @@ use Rattle.machine_core.specs.declared.making.Making.{Making}
 use Rattle.machine_core.specs.Own.{own_of}
 use Rattle.machine_core.specs.Steward.AddEdition.{edition_row}
 use Rattle.machine_core.specs.Steward.AddMaster.{master_row}
+use Rattle.machine_core.specs.Steward.AddDerived.{derived_region}
 use Rattle.machine_core.specs.Steward.AddRegion.{region_row}
 use Rattle.machine_core.specs.Steward.AddRulebook.{rulebook_row}
 use Rattle.machine_core.specs.Steward.AddSchema.{schema_row}
@@ -89,6 +90,13 @@ making-alike rows other (AddEdition name rulebook masters folded) alike = ap (λ
     }))) alike.published
 making-alike rows other (AddRegion edition version attributes texts) alike = ap (λ (one : Published). region_row one edition
     version attributes texts >>= (λ row. done (record {
+      change = change.Region row;
+      act = act.Region;
+      target = length
+          one.regions;
+    }))) alike.published
+making-alike rows other (AddDerived edition version master pairs from) alike = ap (λ (one : Published). derived_region one
+    edition version master pairs from >>= (λ row. done (record {
       change = change.Region row;
       act = act.Region;
       target = length

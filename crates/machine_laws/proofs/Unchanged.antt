@@ -3,7 +3,7 @@ use Rattle.std.proofs.Common.{◌≡◌, ◌∙◌, ℕ, ◌+◌, ◌-◌, List,
 use Rattle.std.specs.Prelude.{Result, Ok, Err, count_by, drop, slice_get, take}
 use Rattle.desk_words.specs.declared.change.Change.{Change}
 use Rattle.desk_words.specs.declared.command.Command.{Command}
-use Rattle.desk_words.specs.declared.command.Command.TheVariants.{Steward, Clerk, Look, DeskReport}
+use Rattle.desk_words.specs.declared.command.Command.TheVariants.{Steward, Clerk, Look, DeskReport, DeskDerive}
 use Rattle.desk_words.specs.declared.refusal.Refusal.{Refusal}
 use Rattle.desk_words.specs.declared.reply.Reply.{Reply}
 use Rattle.desk_words.specs.declared.reply.Reply.TheVariants as reply
@@ -17,7 +17,7 @@ use Rattle.machine_core.specs.Look.View.{view_at}
 use Rattle.machine_core.specs.Machine.{IsStep, answered, machine}
 use Rattle.machine_core.specs.Own.{Own, after, own_of}
 use Rattle.machine_core.proofs.Chains.{Gives-bind_ok, done-value}
-use Rattle.machine_laws.proofs.Writes.{clerk-written, look-unchanged, report-unchanged, steward-written}
+use Rattle.machine_laws.proofs.Writes.{clerk-written, derive-unchanged, look-unchanged, report-unchanged, steward-written}
 
 -- where what is answered changes nothing, a step does not
 pub step-unchanged : (rows : Rows) (command : Command) (answer : Reply) (changes : List Change)
@@ -87,6 +87,8 @@ made-unchanged rows (Clerk name ticket work) made refusal gives is = elim (clerk
 ]
 made-unchanged rows (Look name look) made refusal gives is = look-unchanged rows name look made gives
 made-unchanged rows DeskReport made refusal gives is = report-unchanged rows made gives
+made-unchanged rows (DeskDerive edition version master pairs) made refusal gives is =
+    derive-unchanged rows edition version master pairs made gives
 
 pub refused-unchanged : (rows : Rows) (command : Command) (refusal : Refusal) (changes : List Change)
     → IsStep rows command (reply.Refused refusal) changes → changes ≡ []

@@ -1,6 +1,6 @@
 -- Why a clerk's request is refused.
 use Rattle.std.proofs.Common.{◌≡◌, ◌≢◌, ◌∙◌, ℕ, ◌+◌, ◌<◌, Bool, true, false, List, [], ◌∷◌, length, get_or, map, Some, None, inl, inr, refl, sym, ap, subst, arith}
-use Rattle.std.specs.Prelude.{◌==◌, All, Contains, Ok, Err, nat_le, not, position, slice_index_or}
+use Rattle.std.specs.Prelude.{◌==◌, All, Contains, Ok, Err, is_some, nat_le, nat_lt, not, position, slice_index_or}
 use Rattle.std.specs.List.{list_any}
 use Rattle.std.specs.Str.{bytes_eq}
 use Rattle.std.proofs.lemmas.Bool.Decides.{nat_tests}
@@ -18,14 +18,17 @@ use Rattle.master_rows.proofs.Memory.{read_sheet-memory}
 use Rattle.desk_words.specs.declared.clerk_work.Accept.{Accept}
 use Rattle.desk_words.specs.declared.clerk_work.Accept.TheVariants.{Certain, Partial}
 use Rattle.desk_words.specs.declared.clerk_work.ClerkWork.{ClerkWork}
-use Rattle.desk_words.specs.declared.clerk_work.ClerkWork.TheVariants.{Enter, Confirm, Withdraw, Commit, Abandon, Batch}
+use Rattle.desk_words.specs.declared.clerk_work.ClerkWork.TheVariants.{Enter, Confirm, Withdraw, Commit, Abandon, Batch, Carry}
 use Rattle.desk_words.specs.declared.command.Command.{Command}
-use Rattle.desk_words.specs.declared.command.Command.TheVariants.{Clerk}
+use Rattle.desk_words.specs.declared.command.Command.TheVariants.{Clerk, Look}
 use Rattle.desk_words.specs.declared.command.Ticket.{Ticket}
 use Rattle.desk_words.specs.declared.limit.Which.TheVariants as which
+use Rattle.desk_words.specs.declared.look.Look.TheVariants.{Explain}
 use Rattle.desk_words.specs.declared.refusal.Kind.TheVariants as kind
 use Rattle.desk_words.specs.declared.refusal.Refusal.{Refusal}
-use Rattle.desk_words.specs.declared.refusal.Refusal.TheVariants.{Closed, InConflict, NoSuch, NotCertain, NotConfirmed, Twice, UnknownAttr, ValueLong}
+use Rattle.desk_words.specs.declared.refusal.Refusal.TheVariants.{Closed, InConflict, NoSuch, NotCertain, NotConfirmed, NotFixed, NotNewer, Twice, UnknownAttr, ValueLong}
+use Rattle.desk_words.specs.declared.reply.Explained.{Explained}
+use Rattle.desk_words.specs.declared.rows.edition.EditionRow.{EditionRow}
 use Rattle.desk_words.specs.declared.rows.record.RecordRow.{RecordRow}
 use Rattle.desk_words.specs.declared.rows.session.SessionRow.{SessionRow}
 use Rattle.desk_words.specs.declared.rows.session.Stage.{Stage}
@@ -38,27 +41,30 @@ use Rattle.fix_engine.specs.Verdicts.{IsAnswer}
 use Rattle.fix_engine.specs.declared.verdict.Verdict.{Verdict}
 use Rattle.fix_engine.specs.declared.verdict.Verdict.TheVariants.{Fix, Conflict}
 use Rattle.fix_model.specs.Run.{end_of}
-use Rattle.fix_model.specs.States.{uncovered_count}
+use Rattle.fix_model.specs.States.{cell_at, fixed_by, uncovered_count}
 use Rattle.machine_core.specs.Answers.{bound_for, state_of}
-use Rattle.machine_core.specs.Causes.{AreWords, AsksWith, Cause, Commits, MakesSessions, Names, RefusesBody}
+use Rattle.machine_core.specs.Causes.{AreWords, AsksWith, Cause, Commits, Explains, MakesSessions, Names, RefusesBody}
 use Rattle.machine_core.specs.Checked.{Answer, Checked, ◌>>=◌, ◌>>◌, answer_for, certainly, done, each, each_behind, some_or, unless, value_or, Gives}
 use Rattle.machine_core.specs.Clerk.Abandon.{abandon}
 use Rattle.machine_core.specs.declared.column.Column.{Column}
 use Rattle.machine_core.specs.Clerk.Batch.{another_column, enter_batch, is_starred, word_of}
+use Rattle.machine_core.specs.Clerk.Carry.{carry, carry_row}
 use Rattle.machine_core.specs.Clerk.Commit.{accepts, commit, commit_rows, not_in_conflict, record_at}
 use Rattle.machine_core.specs.Clerk.Confirm.{confirm, confirm_row}
 use Rattle.machine_core.specs.Clerk.Enter.{enter, enter_row}
 use Rattle.machine_core.specs.Clerk.Withdraw.{confirmed_place, withdraw, withdraw_row}
 use Rattle.machine_core.specs.Faults.{sheet_refusal}
-use Rattle.machine_core.specs.Finding.{newest_edition, session_at}
+use Rattle.machine_core.specs.Finding.{edition_named, newest_edition, session_at}
 use Rattle.machine_core.specs.Limits.{within}
+use Rattle.machine_core.specs.Look.Explain.{explain, explanation_of, fixed_at}
 use Rattle.machine_core.specs.Machine.{clerk_of, deed_of}
-use Rattle.machine_core.specs.Named.{GivesText, attributes_in, session_in, words_in}
+use Rattle.machine_core.specs.Named.{GivesText, attributes_in, carried_in, session_in, words_in}
 use Rattle.machine_core.specs.Own.{Own, own_of}
 use Rattle.machine_core.specs.Tests.{active, active_session, attribute_of, session_of, typed_cell}
-use Rattle.machine_core.specs.Views.{view_of, view_with}
+use Rattle.machine_core.specs.Views.{edition_at, view_of, view_with}
 use Rattle.machine_core.proofs.Chains.{Gives-bind_ok, done-value, refused-not_done, refused-refusal}
 use Rattle.machine_core.proofs.Tested.{certainly-ok, certainly-why, chain-why, done-why, each-why, each_behind-found, each_behind-refused, some_or-ok, some_or-why, unless-why, value_or-ok, value_or-why, within-why}
+use Rattle.machine_laws.proofs.Explanations.{answer-given}
 use Rattle.machine_laws.proofs.Names.{none-passes}
 
 -- the image of an item is among the images
@@ -72,7 +78,7 @@ Contains-image image items item (index, inside, is) = (
 )
 
 -- where a word is not found, none is equal to it
-none-equal : (word : List ℕ) (words : List (List ℕ)) → position (bytes_eq word) words ≡ None → All (λ one. one ≢ word) words
+pub none-equal : (word : List ℕ) (words : List (List ℕ)) → position (bytes_eq word) words ≡ None → All (λ one. one ≢ word) words
 none-equal word words none index past inside same =
     none-passes (bytes_eq word) words none index past inside
     ((bytes_eq-Decides word (get_or words index past)).1 (sym same))
@@ -206,6 +212,90 @@ confirm-why rows command own number cells asks names attributes gives_text =
     (λ long. (cell.1, gives_text cell.0 cell.1 listed, long))))
     (λ texts given. done-why P _)))
 
+-- the verdict is a conflict
+pub conflict-why : (P : Refusal → Type 0) (verdict : Verdict) → (verdict ≡ Conflict → P InConflict) → (refusal : Refusal)
+    → Gives (not_in_conflict verdict) (Err refusal) → P refusal
+conflict-why P (Fix certain dissent) why refusal gives = done-why P tt refusal gives
+conflict-why P Conflict why refusal gives = subst P (sym (refused-refusal InConflict refusal gives)) (why refl)
+
+pub no-conflict : (verdict : Verdict) (passed : Unit {0}) → Gives (not_in_conflict verdict) (Ok passed) → verdict ≢ Conflict
+no-conflict (Fix certain dissent) passed gives = λ same. cc
+no-conflict Conflict passed gives = absurd (refused-not_done InConflict passed gives)
+
+-- a session that is to be carried, or might be
+pub carry_row-why : (rows : Rows) (command : Command) (own : Own) (number version : ℕ) → AsksWith rows command own
+    → session_in command ≡ Some number → carried_in command ≡ Some version → (refusal : Refusal)
+    → Gives (carry_row (published_of rows) own number version) (Err refusal) → Cause rows command refusal
+carry_row-why rows command own number version asks names carries =
+    let P : Refusal → Type 0 = Cause rows command in
+    chain-why P (active_session own.sessions number) _ (active-why rows command own number asks names) (λ session is.
+    let pinned : EditionRow = edition_at (published_of rows) session.edition in
+    let named = active-names rows command own number session asks names is in
+    chain-why P (some_or (edition_named rows.editions pinned.name version) (NoSuch kind.Edition)) _
+    (some_or-why P (edition_named rows.editions pinned.name version) (NoSuch kind.Edition) (λ none.
+    inr (inr (session, version, named, carries, none))))
+    (λ edition found. chain-why P (unless (nat_lt pinned.version version) (NotNewer pinned.version)) _
+    (unless-why P (nat_lt pinned.version version) (NotNewer pinned.version) (λ fails.
+    (session, version, named, carries, refl, grind (arith, nat_tests, fails))))
+    (λ newer newer_ok. chain-why P (bound_for (published_of rows) session) _
+    (certainly-why P (bound_at (published_of rows) session.edition)) (λ before binds.
+    chain-why P (certainly (bound_at (published_of rows) edition)) _ (certainly-why P (bound_at (published_of rows) edition))
+    (λ behind binds_too. done-why P _)))))
+
+-- an attribute of which it is asked why it is fixed
+pub explain-why : (rows : Rows) (name : List ℕ) (number : ℕ) (word : List ℕ) (own : Own)
+    → AsksWith rows (Look name (Explain number word)) own → (refusal : Refusal)
+    → Gives (explain (published_of rows) own number word) (Err refusal)
+    → Cause rows (Look name (Explain number word)) refusal
+explain-why rows name number word own asks =
+    let command : Command = Look name (Explain number word) in
+    let P : Refusal → Type 0 = Cause rows command in
+    chain-why P (session_of own.sessions number) _ (some_or-why P (session_at own.sessions number) (NoSuch kind.Session)
+    (λ none. (own, number, asks, refl, none))) (λ session is.
+    let named : Names rows command session = record {
+      own = own;
+      asks = asks;
+      number = number;
+      names = refl;
+      stands = some_or-ok (session_at own.sessions number) (NoSuch kind.Session) session is;
+    } in
+    chain-why P (bound_for (published_of rows) session) _ (certainly-why P (bound_at (published_of rows) session.edition))
+    (λ bound gives_bound.
+    let binds = certainly-ok (bound_at (published_of rows) session.edition) bound gives_bound in
+    let words = session-words rows command session bound named binds in
+    let end_it : Answer → State = λ answer. end_of bound.kit (state_of session) answer.first in
+    let explaining : ℕ → Answer → Checked Explained = λ place answer. not_in_conflict answer.verdict
+    >> (fixed_at (end_it answer) place word >> explanation_of bound (state_of session) answer.first place) in
+    chain-why P (attribute_of bound.names.attributes word) _ (attribute-why P bound.names.attributes word (λ unknown.
+    (bound.names.attributes, words, (0, omega arith, refl), unknown)))
+    (λ place there. chain-why P (answer_for bound.kit (state_of session)) (explaining place)
+    (answer-why P bound.kit (state_of session)) (λ answer given.
+    let explains : Explains rows command word session bound answer = record {
+      name = name;
+      number = number;
+      is = refl;
+      names = named;
+      binds = binds;
+      answers = answer-given bound.kit (state_of session) answer given;
+    } in
+    chain-why P (not_in_conflict answer.verdict) (λ _. fixed_at (end_it answer) place word
+    >> explanation_of bound (state_of session) answer.first place)
+    (conflict-why P answer.verdict (λ conflict. (session, bound, answer, conflict, inr (word, explains))))
+    (λ fix fix_ok. chain-why P (fixed_at (end_it answer) place word) (λ _. explanation_of bound (state_of session)
+    answer.first place) (unless-why P (is_some (fixed_by (cell_at (end_it answer) place))) (NotFixed word) (λ fails. (
+      session,
+      bound,
+      answer,
+      place,
+      explains,
+      no-conflict answer.verdict fix fix_ok,
+      some_or-ok (position (bytes_eq word) bound.names.attributes) (UnknownAttr word) place there,
+      λ fixed. differ fixed fails,
+    ))) (λ passed ok refusal gives. done-why P _ refusal gives.2))))))
+  where
+    differ : {told : Bool} → told ≡ true → told ≡ false → ⊥
+    differ holds fails = (let both : true ≡ false = sym holds ∙ fails in cc)
+
 module _ (rows : Rows) (name : List ℕ) (place : ℕ) (found : clerk_of rows.clerks name ≡ done place) (ticket : Ticket) where
   abbrev its : Own
   its = own_of rows place
@@ -315,6 +405,15 @@ module _ (rows : Rows) (name : List ℕ) (place : ℕ) (found : clerk_of rows.cl
       chain-why P (active_session its.sessions number) _ (active-why rows command its number (asks-it (Abandon number)) refl)
       (λ session is. done-why P _)
 
+  carry-why : (number version : ℕ) (refusal : Refusal) → Gives (carry (published_of rows) its number version) (Err refusal)
+      → Cause rows (Clerk name ticket (Carry number version)) refusal
+  carry-why number version =
+      let command : Command = Clerk name ticket (Carry number version) in
+      let P : Refusal → Type 0 = Cause rows command in
+      chain-why P (carry_row (published_of rows) its number version) _
+      (carry_row-why rows command its number version (asks-it (Carry number version)) refl refl)
+      (λ session ok. done-why P _)
+
   -- a session that is committed, with what the rules make of it
   commits-it : (number : ℕ) (accept : Accept) (session : SessionRow) (bound : Bound) (answer : Answer)
       → Gives (active_session its.sessions number) (Ok session)
@@ -331,16 +430,6 @@ module _ (rows : Rows) (name : List ℕ) (place : ℕ) (found : clerk_of rows.cl
     binds = certainly-ok (bound_at (published_of rows) session.edition) bound binds;
     answers = answers;
   }
-
-  -- the verdict is a conflict
-  conflict-why : (P : Refusal → Type 0) (verdict : Verdict) → (verdict ≡ Conflict → P InConflict) → (refusal : Refusal)
-      → Gives (not_in_conflict verdict) (Err refusal) → P refusal
-  conflict-why P (Fix certain dissent) why refusal gives = done-why P tt refusal gives
-  conflict-why P Conflict why refusal gives = subst P (sym (refused-refusal InConflict refusal gives)) (why refl)
-
-  no-conflict : (verdict : Verdict) (passed : Unit {0}) → Gives (not_in_conflict verdict) (Ok passed) → verdict ≢ Conflict
-  no-conflict (Fix certain dissent) passed gives = λ same. cc
-  no-conflict Conflict passed gives = absurd (refused-not_done InConflict passed gives)
 
   -- a commit that accepts no uncovered attribute meets one
   accepts-why : (P : Refusal → Type 0) (accept : Accept) (count : ℕ) → (accept ≡ Certain → 0 < count → P (NotCertain count))
@@ -371,11 +460,10 @@ module _ (rows : Rows) (name : List ℕ) (place : ℕ) (found : clerk_of rows.cl
       (λ bound binds. chain-why P (answer_for bound.kit (state_of session)) (judged session bound)
       (answer-why P bound.kit (state_of session)) (λ answer given.
       let answers : IsAnswer bound.kit (state_of session) answer.first answer.second answer.verdict =
-      subst (λ (one : Answer). IsAnswer bound.kit (state_of session) one.first one.second one.verdict)
-      (sym (done-value given.0 answer given.2)) given.1 in
+      answer-given bound.kit (state_of session) answer given in
       chain-why P (not_in_conflict answer.verdict) (λ _. accepts accept (uncovered_count (end_it session bound answer))
       >> last session bound answer) (conflict-why P answer.verdict (λ conflict.
-      (accept, session, bound, answer, commits-it number accept session bound answer is binds answers, conflict)))
+      (session, bound, answer, conflict, inl (accept, commits-it number accept session bound answer is binds answers))))
       (λ fix fix_ok. chain-why P (accepts accept (uncovered_count (end_it session bound answer))) (λ _.
       last session bound answer) (accepts-why P accept (uncovered_count (end_it session bound answer)) (λ certain some. (
         session,
@@ -550,3 +638,4 @@ module _ (rows : Rows) (name : List ℕ) (place : ℕ) (found : clerk_of rows.cl
   deed-why (Commit number accept) = commit-why number accept
   deed-why (Abandon number) = abandon-why number
   deed-why (Batch edition body) = batch-why edition body
+  deed-why (Carry number version) = carry-why number version

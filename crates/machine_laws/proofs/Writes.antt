@@ -6,7 +6,7 @@ use Rattle.std.proofs.lemmas.List.{length-drop}
 use Rattle.std.proofs.lemmas.List.Quantifiers.{position-Some}
 use Rattle.desk_words.specs.declared.change.Change.{Change}
 use Rattle.desk_words.specs.declared.clerk_work.ClerkWork.{ClerkWork}
-use Rattle.desk_words.specs.declared.command.Command.TheVariants.{Steward, Clerk, Look, DeskReport}
+use Rattle.desk_words.specs.declared.command.Command.TheVariants.{Steward, Clerk, Look, DeskReport, DeskDerive}
 use Rattle.desk_words.specs.declared.command.Ticket.{Ticket}
 use Rattle.desk_words.specs.declared.look.Look.{Look as LookOf}
 use Rattle.desk_words.specs.declared.made.Made.{Made}
@@ -19,6 +19,7 @@ use Rattle.desk_words.specs.Changes.{changed}
 use Rattle.desk_words.specs.Tables.{Published, Rows, new_clerk, published_of}
 use Rattle.desk_valid.proofs.Named.{option_map-Some}
 use Rattle.machine_core.specs.Checked.{Checked, ◌>>=◌, done, some_or, Gives}
+use Rattle.machine_core.specs.Deriving.{derived_sheet}
 use Rattle.machine_core.specs.Kept.{kept_made, kept_reply}
 use Rattle.machine_core.specs.Machine.{changes_if, clerk_of, clerk_write, clerk_write_at, deed_of, look_reply, machine, making_changes, making_of, steward_write}
 use Rattle.machine_core.specs.declared.making.Making.{Making}
@@ -204,3 +205,11 @@ report-unchanged rows made gives =
     let sheet = Gives-bind_ok (report_of (published_of rows) None (flat_map (λ sessions. sessions) rows.sessions)) (λ sheet.
     done (reply.Report sheet, [])) made gives in
     ap (λ (one : Reply × List Change). one.1) (done-value (reply.Report sheet.0, []) made sheet.2)
+
+-- nor do derived rows
+pub derive-unchanged : (rows : Rows) (edition : List ℕ) (version : ℕ) (master : List ℕ) (pairs : List (List ℕ × List ℕ))
+    (made : Reply × List Change) → Gives (machine rows (DeskDerive edition version master pairs)) (Ok made) → made.1 ≡ []
+derive-unchanged rows edition version master pairs made gives =
+    let sheet = Gives-bind_ok (derived_sheet (published_of rows) edition version master pairs) (λ sheet.
+    done (reply.Derived sheet, [])) made gives in
+    ap (λ (one : Reply × List Change). one.1) (done-value (reply.Derived sheet.0, []) made sheet.2)

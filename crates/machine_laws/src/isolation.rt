@@ -1,11 +1,12 @@
 //! Clerks are isolated from one another.
 //!
-//! `specs/Alike.antt` says when tables look alike to a clerk, and `specs/Events.antt` what requests one after another are.
-ghost use Rattle.std.specs.Prelude.{◌≡◌, ◌≢◌, List};
+//! `specs/Alike.antt` says when tables look alike to a clerk, and `specs/Events.antt` what requests one after another
+//! are.
+ghost use Rattle.std.specs.Prelude.{◌≡◌, ◌≢◌, ℕ, List};
 ghost use Rattle.desk_words.specs.Changes.{changed_all};
 ghost use Rattle.desk_words.specs.declared.change.Change.{Change as ChangeOf};
 ghost use Rattle.desk_words.specs.declared.reply.Reply.{Reply as ReplyOf};
-ghost use Rattle.desk_words.specs.Tables.{rows_of};
+ghost use Rattle.desk_words.specs.Tables.{published_of, rows_of};
 ghost use Rattle.desk_valid.specs.Valid.{AreValid};
 ghost use Rattle.machine_core.specs.Machine.{IsStep};
 ghost use Rattle.machine_laws.specs.Alike.{LookAlike};
@@ -78,4 +79,14 @@ pub fn replies_need_no_requests_of_others(tables: &Tables, name: &Str)
         → AreAnswered (rows_of tables.now) others
         → commands_of others ≡ commands_of (without_others name.now events)
         → answers_to name.now others ≡ answers_to name.now events }
+{}
+
+/// Derived rows are made of what was published alone.
+pub fn derived_rows_are_answered_by_what_was_published(tables: &Tables, other: &Tables)
+    requires { published_of (rows_of tables.now) ≡ published_of (rows_of other.now) }
+    ensures { (edition : List ℕ) (version : ℕ) (master : List ℕ) (pairs : List (List ℕ × List ℕ))
+        (answer answer_too : ReplyOf) (changes others : List ChangeOf)
+        → IsStep (rows_of tables.now) (Command.DeskDerive edition version master pairs) answer changes
+        → IsStep (rows_of other.now) (Command.DeskDerive edition version master pairs) answer_too others
+        → answer ≡ answer_too }
 {}

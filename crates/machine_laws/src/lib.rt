@@ -2,7 +2,10 @@
 #![tactic(auto)]
 
 pub mod batches;
+pub mod carrying;
 pub mod causes;
+pub mod derivations;
+pub mod explaining;
 pub mod isolation;
 pub mod questions;
 pub mod repeats;

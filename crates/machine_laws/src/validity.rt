@@ -1,5 +1,5 @@
 //! Valid tables stay valid.
-ghost use Rattle.std.specs.Prelude.{◌≡◌, List, []};
+ghost use Rattle.std.specs.Prelude.{◌≡◌, ℕ, List, []};
 ghost use Rattle.desk_words.specs.Changes.{FitAll, changed_all};
 ghost use Rattle.desk_words.specs.declared.change.Change.{Change as ChangeOf};
 ghost use Rattle.desk_words.specs.declared.refusal.Refusal.{Refusal as RefusalOf};
@@ -29,10 +29,14 @@ pub fn refusals_change_nothing(tables: &Tables, command: &Command)
         → IsStep (rows_of tables.now) command.now (Reply.Refused refusal) changes → changes ≡ [] }
 {}
 
-/// A look changes nothing.
+/// A look changes nothing, nor does the desk's report, nor do rows that are derived.
 pub fn looks_change_nothing(tables: &Tables, name: &Str, look: &Look)
     ensures look { (answer : ReplyOf) (changes : List ChangeOf)
         → IsStep (rows_of tables.now) (Command.Look name.now look.now) answer changes → changes ≡ [] }
     ensures report { (answer : ReplyOf) (changes : List ChangeOf)
         → IsStep (rows_of tables.now) Command.DeskReport answer changes → changes ≡ [] }
+    ensures derive { (edition : List ℕ) (version : ℕ) (master : List ℕ) (pairs : List (List ℕ × List ℕ))
+        (answer : ReplyOf) (changes : List ChangeOf)
+        → IsStep (rows_of tables.now) (Command.DeskDerive edition version master pairs) answer changes
+        → changes ≡ [] }
 {}

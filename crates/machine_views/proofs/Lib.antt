@@ -7,3 +7,7 @@ pub mod Making
 pub mod Recording
 pub mod Reporting
 pub mod Few
+pub mod Shown
+pub mod Explaining
+pub mod Carried
+pub mod Derived

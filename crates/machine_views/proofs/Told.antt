@@ -1,8 +1,7 @@
 -- What is told of an answer: steps of the kit, and the view.
-use Rattle.std.proofs.Common.{◌≡◌, ◌∙◌, ℕ, ◌<◌, List, [], ◌∷◌, length, get_or, map, Option, Some, None, Ok, ap}
+use Rattle.std.proofs.Common.{◌≡◌, ◌∙◌, ℕ, List, [], ◌∷◌, map, Option, Some, None, Ok, ap}
 use Rattle.std.specs.Prelude.{All, IfSome}
 use Rattle.std.specs.List.{range_with_len}
-use Rattle.std.proofs.lemmas.List.{get_or_default}
 use Rattle.std.proofs.lemmas.List.Elements.{All-cons, All-nil}
 use Rattle.fix_model.specs.declared.kit.Kit.{Kit}
 use Rattle.fix_model.specs.declared.state.State.{State}
@@ -66,11 +65,6 @@ pub view-given : (published : Published) (number : ℕ) (session : SessionRow) (
     → IsAnswer bound.kit (state_of session) answer.first answer.second answer.verdict
     → view ≡ view_with published number session bound answer → Gives (view_of published number session) (Ok view)
 view-given published number session bound answer view here is same = rw here (answer, is, ap Ok same)
-
--- the row that is read at the place of an edition
-pub edition-read : (published : Published) (place : ℕ) (row : EditionRow) → place < length published.editions
-    → row ≡ get_or published.editions place row → row ≡ edition_at published place
-edition-read published place row within is = is ∙ get_or_default published.editions place row _ within
 
 module _ (published : Published) (number : ℕ) (session : SessionRow) (bound : Bound) (answer : Answer) (shown : State)
     (row : EditionRow) (name : List ℕ) (cells : List ViewCell) (first : List (List ℕ × ℕ)) (outcome : Outcome) where

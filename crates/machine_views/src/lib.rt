@@ -12,6 +12,8 @@ mod views;
 pub use answers::{Answered, answer_to, book_for};
 pub use counting::{Verdicts, assess};
 pub use kept::{deed_reply, kept_reply};
-pub use looks::{clerk_report, desk_report, records_of, suggestion_of, view_at};
+pub use looks::{
+    carrying, clerk_report, derived_sheet, desk_report, explain, records_of, suggestion_of, view_at,
+};
 pub use made::{kept_made, region_made};
 pub use views::view_of;

@@ -1,10 +1,16 @@
 //! What a caller looks at, one look a file.
+mod carry;
 mod counts;
+mod derive;
+mod explaining;
 mod records;
 mod report;
 mod suggest;
 mod view;
 
+pub use carry::carrying;
+pub use derive::derived_sheet;
+pub use explaining::explain;
 pub use records::records_of;
 pub use report::{clerk_report, desk_report};
 pub use suggest::suggestion_of;

@@ -150,6 +150,22 @@ pub fn name_at(names: &[Text], place: usize) -> Result<Text, NoMemory>
     names[place].copy()
 }
 
+/// Attributes by their names.
+pub(crate) fn named_attributes(
+    alloc: Global,
+    names: &[Text],
+    attributes: &[u16],
+) -> Result<List<Text>, NoMemory>
+    requires { All (λ attribute. attribute < length names.now) attributes.now }
+    ensures { IfOk result (λ named. named ≡ map (name_at names.now) attributes.now) }
+{
+    let mut named = List::new(alloc);
+    'attributes: for attribute in attributes {
+        named.push(name_at(names, usize::from(*attribute))?)?;
+    }
+    Ok(named)
+}
+
 /// A step by the name of its rule, with the row counted from 1.
 fn named_step(shelved: &Shelved, step: Step) -> Result<(Text, u32), NoMemory>
     requires named { IsNamedBook shelved.now }
@@ -161,7 +177,7 @@ fn named_step(shelved: &Shelved, step: Step) -> Result<(Text, u32), NoMemory>
 }
 
 /// Steps by the names of their rules, in their order.
-fn named_steps(
+pub(crate) fn named_steps(
     alloc: Global,
     shelved: &Shelved,
     steps: &[Step],

@@ -25,6 +25,8 @@ use Rattle.machine_core.specs.Checked.{Answer, Checked, ◌>>=◌, advice_for, a
 use Rattle.machine_core.specs.Clerk.Confirm.{confirm_row, with_cells}
 use Rattle.machine_core.specs.Finding.{session_at}
 use Rattle.machine_core.specs.Kept.{batch_reply, kept_reply}
+use Rattle.machine_core.specs.Look.Carry.{carrying}
+use Rattle.machine_core.specs.Look.Explain.{explain}
 use Rattle.machine_core.specs.Look.Preview.{preview}
 use Rattle.machine_core.specs.Look.Records.{records_of}
 use Rattle.machine_core.specs.Look.Report.{Assessment, assessment_of, report_of}
@@ -41,7 +43,7 @@ use Rattle.machine_core.specs.Views.{edition_at, view_of, view_with}
 use Rattle.machine_core.specs.declared.deed.Deed.{Deed}
 use Rattle.machine_core.proofs.Chains.{Gives-bind_ok, done-value}
 use Rattle.machine_core.proofs.Tested.{some_or-ok}
-use Rattle.machine_clerk.proofs.Answering.{Answers-found}
+use Rattle.machine_core.proofs.Answering.{Answers-found}
 use Rattle.machine_laws.proofs.Sessions.{session_at-found}
 use Rattle.machine_views.specs.Doing.{DoesAsTold, PutsOne, StandsFirst}
 use Rattle.machine_views.specs.Looking.{IsSessionFirst, IsTargetFirst}
@@ -315,3 +317,13 @@ module _ (rows : Rows) (held : List (ℕ × Shelved)) (name : List ℕ) (place :
         (λ one. done (reply.Records one)) answer gives in
         subst (λ one. IsBooked rows (Look name (look.Records edition version)) one held)
         (sym (done-value (reply.Records sheet.0) answer sheet.2)) tt
+    look-booked (look.Explain number word) answer first gives =
+        let told = Gives-bind_ok (explain (published_of rows) caller number word) (λ one. done (reply.Explained one))
+        answer gives in
+        subst (λ one. IsBooked rows (Look name (look.Explain number word)) one held)
+        (sym (done-value (reply.Explained told.0) answer told.2)) tt
+    look-booked (look.Carry number version) answer first gives =
+        let told = Gives-bind_ok (carrying (published_of rows) caller number version) (λ one. done (reply.Carried one))
+        answer gives in
+        subst (λ one. IsBooked rows (Look name (look.Carry number version)) one held)
+        (sym (done-value (reply.Carried told.0) answer told.2)) tt

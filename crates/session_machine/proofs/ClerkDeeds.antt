@@ -4,7 +4,7 @@ use Rattle.std.specs.Prelude.{Ok}
 use Rattle.std.proofs.lemmas.List.{length-map}
 use Rattle.desk_words.specs.declared.clerk_work.Accept.{Accept}
 use Rattle.desk_words.specs.declared.clerk_work.ClerkWork.{ClerkWork}
-use Rattle.desk_words.specs.declared.clerk_work.ClerkWork.TheVariants.{Enter, Confirm, Withdraw, Commit, Abandon, Batch}
+use Rattle.desk_words.specs.declared.clerk_work.ClerkWork.TheVariants.{Enter, Confirm, Withdraw, Commit, Abandon, Batch, Carry}
 use Rattle.desk_words.specs.declared.limit.Which.TheVariants as which
 use Rattle.desk_words.specs.declared.refusal.Kind.TheVariants as kind
 use Rattle.desk_words.specs.declared.refusal.Refusal.TheVariants.{NoSuch}
@@ -22,6 +22,7 @@ use Rattle.master_rows.specs.Sheet.{read_sheet}
 use Rattle.machine_core.specs.Checked.{Checked, ◌>>=◌, ◌>>◌, certainly, done, each_behind, some_or, value_or, Gives}
 use Rattle.machine_core.specs.Clerk.Abandon.{abandon}
 use Rattle.machine_core.specs.Clerk.Batch.{another_column, enter_batch, placed, row_session}
+use Rattle.machine_core.specs.Clerk.Carry.{carry, carry_row}
 use Rattle.machine_core.specs.Clerk.Commit.{commit, commit_rows}
 use Rattle.machine_core.specs.Clerk.Confirm.{bytes_with, confirm, confirm_row}
 use Rattle.machine_core.specs.Clerk.Enter.{enter, enter_row}
@@ -78,6 +79,13 @@ module _ (published : Published) (own : Own) where
       let found = Gives-bind_ok (active_session own.sessions number) last deed gives in
       told-as own deed (puts (number - 1) (closed found.0) act.Changed) found.2
       (record { session = closed found.0; is = refl })
+
+  told-carry : (number version : ℕ) (deed : Deed) → Gives (carry published own number version) (Ok deed)
+      → DoesAsTold own deed deed.act
+  told-carry number version deed gives =
+      let last : SessionRow → Checked Deed = λ session. done (puts (number - 1) session act.Changed) in
+      let made = Gives-bind_ok (carry_row published own number version) last deed gives in
+      told-as own deed (puts (number - 1) made.0 act.Changed) made.2 (record { session = made.0; is = refl })
 
   told-commit : (number : ℕ) (accept : Accept) (deed : Deed) → Gives (commit published own number accept) (Ok deed)
       → DoesAsTold own deed deed.act
@@ -170,6 +178,7 @@ module _ (published : Published) (own : Own) where
   told-deed (Commit number accept) deed gives = told-commit number accept deed gives
   told-deed (Abandon number) deed gives = told-abandon number deed gives
   told-deed (Batch edition body) deed gives = told-batch edition body deed gives
+  told-deed (Carry number version) deed gives = told-carry number version deed gives
 
 -- what a clerk of valid tables does is sound
 pub deed_of-sound : (rows : Rows) (place : ℕ) (own : Own) (work : ClerkWork) (deed : Deed) → AreValid rows

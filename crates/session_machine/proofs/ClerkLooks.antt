@@ -24,7 +24,7 @@ use Rattle.machine_core.specs.Views.{view_of}
 use Rattle.machine_core.specs.declared.stop.Stop.{Stop}
 use Rattle.machine_core.proofs.Chains.{Gives-bind, Gives-bind_ok, done-value}
 use Rattle.machine_core.proofs.Widths.{length-confirmed_at, length-typed_over}
-use Rattle.machine_clerk.proofs.Answering.{Answers-found, Answers-stopped}
+use Rattle.machine_core.proofs.Answering.{Answers-found, Answers-stopped}
 use Rattle.machine_laws.proofs.Sessions.{active_session-ok}
 use Rattle.machine_views.proofs.Keeping.{session-stands}
 

@@ -20,7 +20,7 @@ use Rattle.machine_core.specs.declared.stop.Stop.{Stop}
 use Rattle.machine_core.specs.declared.ticket.Use.{Use}
 use Rattle.machine_core.specs.declared.ticket.Use.TheVariants.{Fresh, Repeated}
 use Rattle.machine_core.proofs.Chains.{Gives-bind}
-use Rattle.machine_clerk.proofs.Answering.{Answers-found, Answers-stopped}
+use Rattle.machine_core.proofs.Answering.{Answers-found, Answers-stopped}
 use Rattle.session_machine.specs.Written.{clerk_changes}
 use Rattle.session_machine.proofs.ClerkOwn.{own-there}
 

@@ -1,6 +1,6 @@
 -- What a write of the steward makes, with its reply, by the row that is found.
 use Rattle.std.proofs.Common.{◌≡◌, ◌∙◌, ℕ, ◌<◌, List, [], ◌∷◌, ◌++◌, length, take, Some, refl, sym, ap, subst, arith}
-use Rattle.std.specs.Prelude.{Result, Ok, slice_get}
+use Rattle.std.specs.Prelude.{Result, Ok, Err, IsErrAnd, slice_get}
 use Rattle.std.proofs.lemmas.List.{take_all, take_at}
 use Rattle.desk_words.specs.declared.change.Change.{Change}
 use Rattle.desk_words.specs.declared.change.Change.TheVariants as change
@@ -15,7 +15,7 @@ use Rattle.desk_words.specs.declared.rows.master.MasterRow.{MasterRow}
 use Rattle.desk_words.specs.declared.rows.region.RegionRow.{RegionRow}
 use Rattle.desk_words.specs.declared.rows.schema.SchemaRow.{SchemaRow}
 use Rattle.desk_words.specs.declared.steward_work.StewardWork.{StewardWork}
-use Rattle.desk_words.specs.declared.steward_work.StewardWork.TheVariants.{AddClerk, AddSchema, AddMaster, AddRegion}
+use Rattle.desk_words.specs.declared.steward_work.StewardWork.TheVariants.{AddClerk, AddSchema, AddMaster, AddRulebook, AddEdition, AddRegion, AddDerived}
 use Rattle.desk_words.specs.Changes.{changed, put}
 use Rattle.desk_words.specs.Tables.{Rows, published_of}
 use Rattle.desk_valid.specs.declared.bound.Bound.{Bound}
@@ -33,11 +33,12 @@ use Rattle.machine_core.specs.Steward.AddClerk.{clerk_row}
 use Rattle.machine_core.specs.Steward.AddMaster.{master_row}
 use Rattle.machine_core.specs.Steward.AddRegion.{region_count, region_on, region_row}
 use Rattle.machine_core.specs.Steward.AddSchema.{schema_row}
+use Rattle.machine_core.proofs.Answering.{Answers-stopped}
 use Rattle.machine_core.proofs.Chains.{Gives-bind}
 use Rattle.machine_views.proofs.Making.{clerk-given, master-given, region-kept, schema-given}
 use Rattle.machine_laws.proofs.Accepted.{making-sound}
 use Rattle.machine_laws.proofs.Deeds.{put-end}
-use Rattle.session_machine.specs.Made.{made_by}
+use Rattle.session_machine.specs.Made.{AddsRegion, made_by, row_by}
 
 -- an item behind others stands at their number
 slice_get-push : {T : Type 0} (items : List T) (item : T) → slice_get (items ++ item ∷ []) (length items) ≡ Some item
@@ -52,14 +53,13 @@ Answers-made {rows} {other} {work} {same} result are is answers =
     (subst (λ (one : StewardWork). Answers result (made_by rows one)) (sym is) answers)
 
 -- what is made is told by its kept reply over the rows after it
-made-told : (rows : Rows) (work : StewardWork) (making : Making) (told : Made) → making_of rows work ≡ done making
+made-told : (rows : Rows) (work : StewardWork) (making : Making) (told : Made) → Gives (making_of rows work) (Ok making)
     → Gives (kept_made (changed rows making.change) making.act making.target) (Ok told)
     → Gives (made_by rows work) (Ok (told, making))
 made-told rows work making told makes kept =
     let kept_by : Making → Checked Made = λ one. kept_made (changed rows one.change) one.act one.target in
-    let makes_it : Gives (making_of rows work) (Ok making) = subst (λ one. Gives one (Ok making)) (sym makes) refl in
     Gives-bind (making_of rows work) (λ one. kept_by one >>= (λ made. done (made, one))) making (Ok (told, making))
-    makes_it (Gives-bind (kept_by making) (λ made. done (made, making)) told (Ok (told, making)) kept refl)
+    makes (Gives-bind (kept_by making) (λ made. done (made, making)) told (Ok (told, making)) kept refl)
 
 -- a row of the steward's act, put at a place
 abbrev put_so : Change → Act → ℕ → Making
@@ -129,37 +129,68 @@ before-new : (regions : List RegionRow) (row : RegionRow)
 before-new regions row =
     take_at regions (row ∷ []) (length regions) refl ∙ sym (take_all (length regions) regions (omega arith))
 
-module _ (rows : Rows) (name : List ℕ) (version : ℕ) (words : List (List ℕ)) (texts : List (List (List ℕ)))
-    (row : RegionRow) (found : region_row (published_of rows) name version words texts ≡ done row) where
-  -- a new region's row is good where it is put
-  pub region-good : AreValid rows → IsRegionRow (published_of rows) (length rows.regions) row
-  region-good valid =
-      let end : ℕ = length rows.regions in
-      let making : Making = put_so (change.Region row) act.Region end in
-      let sound = making-sound rows (AddRegion name version words texts) making valid (rw found refl) in
-      let good = sound.valid.regions end row (slice_get-push rows.regions row) in
-      record {
-        edition = good.edition;
-        few = subst (λ before. region_count before row.edition < 8) (before-new rows.regions row) good.few;
-        distinct = good.distinct;
-        within = good.within;
-        few_rows = good.few_rows;
-        whole = good.whole;
-      }
+module _ (rows : Rows) (work : StewardWork) where
+  -- the making of a region, behind the others
+  abbrev adding : RegionRow → Making
+  adding row = put_so (change.Region row) act.Region (length rows.regions)
 
-  -- a new region
-  pub region-made : (place : ℕ) (told : Made) → place ≡ length rows.regions
-      → Gives (region_made (published_of rows) place row) (Ok told)
-      → Gives (made_by rows (AddRegion name version words texts))
-      (Ok (told, put_so (change.Region row) act.Region place))
-  region-made place told last gives =
-      let work : StewardWork = AddRegion name version words texts in
-      let making : ℕ → Making = λ there. put_so (change.Region row) act.Region there in
-      let end : ℕ = length rows.regions in
-      let next : Rows = changed rows (change.Region row) in
-      let here : Gives (region_made (published_of rows) end row) (Ok told) =
-      subst (λ there. Gives (region_made (published_of rows) there row) (Ok told)) last gives in
-      let after : Gives (region_made (published_of next) end row) (Ok told) = rw (before-new rows.regions row) here in
-      subst (λ there. Gives (made_by rows work) (Ok (told, making there))) (sym last)
-      (made-told rows work (making end) told (rw found refl)
-      (region-kept next end row told (slice_get-push rows.regions row) after))
+  -- what adds a region makes the region of its row
+  region-making : AddsRegion work
+      → making_of rows work ≡ (row_by (published_of rows) work >>= (λ row. done (adding row)))
+  region-making adds = elim work as (λ one. AddsRegion one → making_of rows one
+      ≡ (row_by (published_of rows) one >>= (λ row. done (adding row)))) [
+        | AddRegion edition version attributes texts ↦ λ _. refl
+        | AddDerived edition version master pairs from ↦ λ _. refl
+        | AddClerk name ↦ λ none. absurd none
+        | AddSchema body ↦ λ none. absurd none
+        | AddMaster name body ↦ λ none. absurd none
+        | AddRulebook name schema version body ↦ λ none. absurd none
+        | AddEdition name rulebook masters folded ↦ λ none. absurd none
+      ] adds
+
+  -- and nothing, where its row is not found
+  pub region-unmade : (stop : Stop) (result : Result (Made × Making) Stop) → AddsRegion work
+      → IsErrAnd result (λ one. one ≡ stop) → Answers {A = RegionRow} (Err stop) (row_by (published_of rows) work)
+      → Answers result (made_by rows work)
+  region-unmade stop result adds stops answers =
+      let told : Making → Checked (Made × Making) = λ making.
+      kept_made (changed rows making.change) making.act making.target >>= (λ made. done (made, making)) in
+      let unmade : Answers {A = Making} (Err stop) (making_of rows work) =
+      subst (λ (one : Checked Making). Answers {A = Making} (Err stop) one) (sym (region-making adds))
+      (Answers-stopped (row_by (published_of rows) work) (λ row. done (adding row)) stop (Err stop) refl answers) in
+      Answers-stopped (making_of rows work) told stop result stops unmade
+
+  module _ (row : RegionRow) (adds : AddsRegion work) (gives : Gives (row_by (published_of rows) work) (Ok row)) where
+    makes : Gives (making_of rows work) (Ok (adding row))
+    makes = subst (λ (one : Checked Making). Gives one (Ok (adding row))) (sym (region-making adds))
+        (Gives-bind (row_by (published_of rows) work) (λ one. done (adding one)) row (Ok (adding row)) gives refl)
+
+    -- a new region's row is good where it is put
+    pub region-good : AreValid rows → IsRegionRow (published_of rows) (length rows.regions) row
+    region-good valid =
+        let end : ℕ = length rows.regions in
+        let sound = making-sound rows work (adding row) valid makes in
+        let good = sound.valid.regions end row (slice_get-push rows.regions row) in
+        record {
+          edition = good.edition;
+          few = subst (λ before. region_count before row.edition < 8) (before-new rows.regions row) good.few;
+          distinct = good.distinct;
+          within = good.within;
+          few_rows = good.few_rows;
+          whole = good.whole;
+        }
+
+    -- a new region
+    pub region-made : (place : ℕ) (told : Made) → place ≡ length rows.regions
+        → Gives (region_made (published_of rows) place row) (Ok told)
+        → Gives (made_by rows work) (Ok (told, put_so (change.Region row) act.Region place))
+    region-made place told last shown =
+        let making : ℕ → Making = λ there. put_so (change.Region row) act.Region there in
+        let end : ℕ = length rows.regions in
+        let next : Rows = changed rows (change.Region row) in
+        let here : Gives (region_made (published_of rows) end row) (Ok told) =
+        subst (λ there. Gives (region_made (published_of rows) there row) (Ok told)) last shown in
+        let after : Gives (region_made (published_of next) end row) (Ok told) = rw (before-new rows.regions row) here in
+        subst (λ there. Gives (made_by rows work) (Ok (told, making there))) (sym last)
+        (made-told rows work (making end) told makes
+        (region-kept next end row told (slice_get-push rows.regions row) after))

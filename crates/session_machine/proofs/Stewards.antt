@@ -26,7 +26,7 @@ use Rattle.machine_core.specs.Outcomes.{Answers, Finds}
 use Rattle.machine_core.specs.Own.{own_of}
 use Rattle.machine_core.specs.Ticket.{use_of}
 use Rattle.machine_core.proofs.Chains.{Gives-bind, bind-assoc}
-use Rattle.machine_clerk.proofs.Answering.{Answers-found, Answers-stopped}
+use Rattle.machine_core.proofs.Answering.{Answers-found, Answers-stopped}
 use Rattle.machine_laws.proofs.EveryStep.{use-repeated}
 use Rattle.session_machine.specs.Made.{made_by}
 

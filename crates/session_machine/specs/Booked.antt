@@ -3,7 +3,7 @@ use Rattle.std.specs.Prelude.{◌≡◌, ℕ, ◌<◌, List, length, ⊤}
 use Rattle.desk_words.specs.declared.command.Command.{Command}
 use Rattle.desk_words.specs.declared.reply.Reply.{Reply}
 use Rattle.desk_words.specs.declared.reply.Reply.TheVariants.{Made, Opened, View as ViewReply, Committed, Batched}
-use Rattle.desk_words.specs.declared.reply.Reply.TheVariants.{Suggested, Report, Records, Refused}
+use Rattle.desk_words.specs.declared.reply.Reply.TheVariants.{Suggested, Report, Records, Explained, Derived, Carried, Refused}
 use Rattle.desk_words.specs.declared.rows.session.SessionRow.{SessionRow}
 use Rattle.desk_words.specs.declared.view.View.{View}
 use Rattle.desk_words.specs.Tables.{Rows, published_of}
@@ -36,4 +36,7 @@ IsBooked rows command (Batched batch) held = ⊤
 IsBooked rows command (Suggested suggested) held = NamesFirst rows command held
 IsBooked rows command (Report sheet) held = ⊤
 IsBooked rows command (Records sheet) held = ⊤
+IsBooked rows command (Explained explained) held = ⊤
+IsBooked rows command (Derived sheet) held = ⊤
+IsBooked rows command (Carried carried) held = ⊤
 IsBooked rows command (Refused refusal) held = ⊤

@@ -17,6 +17,7 @@ ghost use Rattle.session_machine.specs.Acting.{IsAct};
 ghost use Rattle.session_machine.specs.Booked.{IsBooked};
 
 use crate::clerk::{clerk_look, clerk_write};
+use crate::sheet::derived_reply;
 use crate::steward::steward_write;
 use desk_base::{List, MAX_ATTRIBUTES, MAX_RULES, NoMemory};
 use desk_totals::Totalled;
@@ -122,6 +123,17 @@ impl Desk {
             Command::DeskReport => {
                 let sheet = desk_report(self.alloc, totalled.tables(), shelf, room)?;
                 Ok((Reply::Report(sheet), List::new(self.alloc)))
+            }
+            Command::DeskDerive {
+                edition,
+                version,
+                master,
+                pairs,
+            } => {
+                let (alloc, pairs) = (self.alloc, pairs.as_slice());
+                derived_reply(
+                    alloc, totalled, shelf, room, edition, *version, master, pairs,
+                )
             }
         }
     }

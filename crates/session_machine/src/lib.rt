@@ -6,6 +6,7 @@
 
 mod clerk;
 mod desk;
+mod sheet;
 mod steward;
 
 pub use desk::Desk;

@@ -127,7 +127,7 @@ fn has_name(masters: &[MasterRow], places: &[u32], name: &str) -> bool
 }
 
 /// The name of the master at a place; past the last, none.
-fn master_name(masters: &[MasterRow], place: u32) -> &str
+pub(crate) fn master_name(masters: &[MasterRow], place: u32) -> &str
     ensures { result.now ≡ master_name masters.now place }
 {
     match masters.get(place as usize) {

@@ -14,7 +14,7 @@ ghost use Rattle.machine_views.specs.Answered.{IsBookFor};
 ghost use Rattle.machine_views.specs.Looking.{IsSessionFirst, IsSuggestedFor};
 
 use crate::answers::book_for;
-use crate::views::name_at;
+use crate::views::{name_at, named_attributes};
 use desk_base::{Duplicate, List, NoMemory, Steps, Text};
 use desk_words::{RegionRow, SessionRow, Suggested, Tables};
 use fix_engine::Work;
@@ -126,22 +126,6 @@ fn named_suggestion(
         need,
         gains,
     })
-}
-
-/// Attributes by their names.
-fn named_attributes(
-    alloc: Global,
-    names: &[Text],
-    attributes: &[u16],
-) -> Result<List<Text>, NoMemory>
-    requires { All (λ attribute. attribute < length names.now) attributes.now }
-    ensures { IfOk result (λ named. named ≡ map (name_at names.now) attributes.now) }
-{
-    let mut named = List::new(alloc);
-    'attributes: for attribute in attributes {
-        named.push(name_at(names, usize::from(*attribute))?)?;
-    }
-    Ok(named)
 }
 
 /// What confirming attributes is hoped to gain, by their names.

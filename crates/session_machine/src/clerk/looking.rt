@@ -15,11 +15,12 @@ use desk_words::{Look, Reply, Tables, View};
 use fix_engine::Work;
 use machine_clerk::confirm_row;
 use machine_core::{Own, Stop};
-use machine_views::{clerk_report, records_of, suggestion_of, view_at, view_of};
+use machine_views::{carrying, clerk_report, explain, records_of, suggestion_of, view_at, view_of};
 use master_index::Shelf;
 use std::alloc::Global;
 
-/// The reply to a clerk's look. The edition of the session that it names comes first on the shelf.
+/// The reply to a clerk's look. Where it shows the session that it names, or advises on it, the edition of that session
+/// comes first on the shelf.
 pub fn look_reply(
     alloc: Global,
     tables: &Tables,
@@ -53,6 +54,14 @@ pub fn look_reply(
         Look::Records { edition, version } => {
             let sheet = records_of(alloc, tables, shelf, own, edition, *version)?;
             Ok(Reply::Records(sheet))
+        }
+        Look::Explain { session, name } => {
+            let explained = explain(alloc, tables, shelf, room, own, *session, name)?;
+            Ok(Reply::Explained(explained))
+        }
+        Look::Carry { session, version } => {
+            let carried = carrying(alloc, tables, shelf, room, own, *session, *version)?;
+            Ok(Reply::Carried(carried))
         }
     }
 }

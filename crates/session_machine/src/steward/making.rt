@@ -55,20 +55,8 @@ pub fn made_by(
             masters.as_slice(),
             folded.as_slice(),
         ),
-        StewardWork::AddRegion {
-            edition,
-            version,
-            attrs,
-            rows,
-        } => add_region(
-            alloc,
-            tables,
-            shelf,
-            room,
-            edition,
-            *version,
-            attrs.as_slice(),
-            rows.as_slice(),
-        ),
+        StewardWork::AddRegion { .. } | StewardWork::AddDerived { .. } => {
+            add_region(alloc, tables, shelf, room, work)
+        }
     }
 }

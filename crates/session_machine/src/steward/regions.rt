@@ -1,40 +1,36 @@
 //! A new region of a version of an edition, with its reply.
 ghost use Rattle.desk_words.specs.Tables.{published_of, rows_of};
-ghost use Rattle.desk_words.specs.declared.steward_work.StewardWork.{StewardWork};
 ghost use Rattle.desk_valid.specs.Valid.{AreValid};
 ghost use Rattle.machine_core.specs.Outcomes.{Answers, Finds};
 ghost use Rattle.machine_core.specs.Shelves.{AreHeld, IsFullRoom};
 ghost use Rattle.machine_core.specs.Steward.AddRegion.{region_row};
-ghost use Rattle.session_machine.specs.Made.{made_by};
+ghost use Rattle.session_machine.specs.Made.{AddsRegion, made_by, row_by};
 
 use desk_base::{List, Str};
-use desk_words::{Act, Change, Kind, Made, RegionRow, Tables};
+use desk_words::{Act, Change, Kind, Made, RegionRow, StewardWork, Tables};
 use fix_engine::Work;
-use machine_core::{Making, Stop, hold, named, region_on, shelved};
+use machine_core::{Making, Stop, derived_region, hold, named, region_on, shelved};
 use machine_views::region_made;
 use master_index::Shelf;
 use std::alloc::Global;
 
-/// A new region of the edition of this name and version.
+/// A new region: of rows that are written out, or of those that a master gives.
 pub fn add_region(
     alloc: Global,
     tables: &Tables,
     shelf: &mut Shelf,
     room: &mut Work,
-    edition: &Str,
-    version: u32,
-    words: &[Str],
-    texts: &[List<Str>],
+    work: &StewardWork,
 ) -> Result<(Made, Making), Stop>
     requires valid { AreValid (rows_of tables.now) }
     requires held { AreHeld (published_of (rows_of tables.now)) shelf.old }
     requires room { IsFullRoom room.old }
-    ensures answers { Answers result (made_by (rows_of tables.now)
-        (StewardWork.AddRegion edition.now version words.now texts.now)) }
+    requires adds { AddsRegion work.now }
+    ensures answers { Answers result (made_by (rows_of tables.now) work.now) }
     ensures held { AreHeld (published_of (rows_of tables.now)) shelf.new }
     ensures room { IsFullRoom room.new }
 {
-    let row = region_row(alloc, tables, shelf, edition, version, words, texts)?;
+    let row = row_by(alloc, tables, shelf, room, work)?;
     let target = tables.regions.len() as u32;
     let made = region_made(alloc, tables, shelf, room, target, &row)?;
     let change = Change::Region(row);
@@ -49,6 +45,49 @@ pub fn add_region(
 }
 
 /// The row of the region.
+fn row_by(
+    alloc: Global,
+    tables: &Tables,
+    shelf: &mut Shelf,
+    room: &mut Work,
+    work: &StewardWork,
+) -> Result<RegionRow, Stop>
+    requires valid { AreValid (rows_of tables.now) }
+    requires held { AreHeld (published_of (rows_of tables.now)) shelf.old }
+    requires room { IsFullRoom room.old }
+    requires adds { AddsRegion work.now }
+    ensures answers { Answers result (row_by (published_of (rows_of tables.now)) work.now) }
+    ensures held { AreHeld (published_of (rows_of tables.now)) shelf.new }
+    ensures room { IsFullRoom room.new }
+{
+    match work {
+        StewardWork::AddRegion {
+            edition,
+            version,
+            attrs,
+            rows,
+        } => {
+            let (words, texts) = (attrs.as_slice(), rows.as_slice());
+            region_row(alloc, tables, shelf, edition, *version, words, texts)
+        }
+        StewardWork::AddDerived {
+            edition,
+            version,
+            master,
+            pairs,
+            from,
+        } => {
+            let (version, pairs, from) = (*version, pairs.as_slice(), *from);
+            derived_region(
+                alloc, tables, shelf, room, edition, version, master, pairs, from,
+            )
+        }
+        // No other write adds a region.
+        _ => unreachable!(),
+    }
+}
+
+/// The row of a region of rows that are written out, on the edition of this name and version.
 fn region_row(
     alloc: Global,
     tables: &Tables,

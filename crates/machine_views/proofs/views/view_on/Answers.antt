@@ -2,7 +2,8 @@ use Rattle.desk_words.specs.Tables.{published_of, rows_of}
 use Rattle.machine_core.specs.Answers.{state_of}
 use Rattle.machine_core.specs.Shelves.{bound_on}
 use Rattle.machine_views.specs.Answered.{answer_in}
-use Rattle.machine_views.proofs.Told.{edition-read, first-run, run-steps, told-steps, view-given, view-parts}
+use Rattle.machine_core.proofs.ReadRows.{edition-read}
+use Rattle.machine_views.proofs.Told.{first-run, run-steps, told-steps, view-given, view-parts}
 use Rattle.machine_views.proofs.views.view_on.Goals as goal
 
 pub named_steps-requires-clause-steps : goal.named_steps-requires-clause-steps

@@ -1,4 +1,4 @@
-use Rattle.machine_clerk.proofs.Answering.{Answers-stopped}
+use Rattle.machine_core.proofs.Answering.{Answers-stopped}
 use Rattle.machine_clerk.proofs.clerk.commit.commit_deed.Goals as goal
 
 pub returns-in_err-session-clause-answers : goal.returns-in_err-session-clause-answers

@@ -5,7 +5,7 @@ use Rattle.desk_words.specs.Tables.{published_of, rows_of}
 use Rattle.machine_views.specs.Reporting.{sessions_of}
 use Rattle.machine_views.proofs.Few.{editions-few, total-more}
 use Rattle.machine_views.proofs.Reporting.{AreLinesOver-all, AreLinesOver-more, line-given}
-use Rattle.machine_views.proofs.Told.{edition-read}
+use Rattle.machine_core.proofs.ReadRows.{edition-read}
 use Rattle.machine_views.proofs.looks.report.lines_over.Goals as goal
 
 pub editions-preserved : goal.editions-preserved

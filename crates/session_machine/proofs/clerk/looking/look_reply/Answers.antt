@@ -4,6 +4,8 @@ use Rattle.desk_words.specs.declared.reply.Reply.TheVariants as reply
 use Rattle.desk_words.specs.declared.view.View.{View}
 use Rattle.desk_words.specs.Tables.{published_of, rows_of}
 use Rattle.machine_core.specs.Checked.{Gives, done}
+use Rattle.machine_core.specs.Look.Carry.{carrying}
+use Rattle.machine_core.specs.Look.Explain.{explain}
 use Rattle.machine_core.specs.Look.Preview.{preview}
 use Rattle.machine_core.specs.Look.Records.{records_of}
 use Rattle.machine_core.specs.Look.Report.{report_of}
@@ -11,7 +13,7 @@ use Rattle.machine_core.specs.Look.Suggest.{suggestion_of}
 use Rattle.machine_core.specs.Look.View.{view_at}
 use Rattle.machine_core.specs.Machine.{look_reply}
 use Rattle.machine_core.specs.Outcomes.{Answers}
-use Rattle.machine_clerk.proofs.Answering.{Answers-stopped}
+use Rattle.machine_core.proofs.Answering.{Answers-stopped}
 use Rattle.session_machine.proofs.ClerkLooks.{reply-gives}
 use Rattle.session_machine.proofs.clerk.looking.look_reply.Goals as goal
 
@@ -87,3 +89,32 @@ returns-in_err-sheet-in-Records-clause-answers c =
     subst Shown (sym c.in-Records.is) (Answers-stopped (records_of published own c.in-Records.edition
     c.in-Records.version) (λ one. done (reply.Records one)) c.in_err-sheet-in-Records.field-0.0 result
     c.from_residual-in_err-sheet-in-Records.ensures.1 c.in_err-sheet-in-Records.ensures.records)
+
+pub returns-in_err-explained-in-Explain-clause-answers : goal.returns-in_err-explained-in-Explain-clause-answers
+returns-in_err-explained-in-Explain-clause-answers c =
+    let published = published_of (rows_of c.args.tables.now) in
+    let own = c.args.own.now in
+    let result = c.from_residual-in_err-explained-in-Explain.result in
+    let Shown : LookOf → Type 0 = λ look. Answers result (look_reply published own look) in
+    subst Shown (sym c.in-Explain.is) (Answers-stopped (explain published own c.in-Explain.session c.in-Explain.name)
+    (λ one. done (reply.Explained one)) c.in_err-explained-in-Explain.field-0.0 result
+    c.from_residual-in_err-explained-in-Explain.ensures.1 c.in_err-explained-in-Explain.ensures.explained)
+
+pub returns-in_ok-carried-in-Carry-clause-answers : goal.returns-in_ok-carried-in-Carry-clause-answers
+returns-in_ok-carried-in-Carry-clause-answers c =
+    let published = published_of (rows_of c.args.tables.now) in
+    let own = c.args.own.now in
+    let found = c.in_ok-carried-in-Carry.carried in
+    let Shown : LookOf → Type 0 = λ look. Gives (look_reply published own look) (Ok (reply.Carried found)) in
+    subst Shown (sym c.in-Carry.is) (reply-gives (carrying published own c.in-Carry.session c.in-Carry.version)
+    reply.Carried found c.in_ok-carried-in-Carry.ensures.carried)
+
+pub returns-in_err-carried-in-Carry-clause-answers : goal.returns-in_err-carried-in-Carry-clause-answers
+returns-in_err-carried-in-Carry-clause-answers c =
+    let published = published_of (rows_of c.args.tables.now) in
+    let own = c.args.own.now in
+    let result = c.from_residual-in_err-carried-in-Carry.result in
+    let Shown : LookOf → Type 0 = λ look. Answers result (look_reply published own look) in
+    subst Shown (sym c.in-Carry.is) (Answers-stopped (carrying published own c.in-Carry.session c.in-Carry.version)
+    (λ one. done (reply.Carried one)) c.in_err-carried-in-Carry.field-0.0 result
+    c.from_residual-in_err-carried-in-Carry.ensures.1 c.in_err-carried-in-Carry.ensures.carried)

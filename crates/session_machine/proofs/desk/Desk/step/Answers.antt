@@ -4,7 +4,7 @@ use Rattle.machine_core.specs.Shelves.{AreHeld}
 use Rattle.session_machine.specs.Seats.{Seat}
 use Rattle.session_machine.proofs.Weighed.{report-gives}
 use Rattle.session_machine.proofs.desk.Desk.step.Goals as goal
-use Rattle.session_machine.proofs.desk.Desk.step.Goals.{in-Steward, in-Clerk, in-Look}
+use Rattle.session_machine.proofs.desk.Desk.step.Goals.{in-Steward, in-Clerk, in-Look, in-DeskDerive}
 use Rattle.session_machine.proofs.desk.Desk.step.Goals.{in-DeskReport+in_ok-sheet-in-DeskReport}
 
 pub invariant_of-self-2 : goal.invariant_of-self-2
@@ -31,6 +31,11 @@ invariant_of-self-2 c = elim c.match-command.branch [
         held = subst Held w.tables.ensures.tables w.desk_report.ensures.held;
         room = w.desk_report.ensures.room;
       })
+  | in-DeskDerive w ↦ rw w.self-inside-is (record {
+    valid = c.self.invariant.valid;
+    held = w.derived_reply.ensures.held;
+    room = w.derived_reply.ensures.room;
+  })
 ]
 
 pub returns-clause-answers : goal.returns-clause-answers
@@ -44,4 +49,7 @@ returns-clause-answers c =
           let sheet = w.in_ok-sheet-in-DeskReport.sheet in
           let gives = report-gives (rows_of w.tables.result.now) sheet w.in_ok-sheet-in-DeskReport.ensures.report in
           rw (w.result-is, w.in-DeskReport.is, ← same, w.new.ensures, ← w.tables.ensures.tables) gives
+      | in-DeskDerive w ↦
+          let answers = rw w.as_slice-pairs.ensures at w.derived_reply.ensures.answers in
+          rw (w.result-is, w.in-DeskDerive.is, ← same) answers
     ]

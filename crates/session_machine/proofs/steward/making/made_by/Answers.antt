@@ -1,5 +1,5 @@
 use Rattle.std.proofs.Common.{◌∙◌, sym}
-use Rattle.desk_words.specs.declared.steward_work.StewardWork.TheVariants.{AddEdition, AddRegion}
+use Rattle.desk_words.specs.declared.steward_work.StewardWork.TheVariants.{AddEdition}
 use Rattle.session_machine.proofs.MakingTold.{Answers-made}
 use Rattle.session_machine.proofs.steward.making.made_by.Goals as goal
 
@@ -26,11 +26,3 @@ returns-in-AddEdition-clause-answers c =
     let work = c.in-AddEdition.is
     ∙ (λ i. AddEdition c.in-AddEdition.name c.in-AddEdition.rulebook (masters i) (folded i)) in
     Answers-made c.add_edition.result c.tables-tables.ensures.tables work c.add_edition.ensures
-
-pub returns-in-AddRegion-clause-answers : goal.returns-in-AddRegion-clause-answers
-returns-in-AddRegion-clause-answers c =
-    let words = sym c.as_slice-in-AddRegion.ensures in
-    let texts = sym c.as_slice-in-AddRegion-2.ensures in
-    let work = c.in-AddRegion.is
-    ∙ (λ i. AddRegion c.in-AddRegion.edition c.in-AddRegion.version (words i) (texts i)) in
-    Answers-made c.add_region.result c.tables-tables.ensures.tables work c.add_region.ensures.answers

@@ -1,0 +1,290 @@
+-- What is derived: distinct attributes and columns, and a text in each row for each.
+use Rattle.std.proofs.Common.{◌≡◌, ◌∙◌, ℕ, ◌+◌, ◌<◌, List, [], ◌∷◌, ◌++◌, length, get_or, map, Contains, Some, refl, sym, ap, subst, append_assoc, arith}
+use Rattle.std.specs.Prelude.{◌==◌, All, IfSome, Ok, find, not, position, slice_get}
+use Rattle.std.specs.List.{list_any}
+use Rattle.std.specs.Str.{bytes_eq}
+use Rattle.std.proofs.lemmas.List.{append-nil, get_or_default, length-map, map_push}
+use Rattle.std.proofs.lemmas.List.Elements.{All-map}
+use Rattle.std.proofs.lemmas.List.Quantifiers.{position-Some}
+use Rattle.std.proofs.lemmas.Option.{option_and_then_some}
+use Rattle.std.proofs.lemmas.Simd.{map-map}
+use Rattle.std.proofs.lemmas.Slice.Eq.{bytes_eq-Decides}
+use Rattle.desk_base.specs.Grid.{cell_text}
+use Rattle.desk_words.specs.declared.refusal.Kind.TheVariants as kind
+use Rattle.desk_words.specs.declared.refusal.Refusal.TheVariants.{NoColumn, NoSuch, Twice, UnknownAttr}
+use Rattle.desk_words.specs.declared.reply.DerivedSheet.{DerivedSheet}
+use Rattle.desk_words.specs.declared.rows.edition.EditionRow.{EditionRow}
+use Rattle.desk_words.specs.Tables.{Published, Rows, published_of}
+use Rattle.desk_valid.specs.declared.bound.Bound.{Bound}
+use Rattle.desk_valid.specs.Bindings.{bound_at}
+use Rattle.desk_valid.specs.Readings.{master_at, master_in, read}
+use Rattle.desk_valid.specs.Valid.{AreValid}
+use Rattle.desk_valid.proofs.Named.{option_map-Some}
+use Rattle.desk_valid.proofs.Readings.{Ok-from_read}
+use Rattle.master_rows.specs.declared.master.Master.{Master}
+use Rattle.master_rows.specs.Master.{IsMaster}
+use Rattle.master_rows.specs.Sheet.{read_sheet}
+use Rattle.master_rows.proofs.Masters.{IsMaster-read_sheet}
+use Rattle.region_derive.specs.Derived.{ArePairs, IsDerived, texts_in}
+use Rattle.machine_core.specs.Checked.{Checked, ◌>>=◌, ◌>>◌, certainly, done, each_behind, rows_for, some_or, unless, Gives}
+use Rattle.machine_core.specs.declared.derivation.Derivation.{Derivation}
+use Rattle.machine_core.specs.Deriving.{IsDerivable, another_column, another_pair, derivation_of, derived_rows, derived_sheet, master_of, places_of}
+use Rattle.machine_core.specs.Finding.{edition_named}
+use Rattle.machine_core.specs.Steward.AddEdition.{master_name}
+use Rattle.machine_core.specs.Tests.{another_attribute, attribute_of}
+use Rattle.machine_core.specs.Views.{edition_at, name_at}
+use Rattle.machine_core.specs.Words.{words_at}
+use Rattle.machine_core.proofs.Chains.{Gives-bind_ok, done-value}
+use Rattle.machine_core.proofs.Distinct.{AreDistinct, another-place, no-places}
+use Rattle.machine_core.proofs.EditionWords.{words-bound}
+use Rattle.machine_core.proofs.Tested.{certainly-ok, each_behind-all, each_behind-length, some_or-ok}
+use Rattle.machine_core.proofs.Widths.{edition-stands, kit-width}
+
+-- the word at the place that is found for it is that word
+word-found : (words : List (List ℕ)) (before word : List ℕ) (place : ℕ)
+    → Gives (another_attribute words before word) (Ok place) → name_at words place ≡ word
+word-found words before word place gives =
+    let free : ℕ → Checked ℕ = λ one.
+    unless (not (list_any (λ earlier. earlier == one) before)) (Twice word) >> done one in
+    let found = Gives-bind_ok (attribute_of words word) free place gives in
+    let last = Gives-bind_ok (unless (not (list_any (λ earlier. earlier == found.0) before)) (Twice word))
+    (λ _. done found.0) place found.2 in
+    let there = position-Some (bytes_eq word) words found.0 []
+    (some_or-ok (position (bytes_eq word) words) (UnknownAttr word) found.0 found.1) in
+    ap (name_at words) (done-value found.0 place last.2)
+    ∙ sym ((bytes_eq-Decides word (get_or words found.0 [])).0 there.1)
+
+-- the places of pairs: no attribute stands twice, and no column; each attribute is under its word
+pub record ArePlaces (words names : List (List ℕ)) (pairs : List (List ℕ × List ℕ)) (places : List ℕ × List ℕ)
+    : Type 0 where
+  pub attributes : AreDistinct (length words) places.0
+  pub columns : AreDistinct (length names) places.1
+  pub many : length places.0 ≡ length pairs
+  pub as_many : length places.1 ≡ length pairs
+  pub named : map (name_at words) places.0 ≡ map (λ pair. pair.0) pairs
+
+module _ (words names : List (List ℕ)) where
+  -- the attributes and the columns of pairs
+  abbrev apart : List (ℕ × ℕ) → List ℕ × List ℕ
+  apart places = (map (λ place. place.0) places, map (λ place. place.1) places)
+
+  -- pairs so far, of distinct attributes and distinct columns
+  record ArePairsSoFar (places : List (ℕ × ℕ)) : Type 0 where
+    attributes : AreDistinct (length words) (map (λ place. place.0) places)
+    columns : AreDistinct (length names) (map (λ place. place.1) places)
+
+  -- one pair more
+  another-pair : (before : List (ℕ × ℕ)) (pair : List ℕ × List ℕ) (place : ℕ × ℕ) → ArePairsSoFar before
+      → Gives (another_pair words names before pair) (Ok place) → ArePairsSoFar (before ++ place ∷ [])
+  another-pair before pair place are gives =
+      let first : (ℕ × ℕ) → ℕ = λ one. one.0 in
+      let second : (ℕ × ℕ) → ℕ = λ one. one.1 in
+      let attribute = Gives-bind_ok (another_attribute words (map first before) pair.0) (λ attribute.
+      another_column names (map second before) pair.1 >>= (λ column. done (attribute, column))) place gives in
+      let column = Gives-bind_ok (another_column names (map second before) pair.1)
+      (λ column. done (attribute.0, column)) place attribute.2 in
+      let same : place ≡ (attribute.0, column.0) = done-value (attribute.0, column.0) place column.2 in
+      subst (λ one. ArePairsSoFar (before ++ one ∷ [])) (sym same) (record {
+        attributes = subst (AreDistinct (length words)) (sym (map_push first before (attribute.0, column.0)))
+            (another-place words (map first before) pair.0 (UnknownAttr pair.0) attribute.0 are.attributes attribute.1);
+        columns = subst (AreDistinct (length names)) (sym (map_push second before (attribute.0, column.0)))
+            (another-place names (map second before) pair.1 (NoColumn pair.1) column.0 are.columns column.1);
+      })
+
+  -- the attributes of pairs are found by their words
+  attributes-named : (pairs : List (List ℕ × List ℕ)) (before found : List (ℕ × ℕ))
+      → Gives (each_behind before (another_pair words names) pairs) (Ok found)
+      → map (λ place. name_at words place.0) found
+      ≡ map (λ place. name_at words place.0) before ++ map (λ pair. pair.0) pairs
+  attributes-named [] before found gives =
+      ap (map (λ (place : ℕ × ℕ). name_at words place.0)) (done-value before found gives)
+      ∙ sym (append-nil (map (λ (place : ℕ × ℕ). name_at words place.0) before))
+  attributes-named (pair ∷ others) before found gives =
+      let first : (ℕ × ℕ) → ℕ = λ one. one.0 in
+      let second : (ℕ × ℕ) → ℕ = λ one. one.1 in
+      let word : (ℕ × ℕ) → List ℕ = λ place. name_at words place.0 in
+      let rest : List (List ℕ) = map (λ (one : List ℕ × List ℕ). one.0) others in
+      let here = Gives-bind_ok (another_pair words names before pair)
+      (λ one. each_behind (before ++ one ∷ []) (another_pair words names) others) found gives in
+      let attribute = Gives-bind_ok (another_attribute words (map first before) pair.0) (λ attribute.
+      another_column names (map second before) pair.1 >>= (λ column. done (attribute, column))) here.0 here.1 in
+      let column = Gives-bind_ok (another_column names (map second before) pair.1)
+      (λ column. done (attribute.0, column)) here.0 attribute.2 in
+      let named : word here.0 ≡ pair.0 =
+      ap word (done-value (attribute.0, column.0) here.0 column.2)
+      ∙ word-found words (map first before) pair.0 attribute.0 attribute.1 in
+      attributes-named others (before ++ here.0 ∷ []) found here.2
+      ∙ ap (λ list. list ++ rest) (map_push word before here.0)
+      ∙ append_assoc (map word before) (word here.0 ∷ []) rest
+      ∙ ap (λ one. map word before ++ one ∷ rest) named
+
+  pub places-found : (pairs : List (List ℕ × List ℕ)) (found : List ℕ × List ℕ)
+      → Gives (places_of words names pairs) (Ok found) → ArePlaces words names pairs found
+  places-found pairs found gives =
+      let places = Gives-bind_ok (each_behind [] (another_pair words names) pairs) (λ places. done (apart places)) found
+      gives in
+      let start : ArePairsSoFar [] = record
+      { attributes = no-places (length words); columns = no-places (length names) } in
+      let are : ArePairsSoFar places.0 = each_behind-all ArePairsSoFar (another_pair words names) pairs [] places.0
+      (λ sofar pair place are one. another-pair sofar pair place are one) start places.1 in
+      let count : length places.0 ≡ length pairs =
+      omega (arith, each_behind-length (another_pair words names) pairs [] places.0 places.1) in
+      let first : (ℕ × ℕ) → ℕ = λ place. place.0 in
+      let second : (ℕ × ℕ) → ℕ = λ place. place.1 in
+      subst (ArePlaces words names pairs) (sym (done-value (apart places.0) found places.2)) (record {
+        attributes = are.attributes;
+        columns = are.columns;
+        many = length-map places.0 first ∙ count;
+        as_many = length-map places.0 second ∙ count;
+        named = map-map (name_at words) first places.0 ∙ attributes-named pairs [] places.0 places.1;
+      })
+
+-- what a derivation was made of
+pub record IsMadeOf (published : Published) (pairs : List (List ℕ × List ℕ)) (derivation : Derivation) : Type 0 where
+  pub bound : Bound
+  pub binds : bound_at published derivation.edition ≡ Some bound
+  pub sheet : Master
+  pub is_master : IsMaster sheet
+  pub grid : derivation.grid ≡ sheet.grid
+  pub places : ArePlaces bound.names.attributes sheet.columns pairs (derivation.attributes, derivation.columns)
+
+-- what stands at a place of the masters is one
+master-at : (published : Published) (place : ℕ) (found : List ℕ × Master) → master_at published place ≡ Some found
+    → IsMaster found.1
+master-at published place found is =
+    option_and_then_some master_in (slice_get published.masters place) found is (λ row stands reads.
+    let named : Master → List ℕ × Master = λ one. (row.name, one) in
+    let made = option_map-Some named (read (read_sheet row.body)) found reads in
+    subst (λ (one : List ℕ × Master). IsMaster one.1) made.2 (IsMaster-read_sheet row.body made.0
+    (Ok-from_read (read_sheet row.body) made.0 made.1)))
+
+-- the master that is found is one
+master-found : (published : Published) (edition : EditionRow) (name : List ℕ) (sheet : Master)
+    → Gives (master_of published edition name) (Ok sheet) → IsMaster sheet
+master-found published edition name sheet gives =
+    let read : ℕ → Checked Master = λ place. certainly (master_at published place) >>= (λ found. done found.1) in
+    let place = Gives-bind_ok (some_or (find (λ one. bytes_eq (master_name published.masters one) name) edition.masters)
+    (NoSuch kind.Master)) read sheet gives in
+    let found = Gives-bind_ok (certainly (master_at published place.0)) (λ one. done one.1) sheet place.2 in
+    let is = certainly-ok (master_at published place.0) found.0 found.1 in
+    subst IsMaster (sym (done-value found.0.1 sheet found.2)) (master-at published place.0 found.0 is)
+
+pub derivation-made : (published : Published) (name : List ℕ) (version : ℕ) (master : List ℕ)
+    (pairs : List (List ℕ × List ℕ)) (derivation : Derivation)
+    → Gives (derivation_of published name version master pairs) (Ok derivation) → IsMadeOf published pairs derivation
+derivation-made published name version master pairs derivation gives =
+    let made : ℕ → Master → List ℕ × List ℕ → Derivation = λ edition sheet places.
+    record { edition = edition; grid = sheet.grid; attributes = places.0; columns = places.1 } in
+    let over : ℕ → Bound → Master → Checked Derivation = λ edition bound sheet.
+    places_of bound.names.attributes sheet.columns pairs >>= (λ places. done (made edition sheet places)) in
+    let of_master : ℕ → Bound → Checked Derivation = λ edition bound.
+    master_of published (edition_at published edition) master >>= over edition bound in
+    let edition = Gives-bind_ok (some_or (edition_named published.editions name version) (NoSuch kind.Edition))
+    (λ edition. certainly (bound_at published edition) >>= of_master edition) derivation gives in
+    let bound = Gives-bind_ok (certainly (bound_at published edition.0)) (of_master edition.0) derivation edition.2 in
+    let sheet = Gives-bind_ok (master_of published (edition_at published edition.0) master) (over edition.0 bound.0)
+    derivation bound.2 in
+    let places = Gives-bind_ok (places_of bound.0.names.attributes sheet.0.columns pairs)
+    (λ places. done (made edition.0 sheet.0 places)) derivation sheet.2 in
+    subst (IsMadeOf published pairs) (sym (done-value (made edition.0 sheet.0 places.0) derivation places.2)) (record {
+      bound = bound.0;
+      binds = certainly-ok (bound_at published edition.0) bound.0 bound.1;
+      sheet = sheet.0;
+      is_master = master-found published (edition_at published edition.0) master sheet.0 sheet.1;
+      grid = refl;
+      places = places-found bound.0.names.attributes sheet.0.columns pairs places.0 places.1;
+    })
+
+-- so it is found by its parts
+pub derivation-found : (published : Published) (name : List ℕ) (version : ℕ) (master : List ℕ)
+    (pairs : List (List ℕ × List ℕ)) (edition : ℕ) (words : List (List ℕ)) (sheet : Master) (places : List ℕ × List ℕ)
+    → some_or (edition_named published.editions name version) (NoSuch kind.Edition) ≡ done edition
+    → words_at published edition ≡ Some words
+    → master_of published (edition_at published edition) master ≡ done sheet
+    → places_of words sheet.columns pairs ≡ done places
+    → derivation_of published name version master pairs
+    ≡ done (record { edition = edition; grid = sheet.grid; attributes = places.0; columns = places.1 })
+derivation-found published name version master pairs edition words sheet places named are read found =
+    let bound = words-bound published edition words are in
+    let found_so : places_of bound.0.names.attributes sheet.columns pairs ≡ done places =
+    ap (λ list. places_of list sheet.columns pairs) bound.2 ∙ found in
+    rw (named, bound.1, read, found_so) refl
+
+-- in valid tables a derivation can be asked
+pub derivation-derivable : (rows : Rows) (name : List ℕ) (version : ℕ) (master : List ℕ)
+    (pairs : List (List ℕ × List ℕ)) (derivation : Derivation) → AreValid rows
+    → Gives (derivation_of (published_of rows) name version master pairs) (Ok derivation)
+    → IsDerivable (published_of rows) derivation
+derivation-derivable rows name version master pairs derivation valid gives =
+    let is = derivation-made (published_of rows) name version master pairs derivation gives in
+    let Below : ℕ → Type 0 = λ most. All (λ place. place < most) derivation.attributes in
+    let Within : ℕ → Type 0 = λ most. All (λ place. place < most) derivation.columns in
+    let wide : length is.bound.names.attributes ≡ is.bound.kit.width =
+    kit-width rows derivation.edition is.bound valid is.binds in
+    let narrow : length is.sheet.columns ≡ derivation.grid.columns =
+    sym (ap (λ grid. grid.columns) is.grid ∙ is.is_master.width) in
+    let pairs_are : ArePairs is.bound.kit derivation.grid derivation.attributes derivation.columns = record {
+      of_kit = record {
+        attributes_within = subst Below wide is.places.attributes.below;
+        distinct = is.places.attributes.apart;
+      };
+      columns_within = subst Within narrow is.places.columns.below;
+      distinct = is.places.columns.apart;
+      same = is.places.as_many ∙ sym is.places.many;
+    } in
+    record {
+      edition = edition-stands (published_of rows) derivation.edition is.bound is.binds;
+      pairs = subst (λ found. IfSome found (λ bound.
+          ArePairs bound.kit derivation.grid derivation.attributes derivation.columns)) (sym is.binds) pairs_are;
+    }
+
+-- each row that is given is derived, and has its texts
+derived-row : (published : Published) (derivation : Derivation) (rows : List (ℕ × List (List ℕ)))
+    → Gives (derived_rows published derivation) (Ok rows) → (place : ℕ) (past : ℕ × List (List ℕ)) → place < length rows
+    → (bound : Bound) × IsDerived bound.kit derivation.grid derivation.attributes derivation.columns
+    (get_or rows place past).0 × ((get_or rows place past).1 ≡ texts_in derivation.grid derivation.columns
+    (get_or rows place past).0)
+derived-row published derivation rows gives place past inside =
+    let bound = Gives-bind_ok (certainly (bound_at published derivation.edition)) (λ one.
+    rows_for one.kit derivation.grid derivation.attributes derivation.columns) rows gives in
+    let row : ℕ × List (List ℕ) = get_or rows place past in
+    let is : rows ≡ bound.2.0 = done-value bound.2.0 rows bound.2.2 in
+    let there = (bound.2.1.each row.0 row.1).0 (subst (λ list. Contains list row) is
+    (place, inside, get_or_default rows place row past inside)) in
+    (bound.0, there.0, there.1)
+
+-- each derived row has a text for each column
+pub derived_rows-full : (published : Published) (derivation : Derivation) (rows : List (ℕ × List (List ℕ)))
+    → Gives (derived_rows published derivation) (Ok rows)
+    → All (λ row. length row.1 ≡ length derivation.columns) rows
+derived_rows-full published derivation rows gives place past inside =
+    let is = derived-row published derivation rows gives place past inside in
+    ap length is.2 ∙ length-map derivation.columns (cell_text derivation.grid (get_or rows place past).0)
+
+-- and is one of the rows of the grid
+pub derived_rows-within : (published : Published) (derivation : Derivation) (rows : List (ℕ × List (List ℕ)))
+    → Gives (derived_rows published derivation) (Ok rows) → All (λ row. row.0 < length derivation.grid.rows) rows
+derived_rows-within published derivation rows gives place past inside =
+    (derived-row published derivation rows gives place past inside).1.within
+
+-- a derived sheet has a text in each row for each attribute
+pub derived_sheet-full : (published : Published) (edition : List ℕ) (version : ℕ) (master : List ℕ)
+    (pairs : List (List ℕ × List ℕ)) (sheet : DerivedSheet)
+    → Gives (derived_sheet published edition version master pairs) (Ok sheet)
+    → All (λ row. length row.1 ≡ length sheet.attributes) sheet.rows
+derived_sheet-full published edition version master pairs sheet gives =
+    let numbered : ℕ × List (List ℕ) → ℕ × List (List ℕ) = λ row. (row.0 + 1, row.1) in
+    let word : List ℕ × List ℕ → List ℕ = λ pair. pair.0 in
+    let told : List (ℕ × List (List ℕ)) → DerivedSheet = λ rows.
+    record { attributes = map word pairs; rows = map numbered rows } in
+    let derivation = Gives-bind_ok (derivation_of published edition version master pairs) (λ one.
+    derived_rows published one >>= (λ rows. done (told rows))) sheet gives in
+    let rows = Gives-bind_ok (derived_rows published derivation.0) (λ rows. done (told rows)) sheet derivation.2 in
+    let is = derivation-made published edition version master pairs derivation.0 derivation.1 in
+    let full = derived_rows-full published derivation.0 rows.0 rows.1 in
+    let wide : length derivation.0.columns ≡ length (map word pairs) =
+    is.places.as_many ∙ sym (length-map pairs word) in
+    subst (λ (one : DerivedSheet). All (λ row. length row.1 ≡ length one.attributes) one.rows)
+    (sym (done-value (told rows.0) sheet rows.2))
+    (All-map (λ row. length row.1 ≡ length (map word pairs)) numbered rows.0
+    (λ place past inside. full place past inside ∙ wide))

@@ -1,0 +1,306 @@
+-- A Carry moves one session, as the look before it shows.
+use Rattle.std.proofs.Common.{◌≡◌, ◌≢◌, ◌∙◌, ℕ, ◌+◌, ◌-◌, ◌<◌, ◌≤◌, Bool, true, false, List, [], ◌∷◌, length, set, Some, inl, inr, refl, sym, ap, subst, arith}
+use Rattle.std.specs.Prelude.{◌&&◌, ◌==◌, Ok, slice_get}
+use Rattle.std.specs.Str.{bytes_eq}
+use Rattle.std.proofs.lemmas.Bool.Decides.{nat_tests}
+use Rattle.std.proofs.lemmas.List.Quantifiers.{position-Some}
+use Rattle.std.proofs.lemmas.Option.{same_Some, slice_get_within}
+use Rattle.std.proofs.lemmas.Slice.Eq.{bytes_eq-Decides}
+use Rattle.desk_carry.specs.Changes.{AreChanged}
+use Rattle.desk_carry.specs.Moves.{places_apart}
+use Rattle.desk_words.specs.declared.change.Change.{Change}
+use Rattle.desk_words.specs.declared.change.Change.TheVariants as change
+use Rattle.desk_words.specs.declared.clerk_work.ClerkWork.TheVariants.{Carry}
+use Rattle.desk_words.specs.declared.command.Command.TheVariants.{Clerk, Look}
+use Rattle.desk_words.specs.declared.command.Ticket.{Ticket}
+use Rattle.desk_words.specs.declared.look.Look.TheVariants.{View, Carry as CarryLook}
+use Rattle.desk_words.specs.declared.refusal.Kind.TheVariants as kind
+use Rattle.desk_words.specs.declared.refusal.Refusal.TheVariants.{NoSuch}
+use Rattle.desk_words.specs.declared.reply.Carried.{Carried}
+use Rattle.desk_words.specs.declared.reply.Reply.{Reply}
+use Rattle.desk_words.specs.declared.reply.Reply.TheVariants as reply
+use Rattle.desk_words.specs.declared.rows.act.Act.TheVariants as act
+use Rattle.desk_words.specs.declared.rows.clerk.ClerkRow.{ClerkRow}
+use Rattle.desk_words.specs.declared.rows.edition.EditionRow.{EditionRow}
+use Rattle.desk_words.specs.declared.rows.session.SessionRow.{SessionRow}
+use Rattle.desk_words.specs.declared.view.View.{View as ViewOf}
+use Rattle.desk_words.specs.Changes.{changed, changed_all}
+use Rattle.desk_words.specs.Tables.{Published, Rows, published_of}
+use Rattle.desk_valid.specs.declared.bound.Bound.{Bound}
+use Rattle.desk_valid.specs.Bindings.{bound_at}
+use Rattle.fix_engine.specs.Verdicts.{IsAnswer}
+use Rattle.machine_core.specs.Answers.{bound_for, state_of}
+use Rattle.machine_core.specs.Checked.{Answer, Checked, ◌>>=◌, answer_for, done, Gives}
+use Rattle.machine_core.specs.Clerk.Carry.{carry_row}
+use Rattle.machine_core.specs.declared.deed.Deed.{Deed}
+use Rattle.machine_core.specs.Finding.{edition_named, session_at}
+use Rattle.machine_core.specs.Kept.{kept_reply}
+use Rattle.machine_core.specs.Look.Carry.{carried_between, carrying, words_apart}
+use Rattle.machine_core.specs.Look.View.{view_at}
+use Rattle.machine_core.specs.Machine.{IsStep, clerk_of}
+use Rattle.machine_core.specs.Own.{Own, after, changes_of, own_of, puts}
+use Rattle.machine_core.specs.Tests.{session_of}
+use Rattle.machine_core.specs.Views.{edition_at, view_of, view_with}
+use Rattle.machine_core.proofs.Chains.{Gives-bind, Gives-bind_ok, Gives-unique, done-value}
+use Rattle.machine_core.proofs.Tested.{certainly-ok, some_or-ok}
+use Rattle.machine_laws.specs.Carries.{CarriesOne, IsCarried, row_after}
+use Rattle.machine_laws.proofs.Carries.{IsCarryOf, carry-found}
+use Rattle.machine_laws.proofs.Deeds.{changed-caller, put-within}
+use Rattle.machine_laws.proofs.Explanations.{answer-given}
+use Rattle.machine_laws.proofs.Isolating.{write-cases}
+use Rattle.machine_laws.proofs.Lists.{slice_get-set_same}
+use Rattle.machine_laws.proofs.Sessions.{session_at-found}
+use Rattle.machine_laws.proofs.Told.{look-told, told-again}
+use Rattle.machine_laws.proofs.Writes.{IsNew}
+
+-- an edition stands under the name and the version by which it was found
+edition-named : (published : Published) (name : List ℕ) (version place : ℕ)
+    → edition_named published.editions name version ≡ Some place
+    → ((edition_at published place).name ≡ name) × ((edition_at published place).version ≡ version)
+edition-named published name version place is =
+    let past : EditionRow = record { name = []; version = 0; rulebook = 0; masters = []; folded = [] } in
+    let found = position-Some (λ (row : EditionRow). bytes_eq row.name name && (row.version == version))
+    published.editions place past is in
+    let row : EditionRow = edition_at published place in
+    let both = and_both (bytes_eq row.name name) (row.version == version) found.1 in
+    ((bytes_eq-Decides row.name name).0 both.0, grind (arith, nat_tests, both.1))
+  where
+    and_both : (one other : Bool) → (one && other) ≡ true → (one ≡ true) × (other ≡ true)
+    and_both true other is = (refl, is)
+    and_both false other is = absurd (cc)
+
+-- what the tests of a Carry found is carried
+IsCarried-found : (published : Published) (own : Own) (number version : ℕ) (moved : SessionRow)
+    → (is : IsCarryOf published own number version moved) → IsCarried published version is.session moved
+IsCarried-found published own number version moved is =
+    let named = edition-named published (edition_at published is.session.edition).name version is.edition is.named in
+    let words : List (List ℕ) = is.before.names.attributes in
+    let others : List (List ℕ) = is.behind.names.attributes in
+    subst (IsCarried published version is.session) (sym is.is) (record {
+      same_name = named.0;
+      asked_for = named.1;
+      newer = is.newer;
+      before = is.before;
+      behind = is.behind;
+      binds = is.binds;
+      binds_behind = is.binds_behind;
+      moved = record {
+        typed = moved.typed;
+        confirmed = moved.confirmed;
+        added = places_apart others words;
+        dropped = places_apart words others;
+      };
+      is_moved = record {
+        typed_is = ap (λ (one : SessionRow). one.typed) is.is;
+        confirmed_is = ap (λ (one : SessionRow). one.confirmed) is.is;
+        added = refl;
+        dropped = refl;
+      };
+      typed = sym (ap (λ (one : SessionRow). one.typed) is.is);
+      confirmed = sym (ap (λ (one : SessionRow). one.confirmed) is.is);
+      stage = refl;
+      batch = refl;
+    })
+
+-- the deed of a Carry puts the carried session
+record IsCarryDeed (published : Published) (own : Own) (number version : ℕ) (deed : Deed) : Type 0 where
+  moved : SessionRow
+  carries : Gives (carry_row published own number version) (Ok moved)
+  is : deed ≡ puts (number - 1) moved act.Changed
+
+carry-deed : (rows : Rows) (name : List ℕ) (ticket : Ticket) (number version : ℕ) (answer : Reply) (changes : List Change)
+    → (new : IsNew rows name ticket (Carry number version) answer changes)
+    → IsCarryDeed (published_of rows) (own_of rows new.place) number version new.deed
+carry-deed rows name ticket number version answer changes new =
+    let moved = Gives-bind_ok (carry_row (published_of rows) (own_of rows new.place) number version) (λ session.
+    done (puts (number - 1) session act.Changed)) new.deed new.does in
+    record {
+      moved = moved.0;
+      carries = moved.1;
+      is = done-value (puts (number - 1) moved.0 act.Changed) new.deed moved.2;
+    }
+
+-- a session that was put is shown as it is
+put-shown : (published : Published) (own : Own) (number : ℕ) (moved : SessionRow) (answer : Reply) → 1 ≤ number
+    → number - 1 < length own.sessions
+    → Gives (kept_reply published (after own (puts (number - 1) moved act.Changed)) act.Changed (number - 1)) (Ok answer)
+    → (view : ViewOf) × Gives (view_of published number moved) (Ok view) × (answer ≡ reply.View view)
+put-shown published own number moved answer counted within gives =
+    let next : Own = after own (puts (number - 1) moved act.Changed) in
+    let same_number : number - 1 + 1 ≡ number = omega (arith, counted) in
+    let view = Gives-bind_ok (view_at published next (number - 1 + 1)) (λ view. done (reply.View view)) answer gives in
+    let there : Gives (view_at published next number) (Ok view.0) =
+    subst (λ one. Gives (view_at published next one) (Ok view.0)) same_number view.1 in
+    let session = Gives-bind_ok (session_of next.sessions number) (view_of published number) view.0 there in
+    let stands = session_at-found next.sessions number session.0
+    (some_or-ok (session_at next.sessions number) (NoSuch kind.Session) session.0 session.1) in
+    let put_there : slice_get next.sessions (number - 1) ≡ Some moved =
+    ap (λ list. slice_get list (number - 1)) (put-within own.sessions (number - 1) moved within)
+    ∙ slice_get-set_same own.sessions (number - 1) moved within in
+    let same : session.0 ≡ moved = same_Some session.0 moved (sym stands.1 ∙ put_there) in (
+      view.0,
+      subst (λ one. Gives (view_of published number one) (Ok view.0)) same session.2,
+      done-value (reply.View view.0) answer view.2,
+    )
+
+-- it is shown by what the rules of its edition make of it
+record IsShownBy (published : Published) (number : ℕ) (session : SessionRow) (bound : Bound) (view : ViewOf) : Type 0 where
+  made_of_it : Answer
+  answers : IsAnswer bound.kit (state_of session) made_of_it.first made_of_it.second made_of_it.verdict
+  is : view ≡ view_with published number session bound made_of_it
+
+shown-by : (published : Published) (number : ℕ) (session : SessionRow) (bound : Bound) (view : ViewOf)
+    → bound_at published session.edition ≡ Some bound → Gives (view_of published number session) (Ok view)
+    → IsShownBy published number session bound view
+shown-by published number session bound view binds gives =
+    let showing : Bound → Answer → Checked ViewOf = λ one answer. done (view_with published number session one answer) in
+    let found = Gives-bind_ok (bound_for published session) (λ one. answer_for one.kit (state_of session) >>= showing one)
+    view gives in
+    let same : found.0 ≡ bound =
+    same_Some found.0 bound (sym (certainly-ok (bound_at published session.edition) found.0 found.1) ∙ binds) in
+    let answer = Gives-bind_ok (answer_for found.0.kit (state_of session)) (showing found.0) view found.2 in
+    subst (λ one. IsShownBy published number session one view) same (record {
+      made_of_it = answer.0;
+      answers = answer-given found.0.kit (state_of session) answer.0 answer.1;
+      is = done-value (view_with published number session found.0 answer.0) view answer.2;
+    })
+
+pub CarriesOne-write : (rows : Rows) (name : List ℕ) (ticket : Ticket) (number version : ℕ) (answer : Reply)
+    (changes : List Change) → IsStep rows (Clerk name ticket (Carry number version)) answer changes → changes ≢ []
+    → CarriesOne rows name ticket number version answer changes
+CarriesOne-write rows name ticket number version answer changes step accepted =
+    elim (write-cases rows name ticket (Carry number version) answer changes step) [
+      | inl none ↦ absurd (accepted none)
+      | inr new ↦
+          let place : ℕ = new.place in
+          let own : Own = own_of rows place in
+          let deed = carry-deed rows name ticket number version answer changes new in
+          let found = carry-found (published_of rows) own number version deed.moved deed.carries in
+          let row : ClerkRow = row_after rows place ticket number in
+          let two : changes ≡ change.Session place (number - 1) deed.moved ∷ change.Clerk place row ∷ [] =
+          new.changed ∙ ap (changes_of place own.row ticket) deed.is in
+          let within : number - 1 < length own.sessions =
+          slice_get_within own.sessions (number - 1) found.session found.is_active.stands in
+          let next : Rows = changed rows (change.Session place (number - 1) deed.moved) in
+          let carried = IsCarried-found (published_of rows) own number version deed.moved found in
+          let kept = subst (λ (made : Deed). Gives (kept_reply (published_of rows) (after own made) made.act made.target)
+          (Ok answer)) deed.is new.kept in
+          let shown = put-shown (published_of rows) own number deed.moved answer found.is_active.counted within kept in
+          let by = shown-by (published_of rows) number deed.moved carried.behind shown.0 carried.binds_behind shown.1 in
+          record {
+            place = place;
+            found = new.is_place.found;
+            old = found.session;
+            counted = found.is_active.counted;
+            stands = found.is_active.stands;
+            is_open = found.is_active.is_open;
+            new = deed.moved;
+            is_carried = carried;
+            two_changes = two;
+            leaves = ap (changed_all rows) two ∙ changed-caller next place row new.is_place.within
+                ∙ ap (λ list. record rows {
+                  clerks = set rows.clerks place row;
+                  sessions = set rows.sessions place list;
+                }) (put-within own.sessions (number - 1) deed.moved within);
+            made_of_it = by.made_of_it;
+            answers = by.answers;
+            is_told = shown.2 ∙ ap reply.View by.is;
+          }
+    ]
+
+-- what a look at a Carry is told: the session as it is shown, the one that a Carry leaves, and what changes
+pub record IsCarryingOf (published : Published) (own : Own) (number version : ℕ) (carried : Carried) : Type 0 where
+  pub moved : SessionRow
+  pub carries : Gives (carry_row published own number version) (Ok moved)
+  pub before : Gives (view_at published own number) (Ok carried.before)
+  pub behind : Gives (view_of published number moved) (Ok carried.after)
+  pub changed : AreChanged carried.before carried.after carried.changed
+
+carrying-found : (published : Published) (own : Own) (number version : ℕ) (carried : Carried)
+    → Gives (carrying published own number version) (Ok carried) → IsCarryingOf published own number version carried
+carrying-found published own number version carried gives =
+    let showing : SessionRow → ViewOf → Checked Carried = λ moved before.
+    view_of published number moved >>= carried_between before in
+    let moved = Gives-bind_ok (carry_row published own number version) (λ moved. view_at published own number
+    >>= showing moved) carried gives in
+    let before = Gives-bind_ok (view_at published own number) (showing moved.0) carried moved.2 in
+    let behind = Gives-bind_ok (view_of published number moved.0) (carried_between before.0) carried before.2 in
+    let pairs : List (ℕ × ℕ) = behind.2.0 in
+    let made : Carried = record {
+      added = words_apart behind.0 before.0;
+      dropped = words_apart before.0 behind.0;
+      before = before.0;
+      after = behind.0;
+      changed = pairs;
+    } in
+    subst (IsCarryingOf published own number version) (sym (done-value made carried behind.2.2)) (record {
+      moved = moved.0;
+      carries = moved.1;
+      before = before.1;
+      behind = behind.1;
+      changed = behind.2.1;
+    })
+
+-- a look at a Carry is told this, and would be again
+pub record IsShown (rows : Rows) (name : List ℕ) (number version : ℕ) (carried : Carried) : Type 0 where
+  pub place : ℕ
+  pub found : clerk_of rows.clerks name ≡ done place
+  pub is : IsCarryingOf (published_of rows) (own_of rows place) number version carried
+
+pub carry-look : (rows : Rows) (name : List ℕ) (number version : ℕ) (carried : Carried) (changes : List Change)
+    → IsStep rows (Look name (CarryLook number version)) (reply.Carried carried) changes
+    → IsShown rows name number version carried
+carry-look rows name number version carried changes step =
+    let told = look-told rows name (CarryLook number version) (reply.Carried carried) changes (λ refusal same. cc) step in
+    let own : Own = own_of rows told.place in
+    let found = Gives-bind_ok (carrying (published_of rows) own number version) (λ one. done (reply.Carried one))
+    (reply.Carried carried) told.gives in
+    let replies = done-value (reply.Carried found.0) (reply.Carried carried) found.2 in
+    let same : found.0 ≡ carried = cc in
+    record {
+      place = told.place;
+      found = told.found;
+      is = carrying-found (published_of rows) own number version carried
+          (subst (λ one. Gives (carrying (published_of rows) own number version) (Ok one)) same found.1);
+    }
+
+-- the session is shown so
+pub shown-before : (rows : Rows) (name : List ℕ) (number version : ℕ) (carried : Carried) (answer : Reply)
+    (changes : List Change) → IsShown rows name number version carried
+    → IsStep rows (Look name (View number)) answer changes → answer ≡ reply.View carried.before
+shown-before rows name number version carried answer changes look step =
+    told-again rows name (View number) (reply.View carried.before) answer changes (record {
+      place = look.place;
+      found = look.found;
+      gives = Gives-bind (view_at (published_of rows) (own_of rows look.place) number) (λ view. done (reply.View view))
+          carried.before (Ok (reply.View carried.before)) look.is.before refl;
+    }) step
+
+-- and a Carry of it that is accepted is answered so
+pub shown-after : (rows : Rows) (name : List ℕ) (ticket : Ticket) (number version : ℕ) (carried : Carried)
+    (answer : Reply) (changes : List Change) → IsShown rows name number version carried
+    → IsStep rows (Clerk name ticket (Carry number version)) answer changes → changes ≢ []
+    → answer ≡ reply.View carried.after
+shown-after rows name ticket number version carried answer changes look step accepted =
+    elim (write-cases rows name ticket (Carry number version) answer changes step) [
+      | inl none ↦ absurd (accepted none)
+      | inr new ↦
+          let published : Published = published_of rows in
+          let places : done look.place ≡ done new.place = sym look.found ∙ new.is_place.found in
+          let same_place : look.place ≡ new.place = cc in
+          let own : Own = own_of rows new.place in
+          let deed = carry-deed rows name ticket number version answer changes new in
+          let shows = subst (λ place. IsCarryingOf published (own_of rows place) number version carried) same_place look.is in
+          let found = carry-found published own number version deed.moved deed.carries in
+          let one = Gives-unique (carry_row published own number version) (Ok shows.moved) (Ok deed.moved) shows.carries
+          deed.carries in
+          let same : shows.moved ≡ deed.moved = cc in
+          let kept = subst (λ (made : Deed). Gives (kept_reply published (after own made) made.act made.target) (Ok answer))
+          deed.is new.kept in
+          let shown = put-shown published own number deed.moved answer found.is_active.counted
+          (slice_get_within own.sessions (number - 1) found.session found.is_active.stands) kept in
+          let views = Gives-unique (view_of published number deed.moved) (Ok shown.0) (Ok carried.after) shown.1
+          (subst (λ session. Gives (view_of published number session) (Ok carried.after)) same shows.behind) in
+          let view : shown.0 ≡ carried.after = cc in
+          shown.2 ∙ ap reply.View view
+    ]

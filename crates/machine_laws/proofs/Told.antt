@@ -1,0 +1,78 @@
+-- A request that is not refused is told what the machine gives.
+use Rattle.std.proofs.Common.{◌≡◌, ◌≢◌, ◌⊎◌, ◌∙◌, ℕ, List, [], inl, inr, refl, sym, ap, subst}
+use Rattle.std.specs.Prelude.{Result, Ok, Err}
+use Rattle.desk_words.specs.declared.change.Change.{Change}
+use Rattle.desk_words.specs.declared.command.Command.{Command}
+use Rattle.desk_words.specs.declared.command.Command.TheVariants.{Steward, Look}
+use Rattle.desk_words.specs.declared.command.Ticket.{Ticket}
+use Rattle.desk_words.specs.declared.look.Look.{Look as LookOf}
+use Rattle.desk_words.specs.declared.refusal.Refusal.{Refusal}
+use Rattle.desk_words.specs.declared.reply.Reply.{Reply}
+use Rattle.desk_words.specs.declared.reply.Reply.TheVariants as reply
+use Rattle.desk_words.specs.declared.steward_work.StewardWork.{StewardWork}
+use Rattle.desk_words.specs.Tables.{Rows, published_of}
+use Rattle.machine_core.specs.Checked.{Checked, ◌>>=◌, done, Gives}
+use Rattle.machine_core.specs.Machine.{IsStep, answered, clerk_of, look_reply, machine}
+use Rattle.machine_core.specs.Own.{own_of}
+use Rattle.machine_core.proofs.Chains.{Gives-bind, Gives-bind_ok, Gives-unique, done-value}
+use Rattle.machine_laws.proofs.Writes.{IsStewardsNew, clerk_of-ok, steward-written}
+
+pub step-told : (rows : Rows) (command : Command) (answer : Reply) (changes : List Change)
+    → ((refusal : Refusal) → answer ≢ reply.Refused refusal) → IsStep rows command answer changes
+    → Gives (machine rows command) (Ok (answer, changes))
+step-told rows command answer changes told step = whole step.outcome step.gives step.answers
+  where
+    whole : (outcome : Result (Reply × List Change) Refusal) → Gives (machine rows command) outcome
+        → (answer, changes) ≡ answered outcome → Gives (machine rows command) (Ok (answer, changes))
+    whole (Ok made) gives is = subst (λ one. Gives (machine rows command) (Ok one)) (sym is) gives
+    whole (Err refusal) gives is = absurd (told refusal (ap (λ (both : Reply × List Change). both.0) is))
+
+-- a look is told what comes of the clerk's own rows
+pub record IsToldTo (rows : Rows) (name : List ℕ) (look : LookOf) (answer : Reply) : Type 0 where
+  pub place : ℕ
+  pub found : clerk_of rows.clerks name ≡ done place
+  pub gives : Gives (look_reply (published_of rows) (own_of rows place) look) (Ok answer)
+
+pub look-told : (rows : Rows) (name : List ℕ) (look : LookOf) (answer : Reply) (changes : List Change)
+    → ((refusal : Refusal) → answer ≢ reply.Refused refusal) → IsStep rows (Look name look) answer changes
+    → IsToldTo rows name look answer
+look-told rows name look answer changes told step =
+    let last : Reply → Checked (Reply × List Change) = λ one. done (one, []) in
+    let place = Gives-bind_ok (clerk_of rows.clerks name) (λ place. look_reply (published_of rows) (own_of rows place) look
+    >>= last) (answer, changes) (step-told rows (Look name look) answer changes told step) in
+    let given = Gives-bind_ok (look_reply (published_of rows) (own_of rows place.0) look) last (answer, changes) place.2 in
+    let same : answer ≡ given.0 =
+    ap (λ (both : Reply × List Change). both.0) (done-value (given.0, []) (answer, changes) given.2) in
+    record {
+      place = place.0;
+      found = (clerk_of-ok rows.clerks name place.0 place.1).found;
+      gives = subst (λ one. Gives (look_reply (published_of rows) (own_of rows place.0) look) (Ok one)) (sym same) given.1;
+    }
+
+-- and each time the same
+pub told-again : (rows : Rows) (name : List ℕ) (look : LookOf) (answer other : Reply) (changes : List Change)
+    → IsToldTo rows name look answer → IsStep rows (Look name look) other changes → other ≡ answer
+told-again rows name look answer other changes is step =
+    let last : Reply → Checked (Reply × List Change) = λ one. done (one, []) in
+    let found : Gives (clerk_of rows.clerks name) (Ok is.place) = subst (λ one. Gives one (Ok is.place)) (sym is.found) refl in
+    let whole : Gives (machine rows (Look name look)) (Ok (answer, [])) = Gives-bind (clerk_of rows.clerks name) (λ place.
+    look_reply (published_of rows) (own_of rows place) look >>= last) is.place (Ok (answer, [])) found
+    (Gives-bind (look_reply (published_of rows) (own_of rows is.place) look) last answer (Ok (answer, [])) is.gives refl) in
+    let same = Gives-unique (machine rows (Look name look)) step.outcome (Ok (answer, [])) step.gives whole in
+    ap (λ (both : Reply × List Change). both.0) (step.answers ∙ ap answered same)
+
+-- a write of the steward changes nothing, or is new
+pub steward-cases : (rows : Rows) (ticket : Ticket) (work : StewardWork) (answer : Reply) (changes : List Change)
+    → IsStep rows (Steward ticket work) answer changes
+    → (changes ≡ []) ⊎ IsStewardsNew rows ticket work answer changes
+steward-cases rows ticket work answer changes step =
+    subst (λ (both : Reply × List Change). (both.1 ≡ []) ⊎ IsStewardsNew rows ticket work both.0 both.1) (sym step.answers)
+    (whole step.outcome step.gives)
+  where
+    whole : (outcome : Result (Reply × List Change) Refusal) → Gives (machine rows (Steward ticket work)) outcome
+        → ((answered outcome).1 ≡ []) ⊎ IsStewardsNew rows ticket work (answered outcome).0 (answered outcome).1
+    whole (Ok made) gives = elim (steward-written rows ticket work made gives) [
+      | inl again ↦ inl again.unchanged
+      | inr new ↦ inr new
+    ]
+    whole (Err refusal) gives = inl refl
