@@ -1,0 +1,69 @@
+//! Calls of `serve` over doors and outputs in memory.
+use crate::doors::door_of;
+use desk_base::{List, MemSink, NoMemory};
+use desk_cases::Case;
+use desk_links::MemDoor;
+use fixdesk_run::serve;
+use keeper_core::MemKeeper;
+use session_machine::Desk;
+use std::alloc::Global;
+use std::test::Fail;
+
+/// How many bytes an output has room for, where a case does not say.
+const USUAL_ROOM: usize = 1_000;
+
+/// What a call left: its status, the output and the door.
+#[derive(Drop)]
+pub struct Served {
+    pub status: u8,
+    pub out: MemSink,
+    pub door: MemDoor,
+}
+
+/// Makes a call with these words over the door and the output of a case.
+pub fn call(
+    alloc: Global,
+    case: &Case,
+    words: &[u8],
+    keeper: &mut MemKeeper,
+) -> Result<Served, Fail> {
+    let words = words_of(alloc, words)?;
+    call_with(alloc, case, words.as_slice(), keeper)
+}
+
+/// Makes the call with these words.
+fn call_with(
+    alloc: Global,
+    case: &Case,
+    words: &[String],
+    keeper: &mut MemKeeper,
+) -> Result<Served, Fail> {
+    let mut door = door_of(alloc, case)?;
+    let mut out = output(alloc, case)?;
+    let status = serve::<Desk, _, _, _>(alloc, words, keeper, &mut door, &mut out);
+    Ok(Served { status, out, door })
+}
+
+/// The output of a case, which has room for as many bytes as its part `room` says.
+fn output(alloc: Global, case: &Case) -> Result<MemSink, NoMemory> {
+    MemSink::new(alloc, USUAL_ROOM, room(case), List::new(alloc))
+}
+
+fn room(case: &Case) -> usize {
+    match case.number("room") {
+        Some(room) => usize::try_from(room).unwrap_or(USUAL_ROOM),
+        None => USUAL_ROOM,
+    }
+}
+
+/// The words of a text, with blanks between.
+pub fn words_of(alloc: Global, text: &[u8]) -> Result<Vec<String>, Fail> {
+    let Ok(text) = std::str::from_utf8(text) else {
+        return Err(Fail::new("words are no UTF-8"));
+    };
+    let mut words = Vec::new(alloc);
+    for word in text.split_whitespace() {
+        words.push(String::from_str(alloc, word)?)?;
+    }
+    Ok(words)
+}
