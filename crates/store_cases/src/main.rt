@@ -1,0 +1,49 @@
+//! Tries the cases in `data/`: calls of `run` over keepers whose tables stand in SQL tables, in memory and on disks that
+//! stop.
+//!
+//! The words are the files of cases, that of the script first; a file's name up to its first `-` says what is tried.
+//! `docs/cases.md` says how a case is written, and the README which parts these have.
+#![tactic(auto)]
+
+mod calls;
+mod disks;
+mod keeping;
+mod lines;
+mod loads;
+mod script;
+mod sent;
+mod stops;
+mod stored;
+mod table;
+
+use crate::script::Script;
+use desk_cases::{Case, Part, Subject, try_files};
+use std::alloc::Global;
+use std::test::Fail;
+
+/// What calls `run`, with the script as far as it was read.
+#[derive(Drop)]
+struct Runs {
+    script: Script,
+}
+
+impl Subject for Runs {
+    fn answer(&mut self, alloc: Global, kind: &str, case: &Case) -> Result<Vec<Part>, Fail> {
+        match kind {
+            "desk" => {
+                let answer = sent::next(alloc, &self.script, case)?;
+                self.script.add(alloc, case)?;
+                Ok(answer)
+            }
+            "script" => sent::told(alloc, &self.script, case),
+            "rows" => loads::told(alloc, case),
+            "stop" => stops::told(alloc, &self.script, case),
+            _ => Err(Fail::new("a file of cases has an unknown kind")),
+        }
+    }
+}
+
+fn main(rt: HostRuntime) -> Result<(), Fail> {
+    let script = Script::new(rt.alloc());
+    try_files(&rt, &mut Runs { script })
+}
