@@ -12,7 +12,7 @@ set -eu
 here=$(dirname "$0")
 port=${PORT:-8765}
 desk="http://127.0.0.1:$port"
-connections=16
+connections=17
 
 "$@" "$port" "$connections" &
 program=$!
@@ -37,6 +37,9 @@ ask POST /steward/6/editions/postal \
 echo "== amy enters an address whose zip she knows: town, region and country are fixed"
 ask POST /do/amy/1/open/postal \
     '{"cells":{"city":"Edinbrugh","street":"12 Easter Road","zip":"eh7 4aa"},"confirmed":["zip"]}'
+
+echo "== why is the country Scotland? the steps that it rests on, and what she confirmed that they use"
+ask GET /see/amy/explain/1/country
 
 echo "== the street is in no master, so a commit that asks for certainty is refused, until she confirms it"
 ask POST /do/amy/2/commit/1 '{"accept":"certain"}'
