@@ -3,3 +3,7 @@ pub mod Told
 pub mod Keeps
 pub mod Changed
 pub mod Tells
+pub mod Failing
+pub mod Opened
+pub mod Read
+pub mod Loads

@@ -1,4 +1,5 @@
 pub mod Telling
 pub mod Steps
+pub mod Causes
 pub mod Keeping
 pub mod Files

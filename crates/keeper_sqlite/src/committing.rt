@@ -1,8 +1,10 @@
 //! Changes are packed and put.
-ghost use Rattle.std.specs.Prelude.{◌≡◌, false, Some, IfOk, OnOk, OnErr};
+ghost use Rattle.std.specs.Prelude.{◌≡◌, false, Some, IfOk, IsErrOf, OnOk, OnErr};
 ghost use Rattle.keeper_core.specs.Keeping.{FitTold};
 ghost use Rattle.sqlite.specs.Held.{state};
 ghost use Rattle.row_store.specs.Calls.{Becomes, Leaves, Stays};
+ghost use Rattle.sqlite.specs.State.{HasCleanDisk};
+ghost use Rattle.keeper_sqlite.specs.Causes.{RefusesChanges};
 ghost use Rattle.keeper_sqlite.specs.Steps.{ChangesTables, Knows};
 ghost use Rattle.keeper_sqlite.specs.Telling.{told};
 
@@ -31,6 +33,8 @@ pub fn commit_changes<S: Alter>(
     ensures unchanged { OnErr result (Stays (state S.Store conn.old) (state S.Store conn.new)) }
     ensures crash { Leaves (ChangesTables changes.now) (state S.Store conn.old) (state S.Store conn.new) }
     ensures autocommit { conn.new.in_transaction ≡ false }
+    ensures fails { IsErrOf result KeepFail.Failed → HasCleanDisk (state S.Store conn.new)
+        → RefusesChanges shape.now changes.now (state S.Store conn.old) (state S.Store conn.new) }
 {
     let packed = match shape.pack(changes.allocator(), changes) {
         Ok(packed) => packed,

@@ -1,11 +1,14 @@
 //! A keeper over the files at a path. It opens them with its first `load`.
-ghost use Rattle.std.specs.Prelude.{◌≡◌, ◌≤◌, None, Some, IfOk, OnOk, OnErr};
+ghost use Rattle.std.specs.Prelude.{◌≡◌, ◌≤◌, None, Some, IfOk, IsErrOf, IsSome, OnOk, OnErr};
 ghost use Rattle.desk_words.specs.Tables.{AreTables, rows_of};
 ghost use Rattle.keeper_core.specs.Keeping.{ChangeTold, CountsFailures, FailsRise, FitTold};
 ghost use Rattle.keeper_core.specs.Keeping.{IsLoaded, NeverFails, StayTold};
-ghost use Rattle.row_store.specs.Calls.{Becomes, Stays};
-ghost use Rattle.keeper_sqlite.specs.Files.{IfOpen, IfOpened, told_opened};
-ghost use Rattle.keeper_sqlite.specs.Steps.{ChangesTables, IsHeld};
+ghost use Rattle.row_store.specs.Calls.{Becomes, Lasts, Leaves, Stays};
+ghost use Rattle.sqlite.specs.State.{HasCleanDisk};
+ghost use Rattle.sqlite.specs.WalFiles.{image_at};
+ghost use Rattle.keeper_sqlite.specs.Causes.{FailsToCommit};
+ghost use Rattle.keeper_sqlite.specs.Files.{Finds, IfLoaded, IfOpen, IfOpened, KeepsFound, told_opened};
+ghost use Rattle.keeper_sqlite.specs.Steps.{ChangesTables, IsHeld, KeepsTold};
 
 use crate::fault::{count, store_fail};
 use crate::open::OpenTables;
@@ -63,6 +66,10 @@ impl<'r, S: Start> FileKeeper<'r, S, FileStore<FileFrom<S>>> {
     fn open_once(&mut self) -> Result<(), KeepFail>
         ensures told { told_opened self.new.tables ≡ told_opened self.old.tables }
         ensures faults { self.new.faults ≡ self.old.faults }
+        ensures same { IsSome self.old.tables → self.new.tables ≡ self.old.tables }
+        ensures opened { OnOk result (IsSome self.new.tables) }
+        ensures refused { OnErr result ((self.old.tables ≡ None) × (self.new.tables ≡ None)) }
+        ensures found { self.old.tables ≡ None → IfOpened self.new.tables (Finds (image_at S.Start)) }
     {
         if self.tables.is_some() {
             return Ok(());
@@ -97,8 +104,12 @@ impl<'r, S: Start> Keeper for FileKeeper<'r, S, FileStore<FileFrom<S>>> {
         ensures cause { FailsRise self.old.faults self.new.faults result }
         ensures steady { ⊥ → NeverFails result × ⊥ }
 
-        // What stands in the table then, and the count of faults.
+        // What stands in the table then, what a crash leaves, what of it stood in the files at first, and the count of
+        // faults.
         ensures held { IfOk result (λ made. IfOpened self.new.tables (λ s. IsHeld s (rows_of made))) }
+        ensures keeps { IfOpen self.old.tables self.new.tables KeepsTold }
+        ensures found { self.old.tables ≡ None → IfOpened self.new.tables (KeepsFound (image_at S.Start)) }
+        ensures lasts { OnOk result (IfOpened self.new.tables Lasts) }
         ensures faults { CountsFailures self.old.faults self.new.faults result }
     {
         if let Err(fail) = self.open_once() {
@@ -121,9 +132,13 @@ impl<'r, S: Start> Keeper for FileKeeper<'r, S, FileStore<FileFrom<S>>> {
         ensures cause { FailsRise self.old.faults self.new.faults result }
         ensures steady { ⊥ → NeverFails result × ⊥ }
 
-        // What stands in the table then, and the count of faults.
+        // What stands in the table then, what a crash leaves, why it fails, and the count of faults.
         ensures put { OnOk result (IfOpen self.old.tables self.new.tables (Becomes (ChangesTables changes.now))) }
         ensures stays { OnErr result (IfOpen self.old.tables self.new.tables Stays) }
+        ensures crash { IfLoaded self.old.tables self.new.tables (λ _. Leaves (ChangesTables changes.now)) }
+        ensures lasts { OnOk result (IfOpened self.new.tables Lasts) }
+        ensures fails { IsErrOf result KeepFail.Failed → IfLoaded self.old.tables self.new.tables (λ lengths old new.
+            HasCleanDisk new → FailsToCommit lengths changes.now old new) }
         ensures faults { CountsFailures self.old.faults self.new.faults result }
     {
         match commit_opened(&mut self.tables, changes) {
@@ -139,6 +154,8 @@ fn load_opened<S: Start>(tables: &mut Option<Opened<S>>) -> Result<Tables, KeepF
     ensures whole { IfOk result (λ made. AreTables (rows_of made)) }
     ensures unchanged { OnErr result (StayTold (told_opened tables.old) (told_opened tables.new)) }
     ensures held { IfOk result (λ made. IfOpened tables.new (λ s. IsHeld s (rows_of made))) }
+    ensures keeps { IfOpen tables.old tables.new KeepsTold }
+    ensures lasts { OnOk result (IfOpened tables.new Lasts) }
 {
     match tables {
         Some(tables) => tables.load(),
@@ -156,6 +173,10 @@ fn commit_opened<S: Start>(
     ensures unchanged { OnErr result (StayTold (told_opened tables.old) (told_opened tables.new)) }
     ensures put { OnOk result (IfOpen tables.old tables.new (Becomes (ChangesTables changes.now))) }
     ensures stays { OnErr result (IfOpen tables.old tables.new Stays) }
+    ensures crash { IfLoaded tables.old tables.new (λ _. Leaves (ChangesTables changes.now)) }
+    ensures lasts { OnOk result (IfOpened tables.new Lasts) }
+    ensures fails { IsErrOf result KeepFail.Failed → IfLoaded tables.old tables.new (λ lengths old new.
+        HasCleanDisk new → FailsToCommit lengths changes.now old new) }
 {
     match tables {
         Some(tables) => tables.commit(changes),

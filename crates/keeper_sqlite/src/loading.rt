@@ -1,14 +1,16 @@
 //! The tables are read, and made where nothing stands.
-ghost use Rattle.std.specs.Prelude.{◌≡◌, false, map, IfOk, OnOk, IsTrue};
+ghost use Rattle.std.specs.Prelude.{◌≡◌, false, map, IfOk, IsErrOf, OnOk, IsTrue};
 ghost use Rattle.desk_packing.specs.Lines.{line_of};
 ghost use Rattle.desk_packing.specs.Shapes.{shape_of};
 ghost use Rattle.desk_words.specs.Tables.{AreTables, Rows, rows_of};
-ghost use Rattle.desk_packing.specs.Stands.{StandAs};
+ghost use Rattle.desk_packing.specs.Stands.{StandAs, StandFor};
 ghost use Rattle.keeper_sqlite.specs.Telling.{AgesAs};
 ghost use Rattle.sqlite.specs.Held.{state};
 ghost use Rattle.sqlite.specs.State.{HasCleanDisk};
-ghost use Rattle.row_store.specs.Calls.{Lasts};
+ghost use Rattle.row_store.specs.Calls.{GoesOn, Lasts};
+ghost use Rattle.row_store.specs.Stored.{AreInKeyOrder};
 ghost use Rattle.row_store.specs.Table.{is_desk};
+ghost use Rattle.keeper_sqlite.specs.Causes.{FailsToLoad, IsStoppedTelling};
 ghost use Rattle.keeper_sqlite.specs.Steps.{IsFound, IsHeld, IsReady, KeepsTold};
 
 use crate::fault::{store_fail, unpack_fail};
@@ -55,6 +57,8 @@ pub fn load_tables<S: Alter>(conn: &mut Connection<S>) -> Result<Loaded, KeepFai
     ensures whole { IfOk result (λ loaded. AreTables (rows_of loaded.tables)) }
     ensures keeps { KeepsTold (state S.Store conn.old) (state S.Store conn.new) }
     ensures lasts { OnOk result (Lasts (state S.Store conn.new)) }
+    ensures fails { IsErrOf result KeepFail.Failed → HasCleanDisk (state S.Store conn.new)
+        → FailsToLoad (state S.Store conn.old) (state S.Store conn.new) }
 {
     ready_table(conn)?;
     let (alloc, found) = read_found(conn)?;
@@ -71,6 +75,9 @@ fn ready_table<S: Alter>(conn: &mut Connection<S>) -> Result<(), KeepFail>
     requires { conn.old.in_transaction ≡ false }
     ensures ready { OnOk result (IsReady (state S.Store conn.old) (state S.Store conn.new)) }
     ensures keeps { KeepsTold (state S.Store conn.old) (state S.Store conn.new) }
+    ensures goes_on { GoesOn (state S.Store conn.old) (state S.Store conn.new) }
+    ensures fails { IsErrOf result KeepFail.Failed → HasCleanDisk (state S.Store conn.new)
+        → IsStoppedTelling (state S.Store conn.old) (state S.Store conn.new) }
 {
     let footing = match footing_of(conn) {
         Ok(footing) => footing,
@@ -95,6 +102,9 @@ fn read_found<S: Alter>(conn: &mut Connection<S>) -> Result<(Global, Found), Kee
     ensures whole { IfOk result (λ pair. AreTables (rows_of pair.1.tables)) }
     ensures keeps { KeepsTold (state S.Store conn.old) (state S.Store conn.new) }
     ensures lasts { OnOk result (Lasts (state S.Store conn.new)) }
+    ensures goes_on { GoesOn (state S.Store conn.old) (state S.Store conn.new) }
+    ensures fails { IsErrOf result KeepFail.Failed → HasCleanDisk (state S.Store conn.new)
+        → IsStoppedTelling (state S.Store conn.old) (state S.Store conn.new) }
 {
     let rows = match all_rows(conn) {
         Ok(rows) => rows,
@@ -108,6 +118,8 @@ fn read_found<S: Alter>(conn: &mut Connection<S>) -> Result<(Global, Found), Kee
 fn found_in(alloc: Global, rows: &[PackedRow]) -> Result<Found, KeepFail>
     ensures found { IfOk result (λ found. AgesAs found.age (map line_of rows.now) (rows_of found.tables)) }
     ensures whole { IfOk result (λ found. AreTables (rows_of found.tables)) }
+    ensures fails { IsErrOf result KeepFail.Failed → (tables : Rows) → AreInKeyOrder (map line_of rows.now)
+        → StandFor (map line_of rows.now) tables → ⊥ }
 {
     match unpack(alloc, rows) {
         Ok(found) => Ok(Found {

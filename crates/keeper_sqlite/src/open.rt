@@ -1,11 +1,12 @@
 //! A keeper over an open connection of any store. It tells nothing before it has loaded, and loads once.
-ghost use Rattle.std.specs.Prelude.{◌≡◌, ◌≤◌, false, None, Err, IfOk, OnOk, OnErr, IsSome};
+ghost use Rattle.std.specs.Prelude.{◌≡◌, ◌≤◌, false, None, Err, IfOk, IsErrOf, OnOk, OnErr, IsSome};
 ghost use Rattle.desk_words.specs.Tables.{AreTables, rows_of};
 ghost use Rattle.keeper_core.specs.Keeping.{ChangeTold, CountsFailures, FailsRise, FitTold};
 ghost use Rattle.keeper_core.specs.Keeping.{IsLoaded, NeverFails, StayTold};
 ghost use Rattle.row_store.specs.Calls.{Becomes, Lasts, Leaves, Stays};
 ghost use Rattle.sqlite.specs.Held.{state};
 ghost use Rattle.sqlite.specs.State.{HasCleanDisk};
+ghost use Rattle.keeper_sqlite.specs.Causes.{FailsToCommit, FailsToLoad};
 ghost use Rattle.keeper_sqlite.specs.Steps.{ChangesTables, FitKnown, IsHeld, KeepsTold, told_loaded};
 ghost use Rattle.keeper_sqlite.specs.Telling.{told};
 
@@ -75,6 +76,8 @@ impl<S: Alter> OpenTables<S> {
         ensures keeps { KeepsTold (state S.Store self.old.connection) (state S.Store self.new.connection) }
         ensures lasts { OnOk result (Lasts (state S.Store self.new.connection)) }
         ensures known { OnOk result (IsSome self.new.lengths) }
+        ensures fails { IsErrOf result KeepFail.Failed → HasCleanDisk (state S.Store self.new.connection)
+            → FailsToLoad (state S.Store self.old.connection) (state S.Store self.new.connection) }
         ensures forgotten { OnErr result (self.new.lengths ≡ None) }
         ensures faults { CountsFailures self.old.faults self.new.faults result }
         ensures later { self.old.faults ≤ self.new.faults }
@@ -106,6 +109,9 @@ impl<S: Alter> OpenTables<S> {
         ensures kept { OnErr result (self.new.lengths ≡ self.old.lengths) }
         ensures early { self.old.lengths ≡ None
             → (result ≡ Err KeepFail.Failed) × (self.new.connection ≡ self.old.connection) }
+        ensures fails { IsErrOf result KeepFail.Failed → HasCleanDisk (state S.Store self.new.connection)
+            → FailsToCommit self.old.lengths changes.now (state S.Store self.old.connection)
+            (state S.Store self.new.connection) }
         ensures faults { CountsFailures self.old.faults self.new.faults result }
         ensures later { self.old.faults ≤ self.new.faults }
     {
@@ -147,6 +153,9 @@ impl<S: Alter> Keeper for OpenTables<S> {
         ensures lasts { OnOk result (Lasts (state S.Store self.new.connection)) }
         ensures once { IsSome self.old.lengths
             → (result ≡ Err KeepFail.Failed) × (self.new.connection ≡ self.old.connection) }
+        ensures fails { IsErrOf result KeepFail.Failed → self.old.lengths ≡ None
+            → HasCleanDisk (state S.Store self.new.connection)
+            → FailsToLoad (state S.Store self.old.connection) (state S.Store self.new.connection) }
         ensures faults { CountsFailures self.old.faults self.new.faults result }
     {
         if self.shape.is_some() {
@@ -176,6 +185,9 @@ impl<S: Alter> Keeper for OpenTables<S> {
         ensures lasts { OnOk result (Lasts (state S.Store self.new.connection)) }
         ensures early { self.old.lengths ≡ None
             → (result ≡ Err KeepFail.Failed) × (self.new.connection ≡ self.old.connection) }
+        ensures fails { IsErrOf result KeepFail.Failed → HasCleanDisk (state S.Store self.new.connection)
+            → FailsToCommit self.old.lengths changes.now (state S.Store self.old.connection)
+            (state S.Store self.new.connection) }
         ensures faults { CountsFailures self.old.faults self.new.faults result }
     {
         self.commit_known(changes)

@@ -1,8 +1,11 @@
 //! The first rows are put, and rows of the old version anew.
-ghost use Rattle.std.specs.Prelude.{◌≡◌, false, OnOk};
+ghost use Rattle.std.specs.Prelude.{◌≡◌, ◌⊎◌, false, IsErrOf, OnOk};
 ghost use Rattle.desk_words.specs.Tables.{AreTables, empty_rows, rows_of};
 ghost use Rattle.sqlite.specs.Held.{state};
+ghost use Rattle.sqlite.specs.State.{HasCleanDisk};
 ghost use Rattle.row_store.specs.Calls.{Lasts};
+ghost use Rattle.row_store.specs.Refusals.{IsStopped};
+ghost use Rattle.keeper_sqlite.specs.Causes.{LacksRoomToRenew};
 ghost use Rattle.keeper_sqlite.specs.Steps.{IsFound, IsHeld, KeepsTold};
 
 use crate::fault::{pack_fail, store_fail};
@@ -27,6 +30,9 @@ pub fn renew<S: Alter>(
     ensures held { OnOk result (IsHeld (state S.Store conn.new) (rows_of found.now.tables)) }
     ensures keeps { KeepsTold (state S.Store conn.old) (state S.Store conn.new) }
     ensures lasts { OnOk result (Lasts (state S.Store conn.new)) }
+    ensures fails { IsErrOf result KeepFail.Failed → HasCleanDisk (state S.Store conn.new)
+        → IsStopped (state S.Store conn.old) (state S.Store conn.new)
+        ⊎ LacksRoomToRenew found.now.age (rows_of found.now.tables) (state S.Store conn.old).now }
 {
     match found.age {
         Age::Blank => put_first(alloc, conn),
@@ -43,6 +49,9 @@ fn put_first<S: Alter>(alloc: Global, conn: &mut Connection<S>) -> Result<(), Ke
     ensures held { OnOk result (IsHeld (state S.Store conn.new) empty_rows) }
     ensures keeps { KeepsTold (state S.Store conn.old) (state S.Store conn.new) }
     ensures lasts { OnOk result (Lasts (state S.Store conn.new)) }
+    ensures fails { IsErrOf result KeepFail.Failed → HasCleanDisk (state S.Store conn.new)
+        → IsStopped (state S.Store conn.old) (state S.Store conn.new)
+        ⊎ LacksRoomToRenew Age.Blank empty_rows (state S.Store conn.old).now }
 {
     let rows = pack_empty(alloc)?;
     match put_rows(conn, rows.as_slice()) {
@@ -64,6 +73,9 @@ fn migrate<S: Alter>(
     ensures held { OnOk result (IsHeld (state S.Store conn.new) (rows_of tables.now)) }
     ensures keeps { KeepsTold (state S.Store conn.old) (state S.Store conn.new) }
     ensures lasts { OnOk result (Lasts (state S.Store conn.new)) }
+    ensures fails { IsErrOf result KeepFail.Failed → HasCleanDisk (state S.Store conn.new)
+        → IsStopped (state S.Store conn.old) (state S.Store conn.new)
+        ⊎ LacksRoomToRenew Age.Old (rows_of tables.now) (state S.Store conn.old).now }
 {
     let rows = match migrated(alloc, tables) {
         Ok(rows) => rows,

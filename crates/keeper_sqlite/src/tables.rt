@@ -1,10 +1,11 @@
 //! A keeper over an open connection in memory. It tells its tables from the beginning.
-ghost use Rattle.std.specs.Prelude.{◌≡◌, ◌≤◌, false, None, Err, IfOk, OnOk, OnErr, IsSome};
+ghost use Rattle.std.specs.Prelude.{◌≡◌, ◌≤◌, false, None, Err, IfOk, IsErrOf, OnOk, OnErr, IsSome};
 ghost use Rattle.desk_words.specs.Tables.{AreTables, rows_of};
 ghost use Rattle.keeper_core.specs.Keeping.{ChangeTold, CountsFailures, FailsRise, FitTold};
 ghost use Rattle.keeper_core.specs.Keeping.{IsLoaded, NeverFails, StayTold};
 ghost use Rattle.row_store.specs.Calls.{Becomes, Lasts, Leaves, Stays};
 ghost use Rattle.sqlite.specs.Held.{state};
+ghost use Rattle.keeper_sqlite.specs.Causes.{FailsToCommit, FailsToLoad};
 ghost use Rattle.keeper_sqlite.specs.Steps.{ChangesTables, IsHeld, KeepsTold};
 ghost use Rattle.keeper_sqlite.specs.Telling.{told};
 
@@ -88,6 +89,8 @@ impl<S: NeverUnclean> Keeper for SqlTables<S> {
         ensures held { IfOk result (λ made. IsHeld (state S.Store self.new.connection) (rows_of made)) }
         ensures keeps { KeepsTold (state S.Store self.old.connection) (state S.Store self.new.connection) }
         ensures lasts { OnOk result (Lasts (state S.Store self.new.connection)) }
+        ensures fails { IsErrOf result KeepFail.Failed
+            → FailsToLoad (state S.Store self.old.connection) (state S.Store self.new.connection) }
         ensures faults { CountsFailures self.old.faults self.new.faults result }
     {
         self.inner.load_known()
@@ -114,6 +117,8 @@ impl<S: NeverUnclean> Keeper for SqlTables<S> {
         ensures lasts { OnOk result (Lasts (state S.Store self.new.connection)) }
         ensures early { self.old.lengths ≡ None
             → (result ≡ Err KeepFail.Failed) × (self.new.connection ≡ self.old.connection) }
+        ensures fails { IsErrOf result KeepFail.Failed → FailsToCommit self.old.lengths changes.now
+            (state S.Store self.old.connection) (state S.Store self.new.connection) }
         ensures faults { CountsFailures self.old.faults self.new.faults result }
     {
         self.inner.commit_known(changes)

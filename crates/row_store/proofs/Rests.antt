@@ -1,5 +1,6 @@
 -- What is found of a connection at rest, and after a call over it.
-use Rattle.std.proofs.Common.{◌≡◌, inl, inr, ℕ, List, Result, Ok, Err, OnOk, IsTrue, sym, ap, ap₂, subst, ◌∙◌, arith}
+use Rattle.std.proofs.Common.{refl, ◌≡◌, inl, inr, ℕ, List, Result, Ok, Err, OnOk, IsTrue, sym, ap, ap₂, subst, ◌∙◌}
+use Rattle.std.proofs.Common.{arith}
 use Rattle.sqlite.specs.Effect.{Database, IsDatabase}
 use Rattle.sqlite.specs.Order.{Row}
 use Rattle.sqlite.specs.State.{State, HasCleanDisk, Survives, ExecutesInside, KeepsCommit}
@@ -8,7 +9,7 @@ use Rattle.sqlite.specs.Tree.{Trees}
 use Rattle.sqlite_catalog.proofs.ReadLemmas.{lists_once}
 use Rattle.sqlite_catalog.specs.Listing.{IsSound}
 use Rattle.sqlite_trees.specs.Objects.{catalog_tree}
-use Rattle.row_store.specs.Calls.{IsAtRest, Lasts, Leaves, MayFind}
+use Rattle.row_store.specs.Calls.{GoesOn, IsAtRest, Lasts, Leaves, MayFind}
 
 -- trees are those of one database at most
 pub same_database : (a b : Database) → a.trees ≡ b.trees → IsDatabase a → IsDatabase b → a ≡ b
@@ -64,3 +65,12 @@ pub stays_inside : (sql : List ℕ) (params : Row) (old new : State) (r : Result
     → ExecutesInside 0 sql params old new r → OnOk r (IsTrue new.in_transaction)
 stays_inside sql params old new (Ok count) h = h.1.mode
 stays_inside sql params old new (Err e) h = tt
+
+-- what every call does that commits something or nothing
+pub goes_on : (old new : State) (Commits : Trees → Type 0) → Survives old new Commits → GoesOn old new
+goes_on old new Commits survives =
+    record { counts = survives.counts; limit = survives.limit; closes = survives.closes }
+
+-- nothing was called
+pub stays_on : (s : State) → GoesOn s s
+stays_on s = record { counts = omega arith; limit = refl; closes = λ clean opened. inl opened }

@@ -1,7 +1,8 @@
 -- What a call makes of a connection, and what a crash leaves of it.
-use Rattle.std.specs.Prelude.{◌≡◌, ◌⊎◌, false, IsTrue}
+use Rattle.std.specs.Prelude.{◌≡◌, ◌⊎◌, ◌≤◌, false, IsTrue}
 use Rattle.sqlite.specs.Effect.{Database, IsDatabase}
 use Rattle.sqlite.specs.State.{State, HasCleanDisk}
+use Rattle.sqlite_disk.specs.Disk.{MoreFaults}
 
 -- The store is clean and the connection is open. Of another connection nothing is said.
 abbrev pub IsUp : State → Type 0
@@ -44,3 +45,9 @@ pub record IsCommitted (old new : State) : Type 0 where
   pub was_open : IsTrue old.is_open
   pub is_open : IsTrue new.is_open
   pub settled : new.now ≡ new.committed
+
+-- no fault of the disk is forgotten, the limit of steps is as before, and only a fault shuts the connection
+pub record GoesOn (old new : State) : Type 0 where
+  pub counts : old.faults ≤ new.faults
+  pub limit : new.step_limit ≡ old.step_limit
+  pub closes : HasCleanDisk new → IsTrue old.is_open → IsTrue new.is_open ⊎ MoreFaults old.faults new.faults

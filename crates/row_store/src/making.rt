@@ -2,7 +2,7 @@
 ghost use Rattle.std.specs.Prelude.{◌≡◌, ◌≢◌, false, true, IsTrue, IfErr, OnOk, OnErr};
 ghost use Rattle.sqlite.specs.Held.{state};
 ghost use Rattle.sqlite.specs.State.{HasCleanDisk, KeepsCommit, Survives};
-ghost use Rattle.row_store.specs.Calls.{Becomes, IsAtRest, IsCommitted, Leaves, Stays};
+ghost use Rattle.row_store.specs.Calls.{Becomes, GoesOn, IsAtRest, IsCommitted, Leaves, Stays};
 ghost use Rattle.row_store.specs.Refusals.{IsStopped, no_memory};
 ghost use Rattle.row_store.specs.Stored.{MakesTable, MakesTableIn};
 ghost use Rattle.row_store.specs.Table.{is_blank};
@@ -17,6 +17,7 @@ pub fn make_table<S: Alter>(conn: &mut Connection<S>) -> Result<(), Error>
     ensures unchanged { OnErr result (Stays (state S.Store conn.old) (state S.Store conn.new)) }
     ensures crash { Leaves MakesTable (state S.Store conn.old) (state S.Store conn.new) }
     ensures autocommit { conn.old.in_transaction ≡ false → conn.new.in_transaction ≡ false }
+    ensures goes_on { GoesOn (state S.Store conn.old) (state S.Store conn.new) }
     ensures cause { IfErr result (λ e. e ≢ no_memory → conn.old.in_transaction ≡ false
         → HasCleanDisk (state S.Store conn.new)
         → IsStopped (state S.Store conn.old) (state S.Store conn.new)) }

@@ -7,7 +7,7 @@ ghost use Rattle.sqlite.specs.Held.{state};
 ghost use Rattle.sqlite.specs.State.{HasCleanDisk, KeepsCommit, Survives};
 ghost use Rattle.sqlite.specs.Values.{bound_value};
 ghost use Rattle.sqlite_value.specs.Value.{owned};
-ghost use Rattle.row_store.specs.Calls.{Becomes, IsAtRest, IsCommitted, Lasts, Leaves, Stays};
+ghost use Rattle.row_store.specs.Calls.{Becomes, GoesOn, IsAtRest, IsCommitted, Lasts, Leaves, Stays};
 ghost use Rattle.row_store.specs.Refusals.{IsStopped, LacksRoom, LacksRoomFor, no_memory};
 ghost use Rattle.row_store.specs.Stored.{Puts, PutsIn, Stands};
 
@@ -25,6 +25,7 @@ pub fn put_rows<S: Alter>(conn: &mut Connection<S>, rows: &[PackedRow]) -> Resul
     ensures autocommit { conn.old.in_transaction ≡ false → conn.new.in_transaction ≡ false }
     ensures lasts { conn.old.in_transaction ≡ false → (lines : List Line)
         → Stands (state S.Store conn.old).now lines → Lasts (state S.Store conn.new) }
+    ensures goes_on { GoesOn (state S.Store conn.old) (state S.Store conn.new) }
     ensures cause { IfErr result (λ e. e ≢ no_memory → conn.old.in_transaction ≡ false
         → HasCleanDisk (state S.Store conn.new)
         → (lines : List Line) → Stands (state S.Store conn.old).now lines

@@ -4,7 +4,7 @@ ghost use Rattle.std.specs.List.{AllByRecursion, AllZip, Any};
 ghost use Rattle.desk_packing.specs.Lines.{Line, line_of};
 ghost use Rattle.sqlite.specs.Held.{state};
 ghost use Rattle.sqlite.specs.State.{HasCleanDisk};
-ghost use Rattle.row_store.specs.Calls.{Becomes, Lasts, Leaves, Stays};
+ghost use Rattle.row_store.specs.Calls.{Becomes, GoesOn, Lasts, Leaves, Stays};
 ghost use Rattle.row_store.specs.Refusals.{IsNoLine, IsShort, IsStopped, no_memory};
 ghost use Rattle.row_store.specs.Stored.{IsLineRow, Reads, Shows, Stands};
 ghost use Rattle.row_store.specs.Table.{is_desk};
@@ -25,6 +25,7 @@ pub fn all_rows<S: Alter>(conn: &mut Connection<S>) -> Result<List<PackedRow>, E
     ensures crash { Leaves (λ _ _. ⊥) (state S.Store conn.old) (state S.Store conn.new) }
     ensures autocommit { conn.old.in_transaction ≡ false → conn.new.in_transaction ≡ false }
     ensures lasts { OnOk result (Lasts (state S.Store conn.new)) }
+    ensures goes_on { GoesOn (state S.Store conn.old) (state S.Store conn.new) }
     ensures cause { IfErr result (λ e. e ≢ no_memory → conn.old.in_transaction ≡ false
         → HasCleanDisk (state S.Store conn.new)
         → (lines : List Line) → AllByRecursion IsShort lines → Stands (state S.Store conn.old).now lines
@@ -42,6 +43,7 @@ fn shown_rows<S: Alter>(conn: &mut Connection<S>) -> Result<Vec<Row>, Error>
     ensures crash { Leaves (λ _ _. ⊥) (state S.Store conn.old) (state S.Store conn.new) }
     ensures autocommit { conn.old.in_transaction ≡ false → conn.new.in_transaction ≡ false }
     ensures lasts { OnOk result (Lasts (state S.Store conn.new)) }
+    ensures goes_on { GoesOn (state S.Store conn.old) (state S.Store conn.new) }
     ensures cause { IfErr result (λ e. e ≢ no_memory → conn.old.in_transaction ≡ false
         → HasCleanDisk (state S.Store conn.new)
         → IsStopped (state S.Store conn.old) (state S.Store conn.new)) }

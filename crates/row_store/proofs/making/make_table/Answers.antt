@@ -1,7 +1,7 @@
 use Rattle.std.proofs.Common.{refl, sym, true≢false, ◌∙◌}
 use Rattle.sqlite.specs.Held.{state}
 use Rattle.row_store.specs.Stored.{MakesTable, MakesTableIn}
-use Rattle.row_store.proofs.Rests.{leaves, same_database}
+use Rattle.row_store.proofs.Rests.{leaves, same_database, goes_on, stays_on}
 use Rattle.row_store.proofs.making.make_table.Goals as goal
 
 pub returns-in_err-at_rest-clause-crash : goal.returns-in_err-at_rest-clause-crash
@@ -15,3 +15,10 @@ returns-clause-crash g c =
     (λ trees opened left. g.met.S.Store.settled c.args.conn.now.store trees opened left) c.in_ok-at_rest.ensures.rests
     c.make_alone.ensures.survives
     (λ opened clean db found obeys. let same = same_database db found.0 found.2 obeys found.1.1 in rw same found.1)
+
+pub returns-clause-goes_on : goal.returns-clause-goes_on
+returns-clause-goes_on g c =
+    goes_on (state g.S.Store c.args.conn.now) (state g.S.Store c.make_alone.new.conn) _ c.make_alone.ensures.survives
+
+pub returns-in_err-at_rest-clause-goes_on : goal.returns-in_err-at_rest-clause-goes_on
+returns-in_err-at_rest-clause-goes_on g c = stays_on (state g.S.Store c.args.conn.now)

@@ -7,7 +7,7 @@ use Rattle.sqlite.specs.State.{State, HasCleanDisk}
 use Rattle.sqlite.specs.declared.error.Error.{Error}
 use Rattle.row_store.specs.Calls.{IsCommitted, Lasts}
 use Rattle.row_store.specs.Stored.{Puts, PutsIn, Stands}
-use Rattle.row_store.proofs.Rests.{IsSettled, leaves, lasts, same_database}
+use Rattle.row_store.proofs.Rests.{IsSettled, leaves, lasts, same_database, goes_on, stays_on}
 use Rattle.row_store.proofs.putting.put_rows.Goals as goal
 
 pub returns-in_err-at_rest-clause-crash : goal.returns-in_err-at_rest-clause-crash
@@ -59,3 +59,10 @@ caused (Err e) Other Alone Cause h = λ other alone. h other
 
 pub returns-clause-cause : goal.returns-clause-cause
 returns-clause-cause g c = caused c.put_all.result _ _ _ c.put_all.ensures.cause
+
+pub returns-clause-goes_on : goal.returns-clause-goes_on
+returns-clause-goes_on g c =
+    goes_on (state g.S.Store c.args.conn.now) (state g.S.Store c.put_all.new.conn) _ c.put_all.ensures.survives
+
+pub returns-in_err-at_rest-clause-goes_on : goal.returns-in_err-at_rest-clause-goes_on
+returns-in_err-at_rest-clause-goes_on g c = stays_on (state g.S.Store c.args.conn.now)

@@ -6,7 +6,7 @@ use Rattle.sqlite.specs.State.{State, HasCleanDisk, Survives, FailsToQuery, Comm
 use Rattle.sqlite.specs.declared.error.Error.{Error}
 use Rattle.row_store.specs.Refusals.{IsStopped, no_memory}
 use Rattle.row_store.specs.Table.{is_desk}
-use Rattle.row_store.proofs.Rests.{was_clean}
+use Rattle.row_store.proofs.Rests.{was_clean, goes_on, stays_on}
 use Rattle.row_store.proofs.Texts.{select_text}
 use Rattle.row_store.proofs.Unrefused.{asked}
 
@@ -54,3 +54,10 @@ returns-clause-cause g c =
     refused_query (state g.S.Store c.args.conn.now) (state g.S.Store c.query_all.new.self) _ c.query_all.result
     c.requires
     c.query_all.ensures.survives c.query_all.ensures.err
+
+pub returns-clause-goes_on : goal.returns-clause-goes_on
+returns-clause-goes_on g c =
+    goes_on (state g.S.Store c.args.conn.now) (state g.S.Store c.query_all.new.self) _ c.query_all.ensures.survives
+
+pub returns-in_err-at_rest-clause-goes_on : goal.returns-in_err-at_rest-clause-goes_on
+returns-in_err-at_rest-clause-goes_on g c = stays_on (state g.S.Store c.args.conn.now)

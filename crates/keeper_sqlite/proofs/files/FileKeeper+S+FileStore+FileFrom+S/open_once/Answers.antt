@@ -6,3 +6,10 @@ pub returns-in-Ok-clause-told : goal.returns-in-Ok-clause-told
 returns-in-Ok-clause-told g c =
     let none = none_of c.args.self.now.tables (sym c.is_some.ensures ∙ c.if-is_some.false) in
     rw (none, c.over.ensures) refl
+
+pub returns-in-Ok-clause-found : goal.returns-in-Ok-clause-found
+returns-in-Ok-clause-found g c first =
+    rw c.over.ensures (
+      c.in-Ok.ensures.autocommit,
+      λ clean. (c.in-Ok.ensures.opened clean, λ lines starts. c.in-Ok.ensures.found clean lines starts),
+    )

@@ -1,6 +1,8 @@
 use Rattle.sqlite.specs.Held.{state}
 use Rattle.keeper_sqlite.proofs.Tells.{changed_told}
 use Rattle.keeper_sqlite.proofs.open.OpenTables.commit_known.Goals as goal
+use Rattle.std.proofs.Common.{◌≡◌, Err, sym, ap, ◌∙◌}
+use Rattle.keeper_core.specs.declared.keeper.KeepFail.TheVariants.{Failed}
 
 pub returns-in-Ok-clause-told : goal.returns-in-Ok-clause-told
 returns-in-Ok-clause-told g c =
@@ -12,3 +14,9 @@ returns-in-Ok-clause-told g c =
 
 pub returns-in-Err-clause-crash : goal.returns-in-Err-clause-crash
 returns-in-Err-clause-crash g c = rw (← c.self.view_is) (λ known. c.commit_changes.ensures.crash)
+
+pub returns-in-Err-clause-fails : goal.returns-in-Err-clause-fails
+returns-in-Err-clause-fails g c =
+    rw (← c.self.view_is) (rw c.in-Some.is (λ failed clean.
+    let is : c.count-in-Err.result ≡ Failed = let e = failed in cc in
+    c.in-Err.ensures.fails (ap Err (sym c.count-in-Err.ensures.same ∙ is)) clean))

@@ -16,3 +16,8 @@ returns-clause-unchanged g c =
     rw (← c.self.view_is)
     (unloaded_told c.load_known.result (state g.S.Store c.self.inside.inner.connection)
     (state g.S.Store c.load_known.new.self.connection) c.load_known.ensures.keeps)
+
+pub returns-clause-fails : goal.returns-clause-fails
+returns-clause-fails g c =
+    let clean = no_doubt _ (g.met.S.NeverUnclean.never_unclean c.load_known.new.self.connection.store) in
+    rw (← c.self.view_is) (λ failed. c.load_known.ensures.fails failed clean)
