@@ -1,9 +1,11 @@
 -- Lists whose items all differ by a key.
 use Rattle.std.proofs.Common.{◌≡◌, ◌≢◌, ◌<◌, ◌≤◌, ◌+◌, ◌-◌, ◌∙◌, ℕ, List, take, drop, length, get_or, ap, sym, arith}
-use Rattle.std.proofs.Common.{inl, inr, length-drop}
+use Rattle.std.proofs.Common.{inl, inr, length-drop, Bool, Decides, true}
+use Rattle.std.specs.List.{list_any}
 use Rattle.std.specs.Prelude.{AllPairs, Any}
 use Rattle.std.proofs.Math.Nat.{eq-or-lt_of_le}
 use Rattle.std.proofs.lemmas.List.{take_all, get_or-drop, get_or_read, get_or_default}
+use Rattle.std.proofs.lemmas.List.Folds.{Any-from_list_any, list_any-from_Any}
 
 -- the items behind a place
 abbrev pub behind : {A : Type 0} → List A → ℕ → List A
@@ -60,3 +62,17 @@ module _ {A B : Type 0} (key : A → B) (items : List A) (place : ℕ) (item : A
         | inr earlier ↦ before i j d earlier behind inside
         | inl here ↦ let later : place < j = omega arith in rw here (differs none j d later inside)
       ]
+
+-- a test that decides whether two items are equal
+module _ {A : Type 0} (test : A → A → Bool) (tells : (one other : A) → Decides (test one other) (one ≡ other))
+    (items : List A) (item : A) where
+  -- the item that the test finds is there
+  pub Any-list_any : list_any (test item) items ≡ true → Any (λ other. item ≡ other) items
+  Any-list_any found =
+      let (place, other, within, there, same) = Any-from_list_any (test item) items found in
+      (place, other, within, there, (tells item other).0 same)
+
+  -- the test finds an item that is there
+  pub list_any-Any : Any (λ other. item ≡ other) items → list_any (test item) items ≡ true
+  list_any-Any (place, other, within, there, same) =
+      list_any-from_Any (test item) items (place, other, within, there, (tells item other).1 same)

@@ -54,6 +54,7 @@ get_or-cell columns count cells row column h k =
     rw (get_or-rows_of columns count cells row [] h)
     (get_or-take columns (drop (row * columns) cells) column [] k ∙ get_or-drop (row * columns) cells column [])
 
+-- the same, counted by successors
 append_row : (columns count : ℕ) (cells row : List (List ℕ)) → length cells ≡ count * columns → length row ≡ columns
     → rows_of columns (suc count) (cells ++ row) ≡ rows_of columns count cells ++ row ∷ []
 append_row columns zero [] row full wide = ap (λ r. r ∷ []) (take_all columns row (omega arith))

@@ -1,15 +1,15 @@
 -- When a device may answer that it failed, and what a write that failed leaves.
-use Rattle.std.specs.Prelude.{◌≡◌, ℕ, ◌+◌, ◌-◌, ◌^◌, ◌<◌, ◌≤◌, min, List, length, take, Option, Result, OnErr}
-use Rattle.std.specs.Prelude.{MatchResult}
+use Rattle.std.specs.Prelude.{◌≡◌, ℕ, ◌-◌, ◌<◌, ◌≤◌, List, length, take, Option, Result, OnErr, MatchResult}
 use Rattle.std.specs.Io.KnownBytes.{Appends}
+use Rattle.desk_base.specs.Counts.{risen}
 
 -- the count of faults rose, or it stands at its last value
 abbrev pub Rose : ℕ → ℕ → Type 0
-Rose before now = min (before + 1) (2 ^ 64 - 1) ≤ now
+Rose before now = risen before ≤ now
 
 -- a failure raises the count of faults by one, up to its last value, and nothing else changes it
 abbrev pub CountsFaults : {T E : Type 0} → ℕ → ℕ → Result T E → Type 0
-CountsFaults before now result = MatchResult result (λ _. now ≡ before) (λ _. now ≡ min (before + 1) (2 ^ 64 - 1))
+CountsFaults before now result = MatchResult result (λ _. now ≡ before) (λ _. now ≡ risen before)
 
 -- a write took bytes, and the rest of the room is taken still
 abbrev pub TakesOn : {E : Type 0} → (ℕ → Type 0) → ℕ → Result ℕ E → Type 0

@@ -1,6 +1,7 @@
 -- The streams in memory: what a clause sees of them, and which of their calls fail.
-use Rattle.std.specs.Prelude.{ℕ, ◌+◌, ◌-◌, ◌^◌, ◌<◌, min, List, Contains, refl}
+use Rattle.std.specs.Prelude.{ℕ, ◌+◌, ◌-◌, ◌^◌, ◌<◌, List, Contains, refl}
 use Rattle.std.specs.Coded.{Coded, code_by, coded×, coded_list, coded_ℕ}
+use Rattle.desk_base.specs.Counts.{risen}
 
 -- how many calls were made, and which calls, counted from 1, are to fail
 pub record Schedule : Type 0 where
@@ -18,7 +19,7 @@ NextFails schedule = (schedule.calls < 2 ^ 64 - 1) × Contains schedule.fails (s
 
 -- one more call was made
 abbrev pub after_call : Schedule → Schedule
-after_call schedule = record schedule { calls = min (schedule.calls + 1) (2 ^ 64 - 1) }
+after_call schedule = record schedule { calls = risen schedule.calls }
 
 -- the bytes that a source has left, and how many a call gives at most
 pub record SourceSeen : Type 0 where
@@ -27,6 +28,7 @@ pub record SourceSeen : Type 0 where
   pub schedule : Schedule
   pub faults : ℕ
 
+-- it is stored as its fields, one behind the other
 abbrev pub source_seen_code : Coded SourceSeen
 source_seen_code = code_by (List ℕ × (ℕ × (Schedule × ℕ)))
     (coded× (coded_list coded_ℕ) (coded× coded_ℕ (coded× schedule_code coded_ℕ)))
@@ -41,6 +43,7 @@ pub record SinkSeen : Type 0 where
   pub schedule : Schedule
   pub faults : ℕ
 
+-- it is stored as its fields, one behind the other
 abbrev pub sink_seen_code : Coded SinkSeen
 sink_seen_code = code_by (List ℕ × (ℕ × (ℕ × (Schedule × ℕ))))
     (coded× (coded_list coded_ℕ) (coded× coded_ℕ (coded× coded_ℕ (coded× schedule_code coded_ℕ))))

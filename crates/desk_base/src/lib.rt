@@ -9,6 +9,7 @@
 mod both;
 mod duplicate;
 mod error;
+mod fault_count;
 mod grid;
 mod limits;
 mod list;
@@ -25,6 +26,7 @@ mod words;
 pub use both::Both;
 pub use duplicate::Duplicate;
 pub use error::{Failed, NoMemory};
+pub use fault_count::FaultCount;
 pub use grid::Grid;
 pub use limits::{
     MAX_ACTIVE_SESSIONS, MAX_ATTRIBUTES, MAX_BATCH_BODY, MAX_BATCH_ROWS, MAX_BATCHES, MAX_BODY,
@@ -34,8 +36,8 @@ pub use limits::{
     MAX_VERSIONS, MAX_WORD,
 };
 pub use list::List;
-pub use memory::{MemLink, MemSink, MemSource};
-pub use places::{are_distinct, flags_of, has_text, is_utf8, place_of};
+pub use memory::{CallPlan, MemLink, MemSink, MemSource};
+pub use places::{are_apart, are_distinct, flags_of, has_text, is_utf8, place_of};
 pub use room::Room;
 pub use sink::{Sink, StdSink, write_all};
 pub use source::{Source, StdSource};

@@ -6,6 +6,7 @@ ghost use Rattle.desk_base.specs.Plans.{ReadsByPlan, WritesByPlan};
 
 use crate::both::Both;
 use crate::error::{Failed, NoMemory};
+use crate::fault_count::FaultCount;
 use crate::list::List;
 use crate::sink::Sink;
 use crate::source::Source;
@@ -30,12 +31,12 @@ impl Model for CallPlan {
 }
 
 impl CallPlan {
-    /// No call was made yet, and these are to fail.
-    pub fn new(fails: List<u64>) -> CallPlan
-        ensures { result ≡ record { calls = 0; fails = fails } }
+    /// So many calls were made, and these are to fail.
+    pub fn after(calls: u64, fails: List<u64>) -> CallPlan
+        ensures { result ≡ record { calls = calls; fails = fails } }
     {
         CallPlan {
-            calls: 0,
+            calls,
             fails: fails.into_vec(),
         }
     }
@@ -61,7 +62,7 @@ pub struct MemSource {
     at: usize,
     cut: usize,
     plan: CallPlan,
-    faults: u64,
+    faults: FaultCount,
 }
 
 impl Model for MemSource {
@@ -93,8 +94,8 @@ impl MemSource {
             bytes: bytes.into_vec(),
             at: 0,
             cut,
-            plan: CallPlan::new(fails),
-            faults: 0,
+            plan: CallPlan::after(0, fails),
+            faults: FaultCount::at(0),
         }
     }
 }
@@ -110,7 +111,7 @@ impl Source for MemSource {
 
     fn read(&mut self, buf: &mut [u8]) -> Result<usize, Failed> {
         if self.plan.next_fails() {
-            self.faults = self.faults.saturating_add(1);
+            self.faults.rise();
             return Err(Failed);
         }
         let rest = &self.bytes[self.at..];
@@ -128,7 +129,7 @@ pub struct MemSink {
     cut: usize,
     room: usize,
     plan: CallPlan,
-    faults: u64,
+    faults: FaultCount,
 }
 
 impl Model for MemSink {
@@ -173,8 +174,8 @@ impl MemSink {
             bytes,
             cut,
             room,
-            plan: CallPlan::new(fails),
-            faults: 0,
+            plan: CallPlan::after(0, fails),
+            faults: FaultCount::at(0),
         })
     }
 
@@ -198,7 +199,7 @@ impl Sink for MemSink {
     fn write(&mut self, piece: &[u8]) -> Result<usize, Failed> {
         let fails = self.plan.next_fails();
         if fails || self.bytes.len() >= self.room {
-            self.faults = self.faults.saturating_add(1);
+            self.faults.rise();
             return Err(Failed);
         }
         let free = self.room - self.bytes.len();

@@ -1,5 +1,5 @@
-//! Texts among others, and the flags of listed places.
-ghost use Rattle.std.specs.Prelude.{◌≡◌, ◌≢◌, ◌<◌, ◌↔◌, length, AllPairs, Any, IfOk, IfSome, IsTrue};
+//! Texts and numbers among others, and the flags of listed places.
+ghost use Rattle.std.specs.Prelude.{◌≡◌, ◌≢◌, ◌<◌, ◌↔◌, length, AllPairs, IfOk, IfSome, IsTrue};
 ghost use Rattle.std.specs.Str.{is_utf8};
 ghost use Rattle.desk_base.specs.Places.{place_of, has_text, is_listed, flags_of};
 
@@ -28,7 +28,19 @@ pub fn are_distinct(texts: &[Text]) -> bool
     ensures { IsTrue result ↔ AllPairs (λ earlier later. earlier ≢ later) texts.now }
 {
     'texts: for (place, text) in texts.iter().enumerate() {
-        if stands_in(&texts[place + 1..], text) {
+        if has_text(&texts[place + 1..], text.as_str()) {
+            return false;
+        }
+    }
+    true
+}
+
+/// Whether no number stands twice among these.
+pub fn are_apart(numbers: &[u16]) -> bool
+    ensures { IsTrue result ↔ AllPairs (λ earlier later. earlier ≢ later) numbers.now }
+{
+    'numbers: for (place, number) in numbers.iter().enumerate() {
+        if is_listed(&numbers[place + 1..], *number) {
             return false;
         }
     }
@@ -58,10 +70,4 @@ pub fn is_utf8(bytes: &[u8]) -> bool
     ensures { result ≡ is_utf8 bytes.now }
 {
     matches!(std::str::from_utf8(bytes), Ok(_))
-}
-
-fn stands_in(texts: &[Text], text: &Text) -> bool
-    ensures { IsTrue result ↔ Any (λ other. text.now ≡ other) texts.now }
-{
-    texts.iter().any(|other| other.as_str() == text.as_str())
 }

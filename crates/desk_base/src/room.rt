@@ -1,6 +1,6 @@
 //! A list with reserved places. A clause sees its items, and how many more it takes for sure.
 ghost use Rattle.std.specs.Prelude.{◌≡◌, ◌==◌, ◌+◌, ◌-◌, ◌<◌, ◌≤◌, ◌∷◌, ◌++◌, [], length, slice_get, slice_set, Some};
-ghost use Rattle.std.specs.Prelude.{IsOk, IfOk, OnOk, OnErr};
+ghost use Rattle.std.specs.Prelude.{max, IsOk, IfOk, OnOk, OnErr};
 ghost use Rattle.std.specs.Borrow.{sem};
 ghost use Rattle.desk_base.specs.Lending.{LendsSlot};
 
@@ -57,10 +57,10 @@ impl<T> Room<T> {
         Ok(())
     }
 
-    /// Makes place for so many more items.
+    /// Makes place for so many more items. Places that are there stay.
     pub fn reserve(&mut self, more: usize) -> Result<(), NoMemory>
         ensures items { self.new.items ≡ self.old.items }
-        ensures reserved { OnOk result (more ≤ self.new.spare) }
+        ensures reserved { OnOk result (self.new.spare ≡ max more self.old.spare) }
         ensures unchanged { OnErr result (self.new.spare ≡ self.old.spare) }
     {
         if more <= self.spare {

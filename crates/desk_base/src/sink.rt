@@ -6,6 +6,7 @@ ghost use Rattle.desk_base.specs.Faults.{HasCause, CountsFaults, AppendsPart, Ta
 ghost use Rattle.desk_base.specs.declared.error.Failed.{Failed};
 
 use crate::error::Failed;
+use crate::fault_count::FaultCount;
 use std::io::Write;
 use std::marker::Model;
 
@@ -55,7 +56,7 @@ pub fn write_all<W: Sink>(sink: &mut W, piece: &[u8]) -> Result<(), Failed>
 #[derive(Debug, Drop)]
 pub struct StdSink<W: Write> {
     writer: W,
-    faults: u64,
+    faults: FaultCount,
 }
 
 impl<W: Write> Model for StdSink<W> {
@@ -73,7 +74,10 @@ impl<W: Write> StdSink<W> {
     pub fn new(writer: W) -> StdSink<W>
         ensures { result ≡ record { device = writer; faults = 0 } }
     {
-        StdSink { writer, faults: 0 }
+        StdSink {
+            writer,
+            faults: FaultCount::at(0),
+        }
     }
 }
 
@@ -91,7 +95,7 @@ impl<W: Write> Sink for StdSink<W> {
         match self.writer.write(piece) {
             Ok(count) if count > 0 => Ok(count),
             _ => {
-                self.faults = self.faults.saturating_add(1);
+                self.faults.rise();
                 Err(Failed)
             }
         }

@@ -7,6 +7,7 @@ ghost use Rattle.desk_base.specs.Faults.{HasCause, CountsFaults};
 ghost use Rattle.desk_base.specs.declared.error.Failed.{Failed};
 
 use crate::error::Failed;
+use crate::fault_count::FaultCount;
 use std::io::Read;
 use std::marker::Model;
 
@@ -40,7 +41,7 @@ pub trait Source {
 #[derive(Debug, Drop)]
 pub struct StdSource<R: Read> {
     reader: R,
-    faults: u64,
+    faults: FaultCount,
 }
 
 impl<R: Read> Model for StdSource<R> {
@@ -58,7 +59,10 @@ impl<R: Read> StdSource<R> {
     pub fn new(reader: R) -> StdSource<R>
         ensures { result ≡ record { device = reader; faults = 0 } }
     {
-        StdSource { reader, faults: 0 }
+        StdSource {
+            reader,
+            faults: FaultCount::at(0),
+        }
     }
 }
 
@@ -76,7 +80,7 @@ impl<R: Read> Source for StdSource<R> {
         match self.reader.read(buf) {
             Ok(count) => Ok(count),
             Err(_) => {
-                self.faults = self.faults.saturating_add(1);
+                self.faults.rise();
                 Err(Failed)
             }
         }

@@ -1,5 +1,6 @@
 //! Counts of the work that is done. A clause sees both counts.
-ghost use Rattle.std.specs.Prelude.{◌≡◌, ◌+◌, ◌-◌, ◌^◌, min};
+ghost use Rattle.std.specs.Prelude.{◌≡◌};
+ghost use Rattle.desk_base.specs.Counts.{risen};
 
 use std::marker::Model;
 
@@ -33,14 +34,14 @@ impl<L> Steps<L> {
 
     /// Counts one look-up. A count at its last value, 2^64 - 1, stays there.
     pub fn look(&mut self)
-        ensures { self.new ≡ record self.old { looks = min (self.old.looks + 1) (2 ^ 64 - 1) } }
+        ensures { self.new ≡ record self.old { looks = risen self.old.looks } }
     {
         self.looks = self.looks.saturating_add(1);
     }
 
     /// Counts one comparison. A count at its last value, 2^64 - 1, stays there.
     pub fn compare(&mut self)
-        ensures { self.new ≡ record self.old { compares = min (self.old.compares + 1) (2 ^ 64 - 1) } }
+        ensures { self.new ≡ record self.old { compares = risen self.old.compares } }
     {
         self.compares = self.compares.saturating_add(1);
     }

@@ -1,5 +1,6 @@
 -- A door in memory: what a clause sees of it and of its links.
-use Rattle.std.specs.Prelude.{◌≡◌, ℕ, ◌+◌, ◌-◌, ◌^◌, min, List, [], Option, Some}
+use Rattle.std.specs.Prelude.{◌≡◌, ℕ, List, [], Option, Some}
+use Rattle.desk_base.specs.Counts.{risen}
 use Rattle.desk_base.specs.declared.both.Both.{Both}
 use Rattle.desk_base.specs.Memory.{Schedule, SinkSeen, SourceSeen, after_call}
 use Rattle.desk_links.specs.Doors.{LinkSeen}
@@ -34,4 +35,4 @@ pub record IsUncalled (link : Both SourceSeen SinkSeen) : Type 0 where
 
 -- one more call was made, which failed
 abbrev pub with_fault : DoorSeen → DoorSeen
-with_fault door = record door { schedule = after_call door.schedule; faults = min (door.faults + 1) (2 ^ 64 - 1) }
+with_fault door = record door { schedule = after_call door.schedule; faults = risen door.faults }

@@ -1,5 +1,5 @@
 //! A door in memory, some of whose calls are to fail. A clause sees its links, its counts and which calls fail.
-ghost use Rattle.std.specs.Prelude.{◌≡◌, ◌+◌, ◌-◌, ◌≤◌, ◌↔◌, ◌⊎◌, ◌++◌, ◌∷◌, [], ℕ, All, map, length, Some, None, IsTrue};
+ghost use Rattle.std.specs.Prelude.{◌≡◌, ◌+◌, ◌≤◌, ◌↔◌, ◌⊎◌, ◌++◌, ◌∷◌, [], ℕ, All, map, length, Some, None};
 ghost use Rattle.std.specs.Prelude.{IsOk, IfOk, OnOk, OnErr, IsErr};
 ghost use Rattle.desk_base.specs.Faults.{CountsFaults, HasCause};
 ghost use Rattle.desk_base.specs.Memory.{NextFails, after_call};
@@ -7,7 +7,9 @@ ghost use Rattle.desk_links.specs.Doors.{Closes, HandsOut, IsFresh, MayAccept, o
 ghost use Rattle.desk_links.specs.Memory.{IsUncalled, told_link, with_fault};
 
 use crate::door::Listener;
-use desk_base::{Both, Failed, List, MemLink, MemSink, MemSource, NoMemory, Room};
+use desk_base::{
+    Both, CallPlan, Failed, FaultCount, List, MemLink, MemSink, MemSource, NoMemory, Room,
+};
 use std::alloc::Global;
 use std::collections::VecDeque;
 use std::marker::Model;
@@ -22,9 +24,8 @@ pub struct MemDoor {
     port: Option<u16>,
     accepted: Option<u32>,
     live: u32,
-    calls: u64,
-    fails: List<u64>,
-    faults: u64,
+    plan: CallPlan,
+    faults: FaultCount,
 }
 
 impl Model for MemDoor {
@@ -39,7 +40,7 @@ impl Model for MemDoor {
       port = d.port;
       accepted = d.accepted;
       live = d.live;
-      schedule = record { calls = d.calls; fails = d.fails };
+      schedule = d.plan;
       faults = d.faults;
     } };
 
@@ -47,8 +48,8 @@ impl Model for MemDoor {
 }
 
 impl MemDoor {
-    /// A door that hands out these links in their order, of which no end was called yet. It keeps those that are closed in
-    /// room that it takes here.
+    /// A door that hands out these links in their order, of which no end was called yet. It keeps those that are closed
+    /// in room that it takes here.
     pub fn new(alloc: Global, links: List<MemLink>, fails: List<u64>) -> Result<MemDoor, NoMemory>
         requires { All IsUncalled links }
         ensures { IfOk result (λ door. door ≡ record {
@@ -69,9 +70,8 @@ impl MemDoor {
             port: None,
             accepted: None,
             live: 0,
-            calls: 0,
-            fails,
-            faults: 0,
+            plan: CallPlan::after(0, fails),
+            faults: FaultCount::at(0),
         })
     }
 
@@ -126,8 +126,8 @@ impl Listener for MemDoor {
         ensures failed { OnErr result (self.new ≡ with_fault self.old) }
         ensures cause { HasCause self.old.faults self.new.faults result }
     {
-        if next_fails(&mut self.calls, self.fails.as_slice()) {
-            self.faults = self.faults.saturating_add(1);
+        if self.plan.next_fails() {
+            self.faults.rise();
             return Err(Failed);
         }
         self.port = Some(number);
@@ -153,8 +153,8 @@ impl Listener for MemDoor {
         let Some(count) = self.accepted else {
             unreachable!()
         };
-        if next_fails(&mut self.calls, self.fails.as_slice()) {
-            self.faults = self.faults.saturating_add(1);
+        if self.plan.next_fails() {
+            self.faults.rise();
             return Err(Failed);
         }
         match self.links.pop_front() {
@@ -164,7 +164,7 @@ impl Listener for MemDoor {
                 Ok(link)
             }
             None => {
-                self.faults = self.faults.saturating_add(1);
+                self.faults.rise();
                 Err(Failed)
             }
         }
@@ -177,17 +177,4 @@ impl Listener for MemDoor {
         self.live = 0;
         self.closed.push_reserved(link);
     }
-}
-
-/// Counts a call, and says whether it is to fail.
-fn next_fails(calls: &mut u64, fails: &[u64]) -> bool
-    ensures fails { IsTrue result ↔ NextFails (record { calls = calls.old; fails = fails.now }) }
-    ensures counted { record { calls = calls.new; fails = fails.now }
-        ≡ after_call (record { calls = calls.old; fails = fails.now }) }
-{
-    if *calls == u64::MAX {
-        return false;
-    }
-    *calls += 1;
-    fails.contains(calls)
 }

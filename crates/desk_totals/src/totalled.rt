@@ -58,7 +58,7 @@ impl Totalled {
         &self.tables
     }
 
-    /// How many sessions of the clerk at a place are active. They are not counted anew.
+    /// How many sessions of the clerk at a place, counted from 0, are active.
     pub fn active(&self, clerk: usize) -> u64
         requires { clerk < length self.now.clerks }
         ensures { result ≡ active_count (list_at self.now.sessions clerk) }
@@ -66,8 +66,7 @@ impl Totalled {
         self.totals.as_slice()[clerk].active
     }
 
-    /// How many bytes the texts of the clerk at a place have, typed ones and those of records. They are not counted
-    /// anew.
+    /// How many bytes the texts of the clerk at a place, counted from 0, have: typed ones and those of records.
     pub fn text_bytes(&self, clerk: usize) -> u64
         requires { clerk < length self.now.clerks }
         ensures { result ≡ text_bytes (list_at self.now.sessions clerk) (list_at self.now.records clerk) }
@@ -75,7 +74,7 @@ impl Totalled {
         self.totals.as_slice()[clerk].bytes as u64
     }
 
-    /// How many cells all masters have. No master is read.
+    /// How many cells all masters have, fewer than 2^63.
     pub fn master_cells(&self) -> u64
         ensures cells { result ≡ master_cells self.now.masters }
         ensures few { result < 2 ^ 63 }

@@ -81,6 +81,7 @@ pub record IsReadEdition (rows : Rows) (row : EditionRow) : Type 0 where
   pub binds : IsBinding parts row.folded
   pub bindable : AreBindable parts row.folded
 
+-- an edition of valid tables reads and binds
 pub edition-read : (rows : Rows) (place : ℕ) (row : EditionRow) → AreValid rows
     → slice_get rows.editions place ≡ Some row → IsReadEdition rows row
 edition-read rows place row valid stands =
@@ -137,6 +138,7 @@ IsNamedKit-bound parts folded kit are is =
       masters = simp length-map;
     })
 
+-- an edition of valid tables has a kit with its names
 pub edition-kit : (rows : Rows) (place : ℕ) → AreValid rows → place < length rows.editions
     → IsSomeAnd (bound_at (published_of rows) place) IsNamedKit
 edition-kit rows place valid within =

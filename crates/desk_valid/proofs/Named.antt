@@ -64,6 +64,7 @@ all_of-length (Some first ∷ rest) values is =
     let parts = option_map-Some (λ others. first ∷ others) (all_of rest) values is in
     ap suc (all_of-length rest parts.0 parts.1) ∙ ap length parts.2
 
+-- each value stands where it was found
 pub all_of-get_or : {A : Type 0} (found : List (Option A)) (values : List A) (place : ℕ) (d : A)
     → all_of found ≡ Some values → place < length values
     → get_or found place None ≡ Some (get_or values place d)
@@ -114,6 +115,7 @@ masters_at-none rows places index within none =
     all_of-none (map (master_at rows) places) index (rw length-map within)
     (get_or-map (master_at rows) places index 0 None within ∙ none)
 
+-- so there are no masters without rows either
 pub bare_at-none : (rows : Published) (places : List ℕ) (index : ℕ) → index < length places
     → master_at rows (get_or places index 0) ≡ None → bare_at rows places ≡ None
 bare_at-none rows places index within none = ap (option_map bare_of) (masters_at-none rows places index within none)

@@ -37,6 +37,7 @@ found_at-map f rows place =
 pub IsSchema-read : (row : SchemaRow) (schema : Schema) → schema_in row ≡ Some schema → IsSchema schema
 IsSchema-read row schema is = IsSchema-from_bytes row.body schema (Ok-from_read (schema_of row.body) schema is)
 
+-- so is the schema at a place
 pub IsSchema-at : (rows : Published) (place : ℕ) (schema : Schema) → schema_at rows place ≡ Some schema
     → IsSchema schema
 IsSchema-at rows place schema is =
@@ -80,5 +81,6 @@ none-is : {A : Type 0} (found : Option A) → is_some found ≡ false → found 
 none-is None absent = refl
 none-is (Some one) absent = absurd (cc)
 
+-- so is the master at a place
 pub master_at-none : (rows : Published) (place : ℕ) → header_at rows place ≡ None → master_at rows place ≡ None
 master_at-none rows place none = none-is (master_at rows place) (sym (is_some-header_at rows place) ∙ ap is_some none)

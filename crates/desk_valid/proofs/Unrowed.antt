@@ -17,7 +17,8 @@ use Rattle.rule_text.specs.declared.binding.BindFault.{BindFault}
 use Rattle.rule_text.specs.declared.binding.BindFault.TheVariants.{NoMaster}
 use Rattle.rule_text.specs.declared.rulebook.RuleLine.{RuleLine}
 use Rattle.rule_text.specs.declared.rulebook.Rulebook.{Rulebook}
-use Rattle.rule_text.specs.Binding.{bound, column_fault, columns_fault, first_fault, flags_of, keys_fault, kit_of}
+use Rattle.desk_base.specs.Places.{flags_of}
+use Rattle.rule_text.specs.Binding.{bound, column_fault, columns_fault, first_fault, keys_fault, kit_of}
 use Rattle.rule_text.specs.Binding.{line_fault, master_at, master_of, rule_of, rule_over}
 use Rattle.desk_valid.specs.Bare.{bare_pair, count_of, counted, entries_over}
 use Rattle.desk_valid.specs.ReadTables.{bare_master}
@@ -28,6 +29,7 @@ position_or_len-map : {A B : Type 0} (f : A → B) (p : B → Bool) (xs : List A
 position_or_len-map f p [] = refl
 position_or_len-map f p (x ∷ xs) = ap (λ n. cond (not (p (f x))) (1 + n) 0) (position_or_len-map f p xs)
 
+-- the same of the place itself
 position-map : {A B : Type 0} (f : A → B) (p : B → Bool) (xs : List A)
     → position p (map f xs) ≡ position (λ x. p (f x)) xs
 position-map f p xs = rw (position_or_len-map f p xs, length-map) refl
@@ -37,6 +39,7 @@ master_of-bare : (masters : List (List ℕ × Master)) (name : List ℕ)
     → master_of (map bare_pair masters) name ≡ master_of masters name
 master_of-bare masters name = position-map bare_pair (λ master. bytes_eq name master.0) masters
 
+-- the master at a place is there without its rows
 master_at-bare : (masters : List (List ℕ × Master)) (place : ℕ)
     → master_at (map bare_pair masters) place ≡ bare_master (master_at masters place)
 master_at-bare [] place = refl
@@ -50,6 +53,7 @@ keys_fault-bare number master place [] = refl
 keys_fault-bare number master place (key ∷ rest) =
     ap (option_or (column_fault number master place key.1)) (keys_fault-bare number master (place + 1) rest)
 
+-- the same of all columns of a rule
 columns_fault-bare : (number : ℕ) (masters : List (List ℕ × Master)) (place : ℕ) (line : RuleLine)
     → columns_fault number (master_at (map bare_pair masters) place) line ≡ columns_fault number
     (master_at masters place) line
@@ -58,6 +62,7 @@ columns_fault-bare number masters place line =
     ∙ ap (λ fault. option_or fault (column_fault number (master_at masters place) 0 line.from))
     (keys_fault-bare number (master_at masters place) 1 line.keys)
 
+-- the same where the master may not be there
 found-bare : (number : ℕ) (masters : List (List ℕ × Master)) (line : RuleLine) (found : Option ℕ)
     → option_map_or (λ place. columns_fault number (master_at (map bare_pair masters) place) line) found
     (Some (NoMaster number))
@@ -65,6 +70,7 @@ found-bare : (number : ℕ) (masters : List (List ℕ × Master)) (line : RuleLi
 found-bare number masters line None = refl
 found-bare number masters line (Some place) = columns_fault-bare number masters place line
 
+-- the same of a rule
 line_fault-bare : (masters : List (List ℕ × Master)) (number : ℕ) (line : RuleLine)
     → line_fault (map bare_pair masters) number line ≡ line_fault masters number line
 line_fault-bare masters number line =
@@ -72,6 +78,7 @@ line_fault-bare masters number line =
     (Some (NoMaster number))) (master_of-bare masters line.master)
     ∙ found-bare number masters line (master_of masters line.master)
 
+-- the same of all rules
 first_fault-bare : (masters : List (List ℕ × Master)) (number : ℕ) (lines : List RuleLine)
     → first_fault (map bare_pair masters) number lines ≡ first_fault masters number lines
 first_fault-bare masters number [] = refl
@@ -89,6 +96,7 @@ rule_of-bare masters line =
     ∙ (let place : ℕ = unwrap_or (master_of masters line.master) 0 in ap
     (λ (master : Master). rule_over master place line) (master_at-bare masters place))
 
+-- so are the rules of all lines
 rules-bare : (masters : List (List ℕ × Master)) (lines : List RuleLine)
     → map (rule_of (map bare_pair masters)) lines ≡ map (rule_of masters) lines
 rules-bare masters [] = refl
@@ -133,6 +141,7 @@ Ok-parts : (fault : Option BindFault) (kit made : Kit) → option_map_or Err fau
 Ok-parts None kit made is = (refl, cc)
 Ok-parts (Some fault) kit made is = absurd (cc)
 
+-- what is bound has no fault, and is the kit
 pub bound-parts : (book : Rulebook) (schema : Schema) (masters : List (List ℕ × Master)) (folded : List ℕ) (kit : Kit)
     → bound book schema masters folded ≡ Ok kit
     → (first_fault masters 1 book.lines ≡ None) × (kit_of book schema masters folded ≡ kit)
@@ -140,6 +149,7 @@ unfolding bound
 bound-parts book schema masters folded kit is =
     Ok-parts (first_fault masters 1 book.lines) (kit_of book schema masters folded) kit is
 
+-- where there is no fault the kit is bound
 bound-from : (book : Rulebook) (schema : Schema) (masters : List (List ℕ × Master)) (folded : List ℕ)
     → first_fault masters 1 book.lines ≡ None
     → bound book schema masters folded ≡ Ok (kit_of book schema masters folded)

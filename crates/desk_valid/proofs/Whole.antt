@@ -8,37 +8,36 @@ use Rattle.std.proofs.lemmas.List.Sums.{sum_by_more_le, sum_by-le}
 use Rattle.std.proofs.lemmas.List.Elements.{All-weaker}
 use Rattle.std.proofs.lemmas.Option.{slice_get_within}
 use Rattle.desk_words.specs.Tables.{AreListsOf, AreTables, IsShort, Rows, list_at}
-use Rattle.desk_valid.specs.declared.table.Table.{Table as Named}
+use Rattle.desk_valid.specs.declared.table.Table.{Table}
 use Rattle.desk_valid.specs.declared.table.Table.TheVariants.{Clerks, Schemas, Masters, Rulebooks, Editions, Regions}
 use Rattle.desk_valid.specs.declared.table.Table.TheVariants.{Sessions, Records, Batches}
-use Rattle.desk_valid.specs.Damage.{FailsOwn, IsDamaged, IsFirstDamage, Table, number_of, clerks, schemas, masters}
-use Rattle.desk_valid.specs.Damage.{rulebooks, editions, regions, sessions, records, batches}
-use Rattle.desk_valid.specs.TableOf.{table_of}
+use Rattle.desk_valid.specs.Damage.{FailsOwn, IsDamaged, IsFirstDamage, number_of}
 use Rattle.desk_valid.specs.FirstDamaged.{IsFirstDamaged, IsWhole}
 use Rattle.desk_valid.specs.Valid.{AreValid}
 
 -- the table of a number
 abbrev numbered : ℕ → Table
-numbered (suc zero) = clerks
-numbered (suc (suc zero)) = schemas
-numbered (suc (suc (suc zero))) = masters
-numbered (suc (suc (suc (suc zero)))) = rulebooks
-numbered (suc (suc (suc (suc (suc zero))))) = editions
-numbered (suc (suc (suc (suc (suc (suc zero)))))) = regions
-numbered (suc (suc (suc (suc (suc (suc (suc zero))))))) = sessions
-numbered (suc (suc (suc (suc (suc (suc (suc (suc zero)))))))) = records
-numbered number = batches
+numbered (suc zero) = Clerks
+numbered (suc (suc zero)) = Schemas
+numbered (suc (suc (suc zero))) = Masters
+numbered (suc (suc (suc (suc zero)))) = Rulebooks
+numbered (suc (suc (suc (suc (suc zero))))) = Editions
+numbered (suc (suc (suc (suc (suc (suc zero)))))) = Regions
+numbered (suc (suc (suc (suc (suc (suc (suc zero))))))) = Sessions
+numbered (suc (suc (suc (suc (suc (suc (suc (suc zero)))))))) = Records
+numbered number = Batches
 
+-- the number of a table tells the table
 numbered-number_of : (table : Table) → numbered (number_of table) ≡ table
-numbered-number_of clerks = refl
-numbered-number_of schemas = refl
-numbered-number_of masters = refl
-numbered-number_of rulebooks = refl
-numbered-number_of editions = refl
-numbered-number_of regions = refl
-numbered-number_of sessions = refl
-numbered-number_of records = refl
-numbered-number_of batches = refl
+numbered-number_of Clerks = refl
+numbered-number_of Schemas = refl
+numbered-number_of Masters = refl
+numbered-number_of Rulebooks = refl
+numbered-number_of Editions = refl
+numbered-number_of Regions = refl
+numbered-number_of Sessions = refl
+numbered-number_of Records = refl
+numbered-number_of Batches = refl
 
 -- no two tables have a number
 same-number : (one other : Table) → number_of one ≡ number_of other → one ≡ other
@@ -46,29 +45,29 @@ same-number one other same = sym (numbered-number_of one) ∙ ap numbered same �
 
 -- there are nine
 pub number_of-most : (table : Table) → number_of table ≤ 9
-number_of-most clerks = omega arith
-number_of-most schemas = omega arith
-number_of-most masters = omega arith
-number_of-most rulebooks = omega arith
-number_of-most editions = omega arith
-number_of-most regions = omega arith
-number_of-most sessions = omega arith
-number_of-most records = omega arith
-number_of-most batches = omega arith
+number_of-most Clerks = omega arith
+number_of-most Schemas = omega arith
+number_of-most Masters = omega arith
+number_of-most Rulebooks = omega arith
+number_of-most Editions = omega arith
+number_of-most Regions = omega arith
+number_of-most Sessions = omega arith
+number_of-most Records = omega arith
+number_of-most Batches = omega arith
 
 -- a whole table is not damaged
 undamaged : (rows : Rows) (table : Table) → IsWhole rows table → (place : ℕ) → IsDamaged rows table place → ⊥
-undamaged rows clerks whole place fails = fails.bad (whole place fails.row fails.stands)
-undamaged rows schemas whole place fails = fails.bad (whole place fails.row fails.stands)
-undamaged rows masters whole place fails = fails.bad (whole place fails.row fails.stands)
-undamaged rows rulebooks whole place fails = fails.bad (whole place fails.row fails.stands)
-undamaged rows editions whole place fails = fails.bad (whole place fails.row fails.stands)
-undamaged rows regions whole place fails = fails.bad (whole place fails.row fails.stands)
-undamaged rows sessions whole place fails =
+undamaged rows Clerks whole place fails = fails.bad (whole place fails.row fails.stands)
+undamaged rows Schemas whole place fails = fails.bad (whole place fails.row fails.stands)
+undamaged rows Masters whole place fails = fails.bad (whole place fails.row fails.stands)
+undamaged rows Rulebooks whole place fails = fails.bad (whole place fails.row fails.stands)
+undamaged rows Editions whole place fails = fails.bad (whole place fails.row fails.stands)
+undamaged rows Regions whole place fails = fails.bad (whole place fails.row fails.stands)
+undamaged rows Sessions whole place fails =
     fails.fails.bad (whole fails.clerk fails.own fails.fails.row fails.fails.stands)
-undamaged rows records whole place fails =
+undamaged rows Records whole place fails =
     fails.fails.bad (whole fails.clerk fails.own fails.fails.row fails.fails.stands)
-undamaged rows batches whole place fails =
+undamaged rows Batches whole place fails =
     fails.fails.bad (whole fails.clerk fails.own fails.fails.row fails.fails.stands)
 
 -- the first damaged row of a table behind whole ones is the first damage
@@ -105,15 +104,15 @@ IsWhole-more rows count table is whole last other most =
 pub AreValid-from : (rows : Rows) → AreTables rows → ((table : Table) → IsWhole rows table) → AreValid rows
 AreValid-from rows are whole = record {
   tables = are;
-  clerks = whole clerks;
-  schemas = whole schemas;
-  masters = whole masters;
-  rulebooks = whole rulebooks;
-  editions = whole editions;
-  regions = whole regions;
-  sessions = whole sessions;
-  records = whole records;
-  batches = whole batches;
+  clerks = whole Clerks;
+  schemas = whole Schemas;
+  masters = whole Masters;
+  rulebooks = whole Rulebooks;
+  editions = whole Editions;
+  regions = whole Regions;
+  sessions = whole Sessions;
+  records = whole Records;
+  batches = whole Batches;
 }
 
 -- a place through the lists of clerks is below 2 ^ 62
@@ -141,32 +140,32 @@ own-fits {T} count lists IsGood place few are fails =
 -- and so is each damaged row's
 pub place-fits : (rows : Rows) (table : Table) (place : ℕ) → AreTables rows → IsDamaged rows table place
     → place < 4611686018427387904
-place-fits rows clerks place are fails =
+place-fits rows Clerks place are fails =
     omega (arith, are.clerks, slice_get_within rows.clerks place fails.row fails.stands)
-place-fits rows schemas place are fails =
+place-fits rows Schemas place are fails =
     omega (arith, are.schemas, slice_get_within rows.schemas place fails.row fails.stands)
-place-fits rows masters place are fails =
+place-fits rows Masters place are fails =
     omega (arith, are.masters, slice_get_within rows.masters place fails.row fails.stands)
-place-fits rows rulebooks place are fails =
+place-fits rows Rulebooks place are fails =
     omega (arith, are.rulebooks, slice_get_within rows.rulebooks place fails.row fails.stands)
-place-fits rows editions place are fails =
+place-fits rows Editions place are fails =
     omega (arith, are.editions, slice_get_within rows.editions place fails.row fails.stands)
-place-fits rows regions place are fails =
+place-fits rows Regions place are fails =
     omega (arith, are.regions, slice_get_within rows.regions place fails.row fails.stands)
-place-fits rows sessions place are fails =
+place-fits rows Sessions place are fails =
     own-fits (length rows.clerks) rows.sessions _ place are.clerks are.sessions fails
-place-fits rows records place are fails =
+place-fits rows Records place are fails =
     own-fits (length rows.clerks) rows.records _ place are.clerks are.records fails
-place-fits rows batches place are fails =
+place-fits rows Batches place are fails =
     own-fits (length rows.clerks) rows.batches _ place are.clerks are.batches fails
 
--- the tables as the code has them in their order
-abbrev pub tables : List Named
+-- the tables in their order
+abbrev pub tables : List Table
 tables = Clerks ∷ Schemas ∷ Masters ∷ Rulebooks ∷ Editions ∷ Regions ∷ Sessions ∷ Records ∷ Batches ∷ []
 
 -- the one at a place
 abbrev pub table_at : ℕ → Table
-table_at place = table_of (get_or tables place Clerks)
+table_at place = get_or tables place Clerks
 
 -- each has its number
 pub number_of-table_at : (place : ℕ) → place < 9 → number_of (table_at place) ≡ place + 1

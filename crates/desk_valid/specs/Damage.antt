@@ -2,6 +2,9 @@
 use Rattle.std.specs.Prelude.{◌≡◌, ◌⊎◌, ℕ, ◌+◌, ◌<◌, List, length, sum_by, take, slice_get, Some}
 use Rattle.desk_words.specs.Tables.{Rows, list_at, published_of}
 use Rattle.desk_valid.specs.declared.damage.Damage.{Damage}
+use Rattle.desk_valid.specs.declared.table.Table.{Table}
+use Rattle.desk_valid.specs.declared.table.Table.TheVariants.{Clerks, Schemas, Masters, Rulebooks, Editions, Regions}
+use Rattle.desk_valid.specs.declared.table.Table.TheVariants.{Sessions, Records, Batches}
 use Rattle.desk_valid.specs.Rows.Clerk.{IsClerkRow}
 use Rattle.desk_valid.specs.Rows.Edition.{IsEditionRow}
 use Rattle.desk_valid.specs.Rows.Master.{IsMasterRow}
@@ -10,21 +13,17 @@ use Rattle.desk_valid.specs.Rows.Rulebook.{IsRulebookRow}
 use Rattle.desk_valid.specs.Rows.Schema.{IsSchemaRow}
 use Rattle.desk_valid.specs.Valid.{IsOwnBatch, IsOwnRecord, IsOwnSession}
 
--- the tables, in the order in which they are numbered
-pub data Table : Type 0 where
-  clerks schemas masters rulebooks editions regions sessions records batches : Table
-
 -- the number of a table
 abbrev pub number_of : Table → ℕ
-number_of clerks = 1
-number_of schemas = 2
-number_of masters = 3
-number_of rulebooks = 4
-number_of editions = 5
-number_of regions = 6
-number_of sessions = 7
-number_of records = 8
-number_of batches = 9
+number_of Clerks = 1
+number_of Schemas = 2
+number_of Masters = 3
+number_of Rulebooks = 4
+number_of Editions = 5
+number_of Regions = 6
+number_of Sessions = 7
+number_of Records = 8
+number_of Batches = 9
 
 -- a row stands at the place, and it is not good there
 pub record FailsAt {T : Type 0} (rows : List T) (IsGood : ℕ → T → Type 0) (place : ℕ) : Type 0 where
@@ -45,15 +44,15 @@ pub record FailsOwn {T : Type 0} (lists : List (List T)) (IsGood : ℕ → ℕ �
 
 -- the row at this place of the table, counted from 0, is not what it has to be
 abbrev pub IsDamaged : Rows → Table → ℕ → Type 0
-IsDamaged rows clerks = FailsAt rows.clerks (IsClerkRow rows)
-IsDamaged rows schemas = FailsAt rows.schemas (IsSchemaRow (published_of rows))
-IsDamaged rows masters = FailsAt rows.masters (IsMasterRow (published_of rows))
-IsDamaged rows rulebooks = FailsAt rows.rulebooks (IsRulebookRow (published_of rows))
-IsDamaged rows editions = FailsAt rows.editions (IsEditionRow (published_of rows))
-IsDamaged rows regions = FailsAt rows.regions (IsRegionRow (published_of rows))
-IsDamaged rows sessions = FailsOwn rows.sessions (IsOwnSession rows)
-IsDamaged rows records = FailsOwn rows.records (IsOwnRecord rows)
-IsDamaged rows batches = FailsOwn rows.batches (IsOwnBatch rows)
+IsDamaged rows Clerks = FailsAt rows.clerks (IsClerkRow rows)
+IsDamaged rows Schemas = FailsAt rows.schemas (IsSchemaRow (published_of rows))
+IsDamaged rows Masters = FailsAt rows.masters (IsMasterRow (published_of rows))
+IsDamaged rows Rulebooks = FailsAt rows.rulebooks (IsRulebookRow (published_of rows))
+IsDamaged rows Editions = FailsAt rows.editions (IsEditionRow (published_of rows))
+IsDamaged rows Regions = FailsAt rows.regions (IsRegionRow (published_of rows))
+IsDamaged rows Sessions = FailsOwn rows.sessions (IsOwnSession rows)
+IsDamaged rows Records = FailsOwn rows.records (IsOwnRecord rows)
+IsDamaged rows Batches = FailsOwn rows.batches (IsOwnBatch rows)
 
 -- by table, then by place
 abbrev pub IsEarlier : Table → ℕ → Table → ℕ → Type 0

@@ -7,8 +7,10 @@ use Rattle.desk_valid.specs.Rows.Master.{IsMasterRow}
 use Rattle.desk_valid.specs.Rows.Region.{IsRegionRow}
 use Rattle.desk_valid.specs.Rows.Rulebook.{IsRulebookRow}
 use Rattle.desk_valid.specs.Rows.Schema.{IsSchemaRow}
-use Rattle.desk_valid.specs.Damage.{FailsAt, FailsOwn, IsDamaged, Table, clerks, schemas, masters, rulebooks}
-use Rattle.desk_valid.specs.Damage.{editions, regions, sessions, records, batches}
+use Rattle.desk_valid.specs.declared.table.Table.{Table}
+use Rattle.desk_valid.specs.declared.table.Table.TheVariants.{Clerks, Schemas, Masters, Rulebooks, Editions, Regions}
+use Rattle.desk_valid.specs.declared.table.Table.TheVariants.{Sessions, Records, Batches}
+use Rattle.desk_valid.specs.Damage.{FailsAt, FailsOwn, IsDamaged}
 use Rattle.desk_valid.specs.Valid.{EachAt, EachOwn, IsOwnBatch, IsOwnRecord, IsOwnSession}
 
 -- each row before a place is good
@@ -29,15 +31,15 @@ IsFirstOwn lists IsGood (Some place) =
 
 -- each row of the table is what it has to be
 abbrev pub IsWhole : Rows → Table → Type 0
-IsWhole rows clerks = EachAt rows.clerks (IsClerkRow rows)
-IsWhole rows schemas = EachAt rows.schemas (IsSchemaRow (published_of rows))
-IsWhole rows masters = EachAt rows.masters (IsMasterRow (published_of rows))
-IsWhole rows rulebooks = EachAt rows.rulebooks (IsRulebookRow (published_of rows))
-IsWhole rows editions = EachAt rows.editions (IsEditionRow (published_of rows))
-IsWhole rows regions = EachAt rows.regions (IsRegionRow (published_of rows))
-IsWhole rows sessions = EachOwn rows.sessions (IsOwnSession rows)
-IsWhole rows records = EachOwn rows.records (IsOwnRecord rows)
-IsWhole rows batches = EachOwn rows.batches (IsOwnBatch rows)
+IsWhole rows Clerks = EachAt rows.clerks (IsClerkRow rows)
+IsWhole rows Schemas = EachAt rows.schemas (IsSchemaRow (published_of rows))
+IsWhole rows Masters = EachAt rows.masters (IsMasterRow (published_of rows))
+IsWhole rows Rulebooks = EachAt rows.rulebooks (IsRulebookRow (published_of rows))
+IsWhole rows Editions = EachAt rows.editions (IsEditionRow (published_of rows))
+IsWhole rows Regions = EachAt rows.regions (IsRegionRow (published_of rows))
+IsWhole rows Sessions = EachOwn rows.sessions (IsOwnSession rows)
+IsWhole rows Records = EachOwn rows.records (IsOwnRecord rows)
+IsWhole rows Batches = EachOwn rows.batches (IsOwnBatch rows)
 
 -- there is none, and the table is whole; or it is damaged, and none before it is
 abbrev pub IsFirstDamaged : Rows → Table → Option ℕ → Type 0

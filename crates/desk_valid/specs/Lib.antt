@@ -7,7 +7,6 @@ pub mod Damage
 pub mod ReadTables
 pub mod Bare
 pub mod NamedParts
-pub mod TableOf
 pub mod FirstDamaged
 pub mod Seen
 pub mod Refusals

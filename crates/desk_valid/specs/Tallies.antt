@@ -9,6 +9,7 @@ use Rattle.desk_words.specs.declared.rows.session.Stage.TheVariants.{Active, Com
 use Rattle.master_rows.specs.declared.master.Master.{Master}
 use Rattle.desk_valid.specs.Readings.{master_in}
 
+-- the session is open still
 abbrev pub is_active : Stage → Bool
 is_active Active = true
 is_active Committed = false

@@ -22,13 +22,15 @@ EachAt {T} rows IsGood = (place : ℕ) (row : T) → slice_get rows place ≡ So
 abbrev pub EachOwn : {T : Type 0} → List (List T) → (ℕ → ℕ → T → Type 0) → Type 0
 EachOwn lists IsGood = (clerk : ℕ) → EachAt (list_at lists clerk) (IsGood clerk)
 
--- a row of a clerk's sessions, records or batches is good among the clerk's own
+-- a row of a clerk's sessions is good among the clerk's own
 abbrev pub IsOwnSession : Rows → ℕ → ℕ → SessionRow → Type 0
 IsOwnSession rows clerk place = IsSessionRow (published_of rows) (list_at rows.batches clerk)
 
+-- a row of a clerk's records is good among the clerk's own
 abbrev pub IsOwnRecord : Rows → ℕ → ℕ → RecordRow → Type 0
 IsOwnRecord rows clerk = IsRecordRow (list_at rows.sessions clerk) (list_at rows.records clerk)
 
+-- a row of a clerk's batches is good among the clerk's own
 abbrev pub IsOwnBatch : Rows → ℕ → ℕ → BatchRow → Type 0
 IsOwnBatch rows clerk place = IsBatchRow (published_of rows) (list_at rows.sessions clerk)
 

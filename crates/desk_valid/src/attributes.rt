@@ -1,24 +1,6 @@
 //! Attributes of a schema by their places.
-ghost use Rattle.std.specs.Prelude.{◌≡◌, ◌≢◌, ◌<◌, ◌↔◌, All, AllPairs, Any, IsTrue};
+ghost use Rattle.std.specs.Prelude.{◌<◌, ◌↔◌, All, IsTrue};
 ghost use Rattle.std.specs.List.Sorted.{IsStrictlyIncreasing};
-
-/// Whether no attribute stands twice among these.
-pub(crate) fn are_apart(attributes: &[u16]) -> bool
-    ensures { IsTrue result ↔ AllPairs (λ one other. one ≢ other) attributes.now }
-{
-    'attributes: for (place, attribute) in attributes.iter().enumerate() {
-        if stands_in(&attributes[place + 1..], *attribute) {
-            return false;
-        }
-    }
-    true
-}
-
-fn stands_in(attributes: &[u16], attribute: u16) -> bool
-    ensures { IsTrue result ↔ Any (λ other. attribute ≡ other) attributes.now }
-{
-    attributes.iter().any(|other| *other == attribute)
-}
 
 /// Whether each of these attributes is below the number.
 pub(crate) fn are_below(attributes: &[u16], width: usize) -> bool

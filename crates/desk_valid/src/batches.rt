@@ -1,7 +1,7 @@
 //! Whether the rows of the batches are what they have to be.
 ghost use Rattle.std.specs.Prelude.{◌↔◌, IsTrue};
 ghost use Rattle.desk_words.specs.Tables.{AreTables, list_at, published_of, rows_of};
-ghost use Rattle.desk_valid.specs.Damage.{batches};
+ghost use Rattle.desk_valid.specs.declared.table.Table.TheVariants.{Batches};
 ghost use Rattle.desk_valid.specs.FirstDamaged.{IsFirstBad, IsFirstDamaged};
 ghost use Rattle.desk_valid.specs.Rows.Batch.{IsBatchRow};
 ghost use Rattle.desk_valid.specs.Valid.{IsOwnBatch};
@@ -12,7 +12,7 @@ use desk_words::{BatchRow, Tables};
 /// The first damaged row of the batches.
 pub(crate) fn first_damaged(tables: &Tables) -> Option<u64>
     requires { AreTables (rows_of tables.now) }
-    ensures { IsFirstDamaged (rows_of tables.now) batches result }
+    ensures { IsFirstDamaged (rows_of tables.now) Batches result }
 {
     let mut before = 0;
     'clerks: for clerk in 0..tables.batches.len() {

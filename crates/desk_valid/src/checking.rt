@@ -4,7 +4,6 @@ ghost use Rattle.desk_words.specs.Tables.{AreTables, rows_of};
 ghost use Rattle.desk_valid.specs.FirstDamaged.{IsFirstDamaged};
 ghost use Rattle.desk_valid.specs.ReadTables.{AreRead, rows_in};
 ghost use Rattle.desk_valid.specs.Refusals.{NamesFirstDamage};
-ghost use Rattle.desk_valid.specs.TableOf.{table_of};
 ghost use Rattle.desk_valid.specs.Valid.{AreValid};
 
 use crate::damage::{Bad, Damage};
@@ -41,7 +40,7 @@ fn first_damaged(
 ) -> Result<Option<u64>, NoMemory>
     requires read { AreRead read.now }
     requires tables { AreTables (rows_in read.now) }
-    ensures { IfOk result (IsFirstDamaged (rows_in read.now) (table_of table)) }
+    ensures { IfOk result (IsFirstDamaged (rows_in read.now) table) }
 {
     match table {
         Table::Clerks => Ok(clerks::first_damaged(read.tables)),

@@ -2,7 +2,7 @@
 ghost use Rattle.std.specs.Prelude.{codes, ◌≡◌, ◌≢◌, ◌↔◌, ◌<◌, ◌≤◌, All, length, replicate, take, IsTrue};
 ghost use Rattle.desk_base.specs.Words.{is_name};
 ghost use Rattle.desk_words.specs.Tables.{rows_of};
-ghost use Rattle.desk_valid.specs.Damage.{clerks};
+ghost use Rattle.desk_valid.specs.declared.table.Table.TheVariants.{Clerks};
 ghost use Rattle.desk_valid.specs.FirstDamaged.{IsFirstDamaged};
 ghost use Rattle.desk_valid.specs.Rows.Clerk.{HasTarget, IsClerkRow, IsClerksAct, IsNamedApart, IsStewardsAct};
 
@@ -12,7 +12,7 @@ use desk_words::{Act, ClerkRow, Tables};
 
 /// The first damaged row of the clerks.
 pub(crate) fn first_damaged(tables: &Tables) -> Option<u64>
-    ensures { IsFirstDamaged (rows_of tables.now) clerks result }
+    ensures { IsFirstDamaged (rows_of tables.now) Clerks result }
 {
     'rows: for (place, row) in tables.clerks.as_slice().iter().enumerate() {
         if !is_clerk_row(tables, place, row) {

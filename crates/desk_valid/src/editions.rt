@@ -4,7 +4,7 @@ ghost use Rattle.rule_text.specs.Binding.{AreFolded, AreMasters};
 ghost use Rattle.rule_text.specs.Rulebooks.{IsRulebook};
 ghost use Rattle.schema_core.specs.Schemas.{IsSchema};
 ghost use Rattle.desk_words.specs.Tables.{published_of, rows_of};
-ghost use Rattle.desk_valid.specs.Damage.{editions};
+ghost use Rattle.desk_valid.specs.declared.table.Table.TheVariants.{Editions};
 ghost use Rattle.desk_valid.specs.Bare.{BindNarrowly};
 ghost use Rattle.desk_valid.specs.Bindings.{parts_of};
 ghost use Rattle.desk_valid.specs.FirstDamaged.{IsFirstDamaged};
@@ -25,7 +25,7 @@ use std::alloc::Global;
 /// The first damaged row of the editions.
 pub(crate) fn first_damaged(alloc: Global, read: &ReadTables<'_>) -> Result<Option<u64>, NoMemory>
     requires { AreRead read.now }
-    ensures { IfOk result (IsFirstDamaged (rows_in read.now) editions) }
+    ensures { IfOk result (IsFirstDamaged (rows_in read.now) Editions) }
 {
     'rows: for (place, row) in read.tables.editions.as_slice().iter().enumerate() {
         let good = is_edition_row(alloc, read, place, row)?;

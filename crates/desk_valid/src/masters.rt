@@ -1,6 +1,6 @@
 //! Whether the rows of the masters are what they have to be.
 ghost use Rattle.std.specs.Prelude.{◌≡◌, ◌↔◌, Some, slice_get, IsSome, IsTrue};
-ghost use Rattle.desk_valid.specs.Damage.{masters};
+ghost use Rattle.desk_valid.specs.declared.table.Table.TheVariants.{Masters};
 ghost use Rattle.desk_valid.specs.FirstDamaged.{IsFirstDamaged};
 ghost use Rattle.desk_valid.specs.Readings.{master_at};
 ghost use Rattle.desk_valid.specs.ReadTables.{AreRead, published_in, rows_in};
@@ -13,7 +13,7 @@ use desk_words::MasterRow;
 /// The first damaged row of the masters.
 pub(crate) fn first_damaged(read: &ReadTables<'_>) -> Option<u64>
     requires { AreRead read.now }
-    ensures { IsFirstDamaged (rows_in read.now) masters result }
+    ensures { IsFirstDamaged (rows_in read.now) Masters result }
 {
     'rows: for (place, row) in read.tables.masters.as_slice().iter().enumerate() {
         if !is_master_row(read, place, row) {

@@ -1,5 +1,6 @@
 //! What was published in valid tables, as it reads.
 ghost use Rattle.std.specs.Prelude.{◌≡◌, ◌<◌, ◌≤◌, All, length, map, Some, IfOk, OnOk};
+ghost use Rattle.desk_base.specs.declared.limits.TheConstants.{MAX_MASTERS};
 ghost use Rattle.desk_words.specs.Tables.{published_of, rows_of};
 ghost use Rattle.rule_text.specs.Binding.{AreMasters};
 ghost use Rattle.rule_text.specs.Rulebooks.{IsRulebook};
@@ -56,7 +57,7 @@ pub fn masters_of(
     requires places { All (λ place. place < length tables.now.masters.items) places.now }
     ensures masters { IfOk result
         (λ masters. all_of (map (master_at (published_of (rows_of tables.now))) places.now) ≡ Some masters) }
-    ensures sound { (length places.now ≤ 8) → AreNamedApart (published_of (rows_of tables.now)) places.now
+    ensures sound { (length places.now ≤ MAX_MASTERS) → AreNamedApart (published_of (rows_of tables.now)) places.now
         → IfOk result AreMasters }
 {
     let Some(masters) = masters_at(alloc, tables, places)? else {

@@ -1,7 +1,7 @@
 //! Whether the rows of the records are what they have to be.
 ghost use Rattle.std.specs.Prelude.{◌≡◌, ◌↔◌, ◌≤◌, [], false, length, replicate, take, IfOk, IsTrue};
 ghost use Rattle.desk_words.specs.Tables.{AreTables, list_at, rows_of};
-ghost use Rattle.desk_valid.specs.Damage.{records};
+ghost use Rattle.desk_valid.specs.declared.table.Table.TheVariants.{Records};
 ghost use Rattle.desk_valid.specs.FirstDamaged.{IsFirstBad, IsFirstDamaged};
 ghost use Rattle.desk_valid.specs.Seen.{AreSeen};
 ghost use Rattle.desk_valid.specs.Valid.{IsOwnRecord};
@@ -14,7 +14,7 @@ use std::alloc::Global;
 /// The first damaged row of the records.
 pub(crate) fn first_damaged(alloc: Global, tables: &Tables) -> Result<Option<u64>, NoMemory>
     requires { AreTables (rows_of tables.now) }
-    ensures { IfOk result (IsFirstDamaged (rows_of tables.now) records) }
+    ensures { IfOk result (IsFirstDamaged (rows_of tables.now) Records) }
 {
     let mut before = 0;
     'clerks: for clerk in 0..tables.records.len() {

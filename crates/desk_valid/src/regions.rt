@@ -1,20 +1,20 @@
 //! Whether the rows of the regions are what they have to be.
 ghost use Rattle.std.specs.Prelude.{◌≡◌, ◌==◌, ◌<◌, ◌≤◌, ◌↔◌, All, count_by, length, IfSome, IsTrue};
-ghost use Rattle.desk_valid.specs.Damage.{regions};
+ghost use Rattle.desk_valid.specs.declared.table.Table.TheVariants.{Regions};
 ghost use Rattle.desk_valid.specs.FirstDamaged.{IsFirstDamaged};
 ghost use Rattle.desk_valid.specs.Readings.{width_at};
 ghost use Rattle.desk_valid.specs.ReadTables.{AreRead, published_in, rows_in};
 ghost use Rattle.desk_valid.specs.Rows.Region.{IsRegionRow};
 
-use crate::attributes::{are_apart, are_below};
+use crate::attributes::are_below;
 use crate::read_tables::ReadTables;
-use desk_base::{MAX_REGION_ROWS, MAX_REGIONS};
+use desk_base::{MAX_REGION_ROWS, MAX_REGIONS, are_apart};
 use desk_words::RegionRow;
 
 /// The first damaged row of the regions.
 pub(crate) fn first_damaged(read: &ReadTables<'_>) -> Option<u64>
     requires { AreRead read.now }
-    ensures { IsFirstDamaged (rows_in read.now) regions result }
+    ensures { IsFirstDamaged (rows_in read.now) Regions result }
 {
     'rows: for (place, row) in read.tables.regions.as_slice().iter().enumerate() {
         if !is_region_row(read, place, row) {

@@ -1,6 +1,6 @@
 //! Whether the rows of the rulebooks are what they have to be.
 ghost use Rattle.std.specs.Prelude.{◌≡◌, ◌↔◌, Some, slice_get, IfSome, IsSome, IsTrue};
-ghost use Rattle.desk_valid.specs.Damage.{rulebooks};
+ghost use Rattle.desk_valid.specs.declared.table.Table.TheVariants.{Rulebooks};
 ghost use Rattle.desk_valid.specs.FirstDamaged.{IsFirstDamaged};
 ghost use Rattle.desk_valid.specs.Readings.{rules_over, schema_at};
 ghost use Rattle.desk_valid.specs.ReadTables.{AreRead, published_in, rows_in};
@@ -13,7 +13,7 @@ use desk_words::RulebookRow;
 /// The first damaged row of the rulebooks.
 pub(crate) fn first_damaged(read: &ReadTables<'_>) -> Option<u64>
     requires { AreRead read.now }
-    ensures { IsFirstDamaged (rows_in read.now) rulebooks result }
+    ensures { IsFirstDamaged (rows_in read.now) Rulebooks result }
 {
     'rows: for (place, row) in read.tables.rulebooks.as_slice().iter().enumerate() {
         if !is_rulebook_row(read, place, row) {

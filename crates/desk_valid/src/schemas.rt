@@ -1,6 +1,6 @@
 //! Whether the rows of the schemas are what they have to be.
 ghost use Rattle.std.specs.Prelude.{◌≡◌, ◌↔◌, Some, slice_get, IsTrue};
-ghost use Rattle.desk_valid.specs.Damage.{schemas};
+ghost use Rattle.desk_valid.specs.declared.table.Table.TheVariants.{Schemas};
 ghost use Rattle.desk_valid.specs.FirstDamaged.{IsFirstDamaged};
 ghost use Rattle.desk_valid.specs.ReadTables.{AreRead, published_in, rows_in};
 ghost use Rattle.desk_valid.specs.Rows.Schema.{IsSchemaRow};
@@ -12,7 +12,7 @@ use desk_words::SchemaRow;
 /// The first damaged row of the schemas.
 pub(crate) fn first_damaged(read: &ReadTables<'_>) -> Option<u64>
     requires { AreRead read.now }
-    ensures { IsFirstDamaged (rows_in read.now) schemas result }
+    ensures { IsFirstDamaged (rows_in read.now) Schemas result }
 {
     'rows: for (place, row) in read.tables.schemas.as_slice().iter().enumerate() {
         if !is_schema_row(read, place, row) {

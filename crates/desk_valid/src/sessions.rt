@@ -1,7 +1,7 @@
 //! Whether the rows of the sessions are what they have to be.
 ghost use Rattle.std.specs.Prelude.{◌≡◌, ◌↔◌, ◌<◌, ◌^◌, length, IfSome, IsTrue};
 ghost use Rattle.desk_words.specs.Tables.{AreTables, list_at};
-ghost use Rattle.desk_valid.specs.Damage.{sessions};
+ghost use Rattle.desk_valid.specs.declared.table.Table.TheVariants.{Sessions};
 ghost use Rattle.desk_valid.specs.FirstDamaged.{IsFirstBad, IsFirstDamaged};
 ghost use Rattle.desk_valid.specs.Readings.{width_at};
 ghost use Rattle.desk_valid.specs.ReadTables.{AreRead, published_in, rows_in};
@@ -16,7 +16,7 @@ use desk_words::SessionRow;
 pub(crate) fn first_damaged(read: &ReadTables<'_>) -> Option<u64>
     requires read { AreRead read.now }
     requires tables { AreTables (rows_in read.now) }
-    ensures { IsFirstDamaged (rows_in read.now) sessions result }
+    ensures { IsFirstDamaged (rows_in read.now) Sessions result }
 {
     let mut before = 0;
     'clerks: for clerk in 0..read.tables.sessions.len() {

@@ -1,7 +1,6 @@
 //! The tables by name.
 ghost use Rattle.std.specs.Prelude.{◌≡◌};
 ghost use Rattle.desk_valid.specs.Damage.{number_of};
-ghost use Rattle.desk_valid.specs.TableOf.{table_of};
 
 /// A table of the desk. Tables are numbered from 1 in this order.
 #[derive(Clone, Copy, Debug, PartialEq, Eq)]
@@ -33,7 +32,7 @@ pub(crate) const TABLES: [Table; 9] = [
 impl Table {
     /// The number of the table, 1 to 9.
     pub(crate) fn number(self) -> u8
-        ensures { result ≡ number_of (table_of self) }
+        ensures { result ≡ number_of self }
     {
         match self {
             Table::Clerks => 1,

@@ -1,10 +1,10 @@
 -- What a change does to the tables, and which changes fit.
-use Rattle.std.specs.Prelude.{ℕ, ◌+◌, ◌<◌, ◌≤◌, ◌^◌, ◌==◌, List, [], ◌∷◌, ◌++◌, length, slice_set, if◌then◌else◌, ⊤}
+use Rattle.std.specs.Prelude.{ℕ, ◌+◌, ◌<◌, ◌≤◌, ◌==◌, List, [], ◌∷◌, ◌++◌, length, slice_set, if◌then◌else◌, ⊤}
 use Rattle.desk_words.specs.declared.change.Change.{Change}
 use Rattle.desk_words.specs.declared.change.Change.TheVariants.{Clerk, Schema, Master, Rulebook, Edition, Region}
 use Rattle.desk_words.specs.declared.change.Change.TheVariants.{Session, Record, Batch}
 use Rattle.desk_words.specs.declared.rows.clerk.ClerkRow.{ClerkRow}
-use Rattle.desk_words.specs.Tables.{Rows, list_at}
+use Rattle.desk_words.specs.Tables.{Rows, list_at, row_limit}
 
 -- the list with the item at the place, or behind the others where the place is the length
 abbrev pub put : {T : Type 0} → List T → ℕ → T → List T
@@ -47,9 +47,9 @@ abbrev pub changed_all : Rows → List Change → Rows
 changed_all rows [] = rows
 changed_all rows (change ∷ changes) = changed_all (changed rows change) changes
 
--- an item fits at this place of a list: at most behind the others, and the list stays below 2 ^ 31 items
+-- an item fits at this place of a list: at most behind the others, and the list stays below its limit
 abbrev pub FitsAt : {T : Type 0} → ℕ → List T → Type 0
-FitsAt place items = (place ≤ length items) × (place + 1 < 2 ^ 31)
+FitsAt place items = (place ≤ length items) × (place + 1 < row_limit)
 
 -- an item fits behind the others of a list
 abbrev pub FitsBehind : {T : Type 0} → List T → Type 0

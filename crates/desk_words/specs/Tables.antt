@@ -33,6 +33,7 @@ pub record Published : Type 0 where
   pub editions : List EditionRow
   pub regions : List RegionRow
 
+-- the published rows among all rows
 abbrev pub published_of : Rows → Published
 published_of rows = record {
   schemas = rows.schemas;
@@ -86,9 +87,13 @@ empty_rows = record {
   batches = [] ∷ [];
 }
 
--- fewer than 2 ^ 31 rows
+-- a list of a table has fewer rows than this
+abbrev pub row_limit : ℕ
+row_limit = 2 ^ 31
+
+-- fewer rows than the limit
 abbrev pub IsShort : {T : Type 0} → List T → Type 0
-IsShort rows = length rows < 2 ^ 31
+IsShort rows = length rows < row_limit
 
 -- a list for each of so many clerks, none of them too long
 pub record AreListsOf {T : Type 0} (clerks : ℕ) (lists : List (List T)) : Type 0 where

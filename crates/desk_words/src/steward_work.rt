@@ -37,8 +37,8 @@ pub enum StewardWork {
         attrs: List<Str>,
         rows: List<List<Str>>,
     },
-    /// A region of a version of an edition, of rows that one of its masters gives for pairs of an attribute and a column:
-    /// those from a place on, counted from 1, and no more than a region may have.
+    /// A region of a version of an edition, of rows that one of its masters gives for pairs of an attribute and a
+    /// column: those from a place on, counted from 1, and no more than a region may have.
     AddDerived {
         edition: Str,
         version: u32,

@@ -23,10 +23,12 @@ or-first : (one other : Bool) → IsTrue (one || false) → IsTrue (one || other
 or-first true other is = refl
 or-first false other is = absurd cc
 
+-- the first of two is true where the second is not
 or-none : (one : Bool) → IsTrue (one || false) → IsTrue one
 or-none true is = refl
 or-none false is = absurd cc
 
+-- one of two is true where the second is
 or-second : (one other : Bool) → IsTrue other → IsTrue (one || other)
 or-second true other is = refl
 or-second false other is = is
@@ -44,6 +46,7 @@ HasPlaces-fewer {T} rooms some all fewer count among less have = record {
       (have.lists clerk (among clerk is_named));
 }
 
+-- room for more, of more clerks, is room for fewer
 HasRoom-fewer : (tables : Tables) (some all : ℕ → Bool) (fewer count : ℕ)
     → ((clerk : ℕ) → IsTrue (some clerk) → IsTrue (all clerk)) → fewer ≤ count → HasRoom tables all count
     → HasRoom tables some fewer
@@ -68,6 +71,7 @@ AreEmptyLists-fewer fresh clerks other fewer count less few have = record {
   places = HavePlaces-fewer fewer count fresh few have.places;
 }
 
+-- so are they of each kind
 pub AreFresh-fewer : (fresh : Fresh) (clerks other fewer count : ℕ) → other ≤ clerks → fewer ≤ count
     → AreFresh fresh clerks count → AreFresh fresh other fewer
 AreFresh-fewer fresh clerks other fewer count less few have = record {

@@ -1,5 +1,6 @@
 -- What a keeper tells of its tables, and when it may answer that it failed.
-use Rattle.std.specs.Prelude.{◌≡◌, ◌≢◌, ℕ, ◌+◌, ◌-◌, ◌^◌, min, List, Option, Some, None, Result, Ok, Err, ⊤}
+use Rattle.std.specs.Prelude.{◌≡◌, ◌≢◌, ℕ, List, Option, Some, None, Result, Ok, Err, ⊤}
+use Rattle.desk_base.specs.Counts.{risen}
 use Rattle.desk_base.specs.Faults.{Rose}
 use Rattle.desk_base.specs.Memory.{Schedule}
 use Rattle.desk_words.specs.declared.change.Change.{Change}
@@ -42,7 +43,7 @@ FailsRise before now (Err NoMemory) = ⊤
 -- a failure raises the count of faults by one, up to its last value, and nothing else changes it
 abbrev pub CountsFailures : {T : Type 0} → ℕ → ℕ → Result T KeepFail → Type 0
 CountsFailures before now (Ok value) = now ≡ before
-CountsFailures before now (Err Failed) = now ≡ min (before + 1) (2 ^ 64 - 1)
+CountsFailures before now (Err Failed) = now ≡ risen before
 CountsFailures before now (Err NoMemory) = now ≡ before
 
 -- no failure is answered, but want of memory may be

@@ -1,4 +1,4 @@
-//! Changes of tables that stand in memory. They take no memory, since room was made for them.
+//! Changes of tables that stand in memory. They refuse nothing, since room was made for them.
 ghost use Rattle.std.specs.Prelude.{◌≡◌, ◌+◌, ◌-◌, [], ◌∷◌, ℕ, Bool};
 ghost use Rattle.desk_words.specs.Changes.{changed, changed_all, with_caller};
 ghost use Rattle.desk_words.specs.Tables.{AreTables, rows_of};

@@ -1,14 +1,15 @@
 //! A keeper in memory, some of whose calls are to fail. A clause sees its tables, its counts and which calls fail.
-ghost use Rattle.std.specs.Prelude.{◌≡◌, ◌+◌, ◌-◌, ◌^◌, ◌≤◌, ◌↔◌, [], min, Some, Err, IfOk, OnOk, OnErr, IsErrOf, IsTrue, MatchResult};
+ghost use Rattle.std.specs.Prelude.{◌≡◌, ◌≤◌, ◌↔◌, [], Some, Err, IfOk, OnOk, OnErr, IsErrOf};
 ghost use Rattle.desk_base.specs.Memory.{NextFails, after_call};
 ghost use Rattle.desk_words.specs.Changes.{FitAll, changed_all};
 ghost use Rattle.desk_words.specs.Tables.{AreTables, rows_of};
-ghost use Rattle.keeper_core.specs.Keeping.{ChangeTold, CountsFailures, FailsRise, FitTold, IsLoaded, NeverFails, StayTold};
+ghost use Rattle.keeper_core.specs.Keeping.{ChangeTold, CountsFailures, FailsRise, FitTold, IsLoaded};
+ghost use Rattle.keeper_core.specs.Keeping.{NeverFails, StayTold};
 
 use crate::changing::change_all;
 use crate::keeper::{KeepFail, Keeper};
 use crate::room::make_room;
-use desk_base::{Duplicate, List};
+use desk_base::{CallPlan, Duplicate, FaultCount, List};
 use desk_words::{Change, Tables};
 use std::marker::Model;
 
@@ -17,9 +18,8 @@ use std::marker::Model;
 #[derive(Debug, Drop)]
 pub struct MemKeeper {
     tables: Tables,
-    calls: u64,
-    fails: List<u64>,
-    faults: u64,
+    plan: CallPlan,
+    faults: FaultCount,
 }
 
 impl Model for MemKeeper {
@@ -28,7 +28,7 @@ impl Model for MemKeeper {
 
     ghost Value = { Kept };
 
-    ghost view = { λ k. record { rows = rows_of k.tables; schedule = record { calls = k.calls; fails = k.fails }; faults = k.faults } };
+    ghost view = { λ k. record { rows = rows_of k.tables; schedule = k.plan; faults = k.faults } };
 
     ghost invariant = { λ k. AreTables (rows_of k.tables) };
 }
@@ -37,7 +37,11 @@ impl MemKeeper {
     /// A keeper with these tables, of which no call was made and none has failed.
     pub fn new(tables: Tables, fails: List<u64>) -> MemKeeper
         requires { AreTables (rows_of tables) }
-        ensures { result ≡ record { rows = rows_of tables; schedule = record { calls = 0; fails = fails }; faults = 0 } }
+        ensures { result ≡ record {
+          rows = rows_of tables;
+          schedule = record { calls = 0; fails = fails };
+          faults = 0;
+        } }
     {
         MemKeeper::after_calls(tables, fails, 0, 0)
     }
@@ -53,9 +57,8 @@ impl MemKeeper {
     {
         MemKeeper {
             tables,
-            calls,
-            fails,
-            faults,
+            plan: CallPlan::after(calls, fails),
+            faults: FaultCount::at(faults),
         }
     }
 }
@@ -80,8 +83,8 @@ impl Keeper for MemKeeper {
         ensures fails { IsErrOf result KeepFail.Failed ↔ NextFails self.old.schedule }
         ensures counted { self.new.schedule ≡ after_call self.old.schedule }
     {
-        if next_fails(&mut self.calls, self.fails.as_slice()) {
-            self.faults = self.faults.saturating_add(1);
+        if self.plan.next_fails() {
+            self.faults.rise();
             return Err(KeepFail::Failed);
         }
         Ok(self.tables.copy()?)
@@ -100,25 +103,12 @@ impl Keeper for MemKeeper {
         ensures fails { IsErrOf result KeepFail.Failed ↔ NextFails self.old.schedule }
         ensures counted { self.new.schedule ≡ after_call self.old.schedule }
     {
-        if next_fails(&mut self.calls, self.fails.as_slice()) {
-            self.faults = self.faults.saturating_add(1);
+        if self.plan.next_fails() {
+            self.faults.rise();
             return Err(KeepFail::Failed);
         }
         change_tables(&mut self.tables, changes)
     }
-}
-
-/// Counts a call, and says whether it is to fail.
-fn next_fails(calls: &mut u64, fails: &[u64]) -> bool
-    ensures fails { IsTrue result ↔ NextFails (record { calls = calls.old; fails = fails.now }) }
-    ensures counted { record { calls = calls.new; fails = fails.now }
-        ≡ after_call (record { calls = calls.old; fails = fails.now }) }
-{
-    if *calls == u64::MAX {
-        return false;
-    }
-    *calls += 1;
-    fails.contains(calls)
 }
 
 /// Makes all changes in the tables, or none where there is no memory.

@@ -6,3 +6,4 @@ pub mod Sheets
 pub mod Masters
 pub mod Outlines
 pub mod Written
+pub mod Causes

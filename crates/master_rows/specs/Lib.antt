@@ -6,3 +6,4 @@ pub mod Sheet
 pub mod Outline
 pub mod Master
 pub mod Draft
+pub mod Causes

@@ -34,8 +34,9 @@ use Rattle.rule_text.proofs.Steps.{reads-column}
 -- ---- attributes
 
 -- as many items stand before the first that passes as come before its place
-pub prefix_len-first : (test : List ℕ → Bool) (xs : List (List ℕ)) (i : ℕ) → i < length xs → test (get_or xs i []) ≡ true
-    → ((k : ℕ) → k < i → test (get_or xs k []) ≡ false) → prefix_len (λ x. not (test x)) xs ≡ i
+pub prefix_len-first : (test : List ℕ → Bool) (xs : List (List ℕ)) (i : ℕ) → i < length xs
+    → test (get_or xs i []) ≡ true → ((k : ℕ) → k < i → test (get_or xs k []) ≡ false)
+    → prefix_len (λ x. not (test x)) xs ≡ i
 prefix_len-first test [] i within here before = absurd (omega arith)
 prefix_len-first test (x ∷ xs) zero within here before = rw here refl
 prefix_len-first test (x ∷ xs) (suc i) within here before =

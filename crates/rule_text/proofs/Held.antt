@@ -48,6 +48,7 @@ pub record HasName (draft : Draft) : Type 0 where
   pub name : IsTrue (is_word draft.line.name)
   pub free : has_name draft.lines draft.line.name ≡ false
 
+-- the master comes next
 pub record AtMaster (schema : Schema) (draft : Draft) : Type 0 where
   pub start : AtRule schema draft
   pub named : HasName draft
@@ -67,6 +68,7 @@ pub record HasRoom {A : Type 0} (schema : Schema) (attribute : ℕ) (pairs : Lis
   pub known : attribute < length schema.attributes
   pub free : has_attribute pairs attribute ≡ false
 
+-- the column of a key comes next, and there is room for the key
 pub record AtColumn (schema : Schema) (draft : Draft) : Type 0 where
   pub key : AtKey schema draft
   pub room : HasRoom schema draft.attribute draft.line.keys
@@ -81,6 +83,7 @@ pub record HasHead (schema : Schema) (draft : Draft) : Type 0 where
   pub head : draft.line.head < length schema.attributes
   pub no_key : has_attribute draft.line.keys draft.line.head ≡ false
 
+-- the column of the head comes next
 pub record AtFrom (schema : Schema) (draft : Draft) : Type 0 where
   pub keyed : AtHead schema draft
   pub headed : HasHead schema draft
@@ -91,6 +94,7 @@ pub record IsWhole (schema : Schema) (draft : Draft) : Type 0 where
   pub named : HasName draft
   pub line : IsLine schema draft.line
 
+-- the rule may be closed, and no set is open
 pub record AtEnd (schema : Schema) (draft : Draft) : Type 0 where
   pub whole : IsWhole schema draft
   pub no_texts : draft.texts ≡ []
@@ -101,15 +105,18 @@ pub record HasAsked (schema : Schema) (draft : Draft) : Type 0 where
   pub room : HasRoom schema draft.attribute draft.line.conds
   pub other : (draft.attribute == draft.line.head) ≡ false
 
+-- what is asked of the attribute comes next
 pub record AtTest (schema : Schema) (draft : Draft) : Type 0 where
   pub asked : HasAsked schema draft
   pub no_texts : draft.texts ≡ []
 
+-- a text of a set comes next
 pub record AtItem (schema : Schema) (draft : Draft) : Type 0 where
   pub asked : HasAsked schema draft
   pub fits : length draft.texts ≤ 64
   pub plain : AllByRecursion IsPlain draft.texts
 
+-- the set may be closed
 pub record AtClose (schema : Schema) (draft : Draft) : Type 0 where
   pub item : AtItem schema draft
   pub some : 1 ≤ length draft.texts
@@ -225,7 +232,8 @@ module _ (schema : Schema) (place : Place) (draft after : Draft) where
       })
 
   -- behind a key's attribute the draft is at its column
-  pub hold-key_of : (found : Option ℕ) → ((attribute : ℕ) → found ≡ Some attribute → attribute < length schema.attributes)
+  pub hold-key_of : (found : Option ℕ)
+      → ((attribute : ℕ) → found ≡ Some attribute → attribute < length schema.attributes)
       → with_key_of found place draft ≡ Ok after → length draft.line.keys < 8 → AtKey schema draft
       → AtColumn schema after
   hold-key_of None known read room at = absurd cc

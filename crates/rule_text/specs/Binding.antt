@@ -1,7 +1,6 @@
 -- What a rulebook binds to over masters: a kit, or the first name in it that no master or column has.
-use Rattle.std.specs.Prelude.{ℕ, ◌+◌, ◌<◌, ◌≤◌, ◌≢◌, ◌==◌, Bool, List, [], ◌∷◌, length, map, position, slice_index_or}
+use Rattle.std.specs.Prelude.{ℕ, ◌+◌, ◌<◌, ◌≤◌, ◌≢◌, List, [], ◌∷◌, length, map, position, slice_index_or}
 use Rattle.std.specs.Prelude.{All, AllPairs, Option, Some, None, unwrap_or, Result, Ok, Err}
-use Rattle.std.specs.List.{list_any, range_with_len}
 use Rattle.std.specs.List.Sorted.{IsStrictlyIncreasing}
 use Rattle.std.specs.Option.{option_or, option_map_or}
 use Rattle.std.specs.Str.{bytes_eq}
@@ -11,6 +10,7 @@ use Rattle.schema_core.specs.declared.schema.Schema.{Schema}
 use Rattle.master_rows.specs.declared.master.Master.{Master}
 use Rattle.master_rows.specs.Master.{IsMaster}
 use Rattle.desk_base.specs.declared.limits.TheConstants.{MAX_MASTERS}
+use Rattle.desk_base.specs.Places.{flags_of, place_of}
 use Rattle.rule_text.specs.declared.binding.BindFault.{BindFault}
 use Rattle.rule_text.specs.declared.binding.BindFault.TheVariants.{NoMaster, NoColumn}
 use Rattle.rule_text.specs.declared.rulebook.RuleLine.{RuleLine}
@@ -38,7 +38,7 @@ master_at masters place =
 
 -- the place of the master's column of this name, from 0
 abbrev pub column_of : Master → List ℕ → Option ℕ
-column_of master name = position (bytes_eq name) master.columns
+column_of master name = place_of master.columns name
 
 -- what is wrong where a rule names this column: the master has none of this name
 abbrev pub column_fault : ℕ → Master → ℕ → List ℕ → Option BindFault
@@ -86,14 +86,6 @@ rule_over master place line = record {
 abbrev pub rule_of : List (List ℕ × Master) → RuleLine → Rule
 rule_of masters line =
     let place = unwrap_or (master_of masters line.master) 0 in rule_over (master_at masters place) place line
-
--- the attribute is one of these
-abbrev pub is_among : List ℕ → ℕ → Bool
-is_among attributes attribute = list_any (λ one. attribute == one) attributes
-
--- for each of so many attributes whether it is one of these
-abbrev pub flags_of : ℕ → List ℕ → List Bool
-flags_of width folded = map (is_among folded) (range_with_len 0 width)
 
 -- the rules, and the rows of the masters, each in their order
 abbrev pub kit_of : Rulebook → Schema → List (List ℕ × Master) → List ℕ → Kit

@@ -53,7 +53,7 @@ mark_at first rest =
 
 -- a string with one more byte of content, which takes so many bytes to write
 abbrev pub with_byte : ℕ → ℕ → Option (List ℕ × ℕ) → Option (List ℕ × ℕ)
-with_byte byte written others = option_map (λ q. (byte ∷ q.0, q.1 + written)) others
+with_byte byte written others = option_map (λ string. (byte ∷ string.0, string.1 + written)) others
 
 -- behind its opening quote, the content of a string and how many bytes it takes up to its closing quote:
 -- two quotes stand for one, and the string ends at the first other one
@@ -68,7 +68,7 @@ quoted (byte ∷ next ∷ rest) =
 -- the string of such a content, where it is UTF-8
 abbrev pub string_of : Option (List ℕ × ℕ) → Piece
 string_of None = Stray
-string_of (Some q) = if is_utf8 q.0 then Spelled (Quoted q.0) q.1 else Stray
+string_of (Some string) = if is_utf8 string.0 then Spelled (Quoted string.0) string.1 else Stray
 
 -- the word that begins with this byte
 abbrev pub word_at : ℕ → List ℕ → Piece

@@ -1,17 +1,16 @@
 //! From a rulebook and the masters that it names to a kit.
-ghost use Rattle.std.specs.Prelude.{◌≡◌, ◌≢◌, ◌+◌, ◌<◌, length, map, position, Ok, Err, Some, None, IfOk, IfErr};
+ghost use Rattle.std.specs.Prelude.{◌≡◌, ◌≢◌, ◌+◌, ◌<◌, length, map, Ok, Err, Some, None, IfOk, IfErr};
 ghost use Rattle.std.specs.Prelude.{IfSome};
-ghost use Rattle.std.specs.Str.{bytes_eq};
 ghost use Rattle.fix_model.specs.Valid.{IsValid};
 ghost use Rattle.schema_core.specs.Schemas.{IsSchema};
 ghost use Rattle.master_rows.specs.Master.{IsMaster};
 ghost use Rattle.rule_text.specs.Rulebooks.{IsRulebook};
 ghost use Rattle.rule_text.specs.Binding.{AreMasters, AreFolded, master_of, column_of, keys_fault, line_fault};
-ghost use Rattle.rule_text.specs.Binding.{first_fault, bound_key, rule_of, is_among, flags_of, bound};
+ghost use Rattle.rule_text.specs.Binding.{first_fault, bound_key, rule_of, bound};
 ghost use Rattle.rule_text.specs.declared.binding.BindFault.TheVariants as fault;
 
 use crate::rulebook::{RuleLine, Rulebook};
-use desk_base::{Duplicate, Grid, List, NoMemory, Text};
+use desk_base::{Duplicate, Grid, List, NoMemory, Text, flags_of, place_of};
 use fix_model::{Kit, Rule};
 use master_rows::Master;
 use schema_core::Schema;
@@ -174,19 +173,10 @@ fn column_of(master: &Master, name: &Text) -> Option<u16>
     requires { IsMaster master.now }
     ensures { result ≡ column_of master.now name.now }
 {
-    match place_of(master.columns.as_slice(), name) {
+    match place_of(master.columns.as_slice(), name.as_str()) {
         Some(place) => Some(place as u16),
         None => None,
     }
-}
-
-fn place_of(columns: &[Text], name: &Text) -> Option<usize>
-    ensures found { result ≡ position (bytes_eq name.now) columns.now }
-    ensures within { IfSome result (λ place. place < length columns.now) }
-{
-    columns
-        .iter()
-        .position(|column| name.as_str() == column.as_str())
 }
 
 /// The rows of all masters.
@@ -198,21 +188,4 @@ fn grids_of(alloc: Global, masters: &[(Text, Master)]) -> Result<List<Grid>, NoM
         grids.push(master.1.grid.copy()?)?;
     }
     Ok(grids)
-}
-
-/// For each of so many attributes whether it is folded.
-fn flags_of(alloc: Global, width: u16, folded: &[u16]) -> Result<List<bool>, NoMemory>
-    ensures { IfOk result (λ flags. flags ≡ flags_of width folded.now) }
-{
-    let mut flags = List::new(alloc);
-    'attributes: for attribute in 0..width {
-        flags.push(is_among(folded, attribute))?;
-    }
-    Ok(flags)
-}
-
-fn is_among(attributes: &[u16], attribute: u16) -> bool
-    ensures { result ≡ is_among attributes.now attribute }
-{
-    attributes.iter().any(|one| attribute == *one)
 }

@@ -3,6 +3,7 @@ ghost use Rattle.std.specs.Prelude.{◌≡◌};
 ghost use Rattle.rule_text.specs.declared.fault.RuleFault.TheVariants as fault;
 
 use desk_base::NoMemory;
+use std::alloc::AllocFailed;
 use thiserror::Error;
 
 /// Why a text is no rulebook: the first test that it fails, with the line and the column, both from 1, of
@@ -45,6 +46,14 @@ impl From<NoMemory> for RuleFault {
     ghost from_gives = { λ _ result. result ≡ fault.NoMemory };
 
     fn from(_fault: NoMemory) -> RuleFault {
+        RuleFault::NoMemory
+    }
+}
+
+impl<T: Drop> From<AllocFailed<T>> for RuleFault {
+    ghost from_gives = { λ _ result. result ≡ fault.NoMemory };
+
+    fn from(_refused: AllocFailed<T>) -> RuleFault {
         RuleFault::NoMemory
     }
 }

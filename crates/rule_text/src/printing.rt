@@ -48,19 +48,15 @@ fn put_line(out: &mut Vec<u8>, schema: &Schema, line: &RuleLine) -> Result<(), N
 fn put(out: &mut Vec<u8>, bytes: &[u8]) -> Result<(), NoMemory>
     ensures { OnOk result (out.new.items ≡ out.old.items ++ bytes.now) }
 {
-    match out.extend_from_slice(bytes) {
-        Ok(()) => Ok(()),
-        Err(_) => Err(NoMemory),
-    }
+    out.extend_from_slice(bytes)?;
+    Ok(())
 }
 
 fn put_byte(out: &mut Vec<u8>, byte: u8) -> Result<(), NoMemory>
     ensures { OnOk result (out.new.items ≡ out.old.items ++ byte ∷ []) }
 {
-    match out.push(byte) {
-        Ok(()) => Ok(()),
-        Err(_) => Err(NoMemory),
-    }
+    out.push(byte)?;
+    Ok(())
 }
 
 /// A text between quotes, with each quote in it twice.

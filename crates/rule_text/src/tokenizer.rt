@@ -59,8 +59,6 @@ fn take(
         token,
         place,
     };
-    match tokens.push(taken) {
-        Ok(()) => Ok(after),
-        Err(_) => Err(RuleFault::NoMemory),
-    }
+    tokens.push(taken)?;
+    Ok(after)
 }

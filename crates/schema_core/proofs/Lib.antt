@@ -3,3 +3,4 @@ pub mod Keys
 pub mod Strings
 pub mod Attributes
 pub mod Sound
+pub mod Causes

@@ -14,7 +14,7 @@ use std::alloc::Global;
 use toml::{Table, Value};
 
 /// The document that the bytes write.
-pub fn parse(alloc: Global, bytes: &[u8]) -> Result<Table, SchemaFault>
+pub(crate) fn parse(alloc: Global, bytes: &[u8]) -> Result<Table, SchemaFault>
     ensures document { IfOk result (λ table. document_of bytes.now ≡ Some (table_view table)) }
     ensures fault { IfErr result (λ fault. fault ≢ SchemaFault.NoMemory
         → (fault ≡ SchemaFault.NotToml) × (document_of bytes.now ≡ None)) }
@@ -27,7 +27,7 @@ pub fn parse(alloc: Global, bytes: &[u8]) -> Result<Table, SchemaFault>
 }
 
 /// The schema of a document.
-pub fn schema_of(alloc: Global, table: &Table) -> Result<Schema, SchemaFault>
+pub(crate) fn schema_of(alloc: Global, table: &Table) -> Result<Schema, SchemaFault>
     ensures schema { IfOk result (λ schema.
         schema_of_document (table_view table.now) ≡ Ok schema) }
     ensures fault { IfErr result (λ fault. fault ≢ SchemaFault.NoMemory

@@ -3,30 +3,41 @@ ghost use Rattle.std.specs.Prelude.{◌≡◌, ℕ, IfOk, None};
 ghost use Rattle.desk_base.specs.Faults.{HasCause};
 
 use crate::ends::{TcpSink, TcpSource};
-use desk_base::{Both, Failed};
+use desk_base::{Both, Failed, FaultCount};
 use desk_links::Listener;
 use std::io;
-use std::io::ErrorKind;
 use std::marker::Model;
 use std::net::{Ipv4Addr, OpenListener, TcpListener};
+
+/// A port that is listened at, and how many links were handed out since.
+#[derive(Drop)]
+struct Bound {
+    listener: TcpListener,
+    port: u16,
+    accepted: u32,
+}
 
 /// A door on a port of 127.0.0.1. It tells nothing of the bytes of its peers.
 #[derive(Drop)]
 pub struct TcpDoor<'r> {
     rt: &'r HostRuntime,
-    listener: Option<TcpListener>,
-    port: Option<u16>,
-    accepted: Option<u32>,
+    bound: Option<Bound>,
     live: u32,
-    faults: u64,
+    faults: FaultCount,
 }
 
 impl<'r> Model for TcpDoor<'r> {
+    ghost use Rattle.std.specs.Prelude.{option_map};
     ghost use Rattle.tcp_door.specs.Tcp.{TcpSeen};
 
     ghost Value = { TcpSeen };
 
-    ghost view = { λ d. record { port = d.port; accepted = d.accepted; live = d.live; faults = d.faults } };
+    ghost view = { λ d. record {
+      port = option_map (λ bound. bound.port) d.bound;
+      accepted = option_map (λ bound. bound.accepted) d.bound;
+      live = d.live;
+      faults = d.faults;
+    } };
 }
 
 impl<'r> TcpDoor<'r> {
@@ -36,26 +47,24 @@ impl<'r> TcpDoor<'r> {
     {
         TcpDoor {
             rt,
-            listener: None,
-            port: None,
-            accepted: None,
+            bound: None,
             live: 0,
-            faults: 0,
+            faults: FaultCount::at(0),
         }
     }
+}
 
-    /// Waits for the next peer.
-    fn connect(&self) -> io::Result<Both<TcpSource<'r>, TcpSink<'r>>>
-        ensures { IfOk result (λ link. (link.source ≡ 0) × (link.sink ≡ 0)) }
-    {
-        let Some(listener) = &self.listener else {
-            return Err(io::Error::from(ErrorKind::NotConnected));
-        };
-        let (stream, _) = listener.accept()?;
-        let sink = TcpSink::new(self.rt, stream.try_clone()?);
-        let source = TcpSource::new(self.rt, stream);
-        Ok(Both { source, sink })
-    }
+/// Waits for the next peer.
+fn connect<'r>(
+    rt: &'r HostRuntime,
+    listener: &TcpListener,
+) -> io::Result<Both<TcpSource<'r>, TcpSink<'r>>>
+    ensures { IfOk result (λ link. (link.source ≡ 0) × (link.sink ≡ 0)) }
+{
+    let (stream, _) = listener.accept()?;
+    let sink = TcpSink::new(rt, stream.try_clone()?);
+    let source = TcpSource::new(rt, stream);
+    Ok(Both { source, sink })
 }
 
 impl<'r> Listener for TcpDoor<'r> {
@@ -80,30 +89,32 @@ impl<'r> Listener for TcpDoor<'r> {
     fn bind(&mut self, number: u16) -> Result<(), Failed> {
         match TcpListener::bind(self.rt, (Ipv4Addr::LOCALHOST, number)) {
             Ok(listener) => {
-                self.listener = Some(listener);
-                self.port = Some(number);
-                self.accepted = Some(0);
+                self.bound = Some(Bound {
+                    listener,
+                    port: number,
+                    accepted: 0,
+                });
                 Ok(())
             }
             Err(_) => {
-                self.faults = self.faults.saturating_add(1);
+                self.faults.rise();
                 Err(Failed)
             }
         }
     }
 
     fn accept(&mut self) -> Result<Both<TcpSource<'r>, TcpSink<'r>>, Failed> {
-        let Some(count) = self.accepted else {
+        let Some(bound) = &mut self.bound else {
             unreachable!()
         };
-        match self.connect() {
+        match connect(self.rt, &bound.listener) {
             Ok(link) => {
-                self.accepted = Some(count + 1);
+                bound.accepted += 1;
                 self.live = 1;
                 Ok(link)
             }
             Err(_) => {
-                self.faults = self.faults.saturating_add(1);
+                self.faults.rise();
                 Err(Failed)
             }
         }

@@ -4,7 +4,7 @@ ghost use Rattle.std.specs.Io.{ReadsAtMost, WritesAtMost};
 ghost use Rattle.desk_base.specs.Faults.{CountsFaults};
 
 use crate::deadline::Deadline;
-use desk_base::{Failed, Sink, Source};
+use desk_base::{Failed, FaultCount, Sink, Source};
 use std::io;
 use std::io::{Read, Write};
 use std::marker::Model;
@@ -28,7 +28,7 @@ pub struct TcpSource<'r> {
     rt: &'r HostRuntime,
     stream: TcpStream,
     deadline: Deadline,
-    faults: u64,
+    faults: FaultCount,
 }
 
 impl<'r> Model for TcpSource<'r> {
@@ -48,7 +48,7 @@ impl<'r> TcpSource<'r> {
             rt,
             stream,
             deadline: Deadline::after(WAIT),
-            faults: 0,
+            faults: FaultCount::at(0),
         }
     }
 
@@ -61,8 +61,8 @@ impl<'r> TcpSource<'r> {
         self.stream.read(buf)
     }
 
-    /// Takes what the peer still sends, until it closes its side, it fails, the time is over or 16,777,216 bytes were taken:
-    /// a socket that is closed with bytes unread takes back what was written to it.
+    /// Takes what the peer still sends, until it closes its side, it fails, the time is over or 16,777,216 bytes were
+    /// taken: a socket that is closed with bytes unread takes back what was written to it.
     pub(crate) fn drain(mut self) {
         self.deadline = Deadline::after(LAST_WAIT);
         let mut piece = [0u8; PIECE];
@@ -90,7 +90,7 @@ impl<'r> Source for TcpSource<'r> {
         match self.read_in_time(buf) {
             Ok(count) => Ok(count),
             Err(_) => {
-                self.faults = self.faults.saturating_add(1);
+                self.faults.rise();
                 Err(Failed)
             }
         }
@@ -104,7 +104,7 @@ pub struct TcpSink<'r> {
     rt: &'r HostRuntime,
     stream: TcpStream,
     deadline: Deadline,
-    faults: u64,
+    faults: FaultCount,
 }
 
 impl<'r> Model for TcpSink<'r> {
@@ -124,7 +124,7 @@ impl<'r> TcpSink<'r> {
             rt,
             stream,
             deadline: Deadline::after(WAIT),
-            faults: 0,
+            faults: FaultCount::at(0),
         }
     }
 
@@ -157,7 +157,7 @@ impl<'r> Sink for TcpSink<'r> {
         match self.write_in_time(piece) {
             Ok(count) if count > 0 => Ok(count),
             _ => {
-                self.faults = self.faults.saturating_add(1);
+                self.faults.rise();
                 Err(Failed)
             }
         }

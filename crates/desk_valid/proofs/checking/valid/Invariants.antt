@@ -1,6 +1,7 @@
 use Rattle.std.proofs.Common.{◌≤◌}
 use Rattle.desk_words.specs.Tables.{rows_of}
-use Rattle.desk_valid.specs.Damage.{Table, number_of}
+use Rattle.desk_valid.specs.declared.table.Table.{Table}
+use Rattle.desk_valid.specs.Damage.{number_of}
 use Rattle.desk_valid.specs.FirstDamaged.{IsWhole}
 use Rattle.desk_valid.proofs.checking.valid.Given as goal
 

@@ -13,8 +13,8 @@ returns-then-clerk-len-clause-lists g c = items_of-set_same c.args.lists.now.ite
 
 pub returns-then-clerk-len-clause-places : goal.returns-then-clerk-len-clause-places
 returns-then-clerk-len-clause-places g c = λ named have.
-    OnOk-then c.reserve.result (λ enough. HasPlaces-named c.args.lists.now c.args.clerk c.reserve.new.self named
-    c.args.count enough have) c.reserve.ensures.reserved
+    OnOk-then c.reserve.result (λ made. HasPlaces-named c.args.lists.now c.args.clerk c.reserve.new.self named
+    c.args.count (omega (arith, made)) have) c.reserve.ensures.reserved
 
 pub returns-clause-places : goal.returns-clause-places
 returns-clause-places g c = λ named have.

@@ -28,6 +28,7 @@ places-preserved c =
     let field : List ℕ = c.in-Some.field.now in
     let here : Some field ≡ field_at fields place = rw c.in-Some.is at c.get.ensures.value in
     let short : length field ≤ MAX_TEXT = search rules in
-    let next = c.places.invariant ∙ ap (cells_fault c.args.row (place + 1)) (drop-field_at fields place field (sym here))
+    let next = c.places.invariant
+    ∙ ap (cells_fault c.args.row (place + 1)) (drop-field_at fields place field (sym here))
     ∙ cells_fault-next c.args.row (place + 1) field (drop (suc place) fields) short in
     next ∙ ap (λ n. cells_fault c.args.row (place + 1 + 1) (drop n fields)) (sym (add-one place))

@@ -6,7 +6,7 @@ returns-clause-valid c =
     rw (
       c.in_ok-rules.ensures.rules,
       c.in_ok-grids.ensures,
-      c.in_ok-flags.ensures,
+      c.in_ok-flags.ensures.flags,
       c.len-width.ensures,
       c.as_slice.ensures,
     )

@@ -1,6 +1,0 @@
-use Rattle.desk_base.proofs.Distinct.{DifferBefore}
-use Rattle.desk_valid.proofs.attributes.are_apart.Given as goal
-
--- each attribute so far differs from all behind it
-abbrev pub invariant-attributes : goal.invariant-attributes
-invariant-attributes l = DifferBefore (λ attribute. attribute) l.attributes l.place
