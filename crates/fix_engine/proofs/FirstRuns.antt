@@ -68,7 +68,7 @@ IsBegun-completed kit old new runs before valid fits completed empty second save
     let ends : new ≡ end_of kit old runs.first.items = rw run_is completed.ends in
     let typed : new.typed ≡ old.typed = ap (λ (s : State). s.typed) ends ∙ typed-end_of kit old runs.first.items in
     let first : IsFirstRun kit old runs.first.items = rw run_is completed.first in
-    let fits_there : Fits kit new = rw ends (Fits-end_of kit valid old runs.first.items fits first.maximal.0) in
+    let fits_there : Fits kit new = rw ends (Fits-end_of kit valid old runs.first.items fits first.holds.0) in
     record {
       valid = valid;
       first = first;

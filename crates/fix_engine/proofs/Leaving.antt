@@ -119,7 +119,7 @@ module _ (kit : Kit) (end : State) (leads : List Lead) (final : IsFinal kit end)
       let leaves = leaving_row-leaves kit end place row (get_or leads place Nothing) (known.each place within) is in
       let first : Step = record { rule = place; row = row } in
       record {
-        dissents = record {
+        holds = record {
           rule_within = within;
           enabled = leaves.0;
           covered = covered_there first within leaves.0 leaves.1;

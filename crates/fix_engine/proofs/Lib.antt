@@ -10,3 +10,6 @@ pub mod Truth
 pub mod Known
 pub mod FirstRuns
 pub mod SecondRuns
+pub mod Lists
+pub mod Twins
+pub mod Rows

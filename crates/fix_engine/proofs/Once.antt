@@ -1,13 +1,14 @@
--- The least of a set is one.
-use Rattle.std.proofs.Common.{◌≡◌, ◌⊎◌, ◌↔◌, ◌∙◌, List, [], ◌∷◌, inl, inr, sym, arith, refl}
+-- There is one least at most.
+use Rattle.std.proofs.Common.{◌≡◌, ◌↔◌, ◌∙◌, List, [], ◌∷◌, inl, inr, sym, arith, refl}
 use Rattle.std.specs.Prelude.{Bool, IsTrue, true, false, Option, Some, None}
 use Rattle.fix_model.specs.declared.kit.Kit.{Kit}
 use Rattle.fix_model.specs.declared.state.State.{State}
 use Rattle.fix_model.specs.declared.state.Step.{Step}
 use Rattle.fix_model.specs.FirstRun.{IsFirstRun}
-use Rattle.fix_model.specs.Fix.{IsConflict, IsDissent, IsFix, IsSecondRun}
+use Rattle.fix_model.specs.Fix.{Differs, Dissents, IsConflict, IsDissent, IsFix, IsSecondRun}
+use Rattle.fix_model.specs.Least.{IsLeast}
 use Rattle.fix_model.specs.Order.{IsBefore, IsRunBefore}
-use Rattle.fix_model.specs.Run.{end_of}
+use Rattle.fix_model.specs.Run.{IsMaximalRun, end_of}
 use Rattle.fix_engine.specs.declared.verdict.Verdict.{Verdict}
 use Rattle.fix_engine.specs.declared.verdict.Verdict.TheVariants.{Fix, Conflict}
 use Rattle.fix_engine.specs.Verdicts.{IsAnswer}
@@ -36,19 +37,17 @@ IsRunBefore-asymmetric (step ∷ rest) (other ∷ others) (inr one) (inl two) =
 IsRunBefore-asymmetric (step ∷ rest) (other ∷ others) (inr one) (inr two) =
     IsRunBefore-asymmetric rest others one.1 two.1
 
--- two runs neither of which comes behind the other are one
-same_run : (run other : List Step) → (run ≡ other) ⊎ IsRunBefore run other → (other ≡ run) ⊎ IsRunBefore other run
-    → run ≡ other
-same_run run other (inl same) two = same
-same_run run other (inr one) (inl same) = sym same
-same_run run other (inr one) (inr two) = absurd (IsRunBefore-asymmetric run other one two)
-
--- and so are two such steps
-same_step : (step other : Step) → (step ≡ other) ⊎ IsBefore step other → (other ≡ step) ⊎ IsBefore other step
-    → step ≡ other
-same_step step other (inl same) two = same
-same_step step other (inr one) (inl same) = sym same
-same_step step other (inr one) (inr two) = absurd (IsBefore-asymmetric step other one two)
+-- there is one least at most, in an order in which no two come before one another
+IsLeast-unique : {T : Type 0} (IsBefore : T → T → Type 0) (IsKind : T → Type 0)
+    → ((one other : T) → IsBefore one other → ¬ IsBefore other one) → (it other : T) → IsLeast IsBefore IsKind it
+    → IsLeast IsBefore IsKind other → it ≡ other
+IsLeast-unique IsBefore IsKind apart it other one two = elim (one.least other two.holds) [
+  | inl same ↦ same
+  | inr before ↦ elim (two.least it one.holds) [
+    | inl same ↦ sym same
+    | inr behind ↦ absurd (apart it other before behind)
+  ]
+]
 
 -- two flags that say the same are one
 same_flag : {P : Type 0} (flag other : Bool) → IsTrue flag ↔ P → IsTrue other ↔ P → flag ≡ other
@@ -60,29 +59,29 @@ same_flag false false one two = refl
 module _ (kit : Kit) (state : State) where
   -- there is one first run at most
   pub IsFirstRun-unique : (run other : List Step) → IsFirstRun kit state run → IsFirstRun kit state other → run ≡ other
-  IsFirstRun-unique run other one two = same_run run other (one.least other two.maximal) (two.least run one.maximal)
+  IsFirstRun-unique = IsLeast-unique IsRunBefore (IsMaximalRun kit state) IsRunBefore-asymmetric
 
   -- there is one second run at most
   pub IsSecondRun-unique : (first run other : List Step) → IsSecondRun kit state first run
       → IsSecondRun kit state first other → run ≡ other
-  IsSecondRun-unique first run other one two =
-      same_run run other (one.least other two.maximal two.differs) (two.least run one.maximal one.differs)
+  IsSecondRun-unique first = IsLeast-unique IsRunBefore (Differs kit state first) IsRunBefore-asymmetric
 
   -- there is one dissent at most
   pub IsDissent-unique : (dissent other : Option Step) → IsDissent kit state dissent → IsDissent kit state other
       → dissent ≡ other
   IsDissent-unique None None one two = refl
-  IsDissent-unique None (Some step) one two = absurd (one step two.dissents)
-  IsDissent-unique (Some step) None one two = absurd (two step one.dissents)
+  IsDissent-unique None (Some step) one two = absurd (one step two.holds)
+  IsDissent-unique (Some step) None one two = absurd (two step one.holds)
   IsDissent-unique (Some step) (Some other) one two =
-      let same = same_step step other (one.least other two.dissents) (two.least step one.dissents) in cc
+      let same = IsLeast-unique IsBefore (Dissents kit state) IsBefore-asymmetric step other one two in cc
 
   -- where the fix is unique nothing ends in another record
   pub IsFix-no_conflict : {certain : Bool} (first : List Step) (dissent : Option Step)
       → IsFix kit state first certain dissent → (run other : List Step) → ¬ IsConflict kit state run other
   IsFix-no_conflict first dissent fix run other conflict =
       let same = IsFirstRun-unique first run fix.is_first conflict.is_first in
-      conflict.is_second.differs (rw (← same) (fix.unique other conflict.is_second.maximal))
+      let apart = conflict.is_second.holds in
+      apart.differs (rw (← same) (fix.unique other apart.maximal))
 
 -- two answers are one
 pub IsAnswer-unique : (kit : Kit) (state : State) (verdict other : Verdict)

@@ -187,7 +187,7 @@ module _ (kit : Kit) (valid : IsValid kit) (state : State) (fits : Fits kit stat
       → Obeys kit texts → texts ≡ record_of kit (end_of kit state first)
   only_record fix texts agrees obeys =
       let end = end_of kit state first in
-      let there = RecordAgrees-end_of kit valid texts obeys state first fits fix.is_first.maximal.0 agrees in
+      let there = RecordAgrees-end_of kit valid texts obeys state first fits fix.is_first.holds.0 agrees in
       let all : AreAllCovered kit end = fix.is_certain.0 refl in
       ext_get_or [] texts (record_of kit end) (agrees.width ∙ sym (length-record_of kit end)) (λ attribute h.
       let within : attribute < kit.width = rw agrees.width at h in

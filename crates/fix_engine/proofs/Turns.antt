@@ -26,8 +26,8 @@ use Rattle.fix_engine.specs.declared.second_run.Turn.{Turn}
 use Rattle.fix_engine.specs.Departures.{AreDepartures, EndsElsewhere, IsLedTo, Keeps, Supports}
 use Rattle.fix_engine.specs.Flags.{IsFlagged}
 use Rattle.fix_engine.specs.Leads.{IsLead}
-use Rattle.fix_engine.specs.Turns.{CanDepartSomewhere, IsLeastElsewhere, IsLeastOf, IsLeastOfAll, IsLeftFrom}
-use Rattle.fix_engine.specs.Turns.{IsPassed, IsTurn}
+use Rattle.fix_engine.specs.Turns.{CanDepartSomewhere, IsElsewhere, IsLeastElsewhere, IsLeastOf, IsLeastOfAll}
+use Rattle.fix_engine.specs.Turns.{IsLeftFrom, IsPassed, IsTurn}
 use Rattle.fix_engine.proofs.Departures.{CanDepart-elsewhere, CanDepart-step, IsLedTo-after, elsewhere-behind}
 use Rattle.fix_engine.proofs.Departures.{elsewhere-exists, stays_there}
 use Rattle.fix_engine.proofs.Ends.{IsEnabled-inside, RowAgrees-inside}
@@ -242,20 +242,20 @@ module _ (kit : Kit) (valid : IsValid kit) (end : State) (leads : List Lead) (st
 
   -- behind the least step the least run from there is the least
   least_behind : (step : Step) (rest : List Step) → IsLeastOfAll kit end state step
-      → ((other : List Step) → IsMaximalRun kit (after kit state step) other
-      → EndsElsewhere kit end (after kit state step) other → (rest ≡ other) ⊎ IsRunBefore rest other)
-      → (other : List Step) → IsMaximalRun kit state other → EndsElsewhere kit end state other
+      → ((other : List Step) → IsElsewhere kit end (after kit state step) other
+      → (rest ≡ other) ⊎ IsRunBefore rest other)
+      → (other : List Step) → IsElsewhere kit end state other
       → ((step ∷ rest) ≡ other) ⊎ IsRunBefore (step ∷ rest) other
-  least_behind step rest least then [] maximal elsewhere =
-      absurd (elsewhere (stays_there kit valid end leads state fits led maximal.1))
-  least_behind step rest least then (next ∷ others) maximal elsewhere = elim (least next others maximal elsewhere) [
+  least_behind step rest least then [] is =
+      absurd (is.elsewhere (stays_there kit valid end leads state fits led is.maximal.1))
+  least_behind step rest least then (next ∷ others) is = elim (least next others is.maximal is.elsewhere) [
     | inr before ↦ inr (inl before)
     | inl same ↦
         let there : IsMaximalRun kit (after kit state step) others =
-        subst (λ (x : Step). IsMaximalRun kit (after kit state x) others) (sym same) (maximal.0.1, maximal.1) in
+        subst (λ (x : Step). IsMaximalRun kit (after kit state x) others) (sym same) (is.maximal.0.1, is.maximal.1) in
         let apart : EndsElsewhere kit end (after kit state step) others =
-        subst (λ (x : Step). EndsElsewhere kit end (after kit state x) others) (sym same) elsewhere in
-        elim (then others there apart) [
+        subst (λ (x : Step). EndsElsewhere kit end (after kit state x) others) (sym same) is.elsewhere in
+        elim (then others (record { maximal = there; elsewhere = apart })) [
           | inl equal ↦ inl (rw (same, equal) refl)
           | inr before ↦ inr (inr (same, before))
         ]
@@ -265,8 +265,10 @@ module _ (kit : Kit) (valid : IsValid kit) (end : State) (leads : List Lead) (st
   pub IsLeastElsewhere-keeps : (step : Step) (rest : List Step) → Fires kit state step → IsLeastOfAll kit end state step
       → IsLeastElsewhere kit end (after kit state step) rest → IsLeastElsewhere kit end state (step ∷ rest)
   IsLeastElsewhere-keeps step rest fires least next = record {
-    maximal = ((fires, next.maximal.0), next.maximal.1);
-    elsewhere = next.elsewhere;
+    holds = record {
+      maximal = ((fires, next.holds.maximal.0), next.holds.maximal.1);
+      elsewhere = next.holds.elsewhere;
+    };
     least = least_behind step rest least next.least;
   }
 
@@ -275,9 +277,11 @@ module _ (kit : Kit) (valid : IsValid kit) (end : State) (leads : List Lead) (st
       → IsLeastOfAll kit end state step → ¬ Keeps kit end step → IsFirstRun kit (after kit state step) rest
       → IsLeastElsewhere kit end state (step ∷ rest)
   IsLeastElsewhere-departs step rest fires least departs first = record {
-    maximal = ((fires, first.maximal.0), first.maximal.1);
-    elsewhere = elsewhere-behind kit valid end state [] rest step fits tt fires departs first.maximal.0;
-    least = least_behind step rest least (λ other maximal elsewhere. first.least other maximal);
+    holds = record {
+      maximal = ((fires, first.holds.0), first.holds.1);
+      elsewhere = elsewhere-behind kit valid end state [] rest step fits tt fires departs first.holds.0;
+    };
+    least = least_behind step rest least (λ other is. first.least other is.maximal);
   }
 
 -- it is still one behind a turn that keeps to it, which takes the head out of the departures

@@ -5,7 +5,7 @@ use Rattle.fix_model.specs.declared.kit.Kit.{Kit}
 use Rattle.fix_model.specs.declared.state.State.{State}
 use Rattle.fix_model.specs.declared.state.Step.{Step}
 use Rattle.fix_model.specs.FirstRun.{IsFirstRun}
-use Rattle.fix_model.specs.Fix.{AreAllCovered, IsConflict, IsDissent, IsFix, SomeRunDiffers}
+use Rattle.fix_model.specs.Fix.{AreAllCovered, Differs, IsConflict, IsDissent, IsFix, SomeRunDiffers}
 use Rattle.fix_model.specs.Run.{IsFinal, IsMaximalRun, end_of}
 use Rattle.fix_model.specs.States.{Fits, record_of}
 use Rattle.fix_model.specs.Valid.{IsValid}
@@ -83,9 +83,9 @@ module _ (kit : Kit) (valid : IsValid kit) (state : State) (fits : Fits kit stat
   IsConflict-elsewhere second is_first least = record {
     is_first = is_first;
     is_second = record {
-      maximal = least.maximal;
-      differs = λ same. least.elsewhere (sym same);
-      least = λ other maximal differs. least.least other maximal (λ same. differs (sym same));
+      holds = record { maximal = least.holds.maximal; differs = λ same. least.holds.elsewhere (sym same) };
+      least = λ other apart.
+          least.least other (record { maximal = apart.maximal; elsewhere = λ same. apart.differs (sym same) });
     };
   }
 
@@ -95,7 +95,7 @@ module _ (kit : Kit) (old new : State) (runs : Runs) (leads : List Lead)
   -- the state from which it was made leads to its end
   pub IsLedTo-begun : IsLedTo kit old new leads
   IsLedTo-begun = subst (λ (end : State). IsLedTo kit old end leads) (sym begun.ends)
-      (IsLedTo-first kit begun.valid old fits runs.first.items leads begun.first.maximal
+      (IsLedTo-first kit begun.valid old fits runs.first.items leads begun.first.holds
       (subst (λ (end : State). AreLeads kit end leads) begun.ends known))
 
   -- the flags that were found from the state as it was before
@@ -108,7 +108,7 @@ module _ (kit : Kit) (old new : State) (runs : Runs) (leads : List Lead)
 
   -- nothing fires at its end
   pub IsFinal-begun : IsFinal kit new
-  IsFinal-begun = subst (IsFinal kit) (sym begun.ends) begun.first.maximal.1
+  IsFinal-begun = subst (IsFinal kit) (sym begun.ends) begun.first.holds.1
 
   -- where no attribute is flagged, the fix is unique
   pub IsFix-begun : (certain : Bool) (dissent : Option Step) (flags : List Bool) → AreDepartures kit new old flags
@@ -126,11 +126,11 @@ module _ (kit : Kit) (old new : State) (runs : Runs) (leads : List Lead)
       → (attribute : ℕ) × IsFlagged flags attribute → SomeRunDiffers kit old runs.first.items
   SomeRunDiffers-begun flags departures some =
       let found = elsewhere-exists kit begun.valid new old some.0 fits ((departures.each some.0).0 some.1) in
-      record {
-        other = found.0;
+      let apart : Differs kit old runs.first.items found.0 = record {
         maximal = found.1.0;
         differs = λ same. found.1.1 (sym same ∙ ap (record_of kit) (sym begun.ends));
-      }
+      } in
+      (found.0, apart)
 
   -- where some maximal run ends in another record, a run can depart from the end
   pub IsLeftFrom-begun : (flags there : List Bool) → AreDepartures kit new old flags → there ≡ flags
@@ -139,8 +139,8 @@ module _ (kit : Kit) (old new : State) (runs : Runs) (leads : List Lead)
       let left : IsLeftFrom kit old new leads flags = record {
         led = IsLedTo-begun;
         departures = departures;
-        somewhere = CanDepart-elsewhere kit begun.valid new leads old some.other fits IsLedTo-begun some.maximal
-            (λ alike. some.differs (ap (record_of kit) (sym begun.ends) ∙ sym alike));
+        somewhere = CanDepart-elsewhere kit begun.valid new leads old some.0 fits IsLedTo-begun some.1.maximal
+            (λ alike. some.1.differs (ap (record_of kit) (sym begun.ends) ∙ sym alike));
       } in
       rw same left
 

@@ -90,7 +90,8 @@ pub record GoesOn (flags : List Bool) (left_out : ℕ) (rule : Rule) : Type 0 wh
   pub unflagged : ¬ IsFlagged flags rule.head
   pub flagged : HasFlags flags rule
 
--- so it is with the rule at this place, which supports the end
+-- the rule at this place supports the end, its keys and conditions are flagged, and its head is neither flagged nor
+-- left out
 pub record IsNextRule (kit : Kit) (leads : List Lead) (flags : List Bool) (left_out place : ℕ) : Type 0 where
   pub keeps : is_keeping (slice_index_or leads place Nothing) ≡ true
   pub goes_on : GoesOn flags left_out (rule_at kit place)
@@ -100,11 +101,11 @@ pub record LeavesBy (kit : Kit) (leads : List Lead) (attribute place : ℕ) : Ty
   pub head : (rule_at kit place).head ≡ attribute
   pub leaves : IsSome (leaving_row (slice_index_or leads place Nothing))
 
--- some rule does so
+-- some rule with this head has a row that gives it another value than it has at the end
 abbrev pub IsLeftSomehow : Kit → List Lead → ℕ → Type 0
 IsLeftSomehow kit leads attribute = (place : ℕ) × (place < length kit.rules) × LeavesBy kit leads attribute place
 
--- some rule does so whose keys and conditions are flagged
+-- such a rule has flagged keys and conditions
 abbrev pub IsLeft : Kit → List Lead → List Bool → ℕ → Type 0
 IsLeft kit leads flags attribute =
     (place : ℕ) × (place < length kit.rules) × (LeavesBy kit leads attribute place × HasFlags flags (rule_at kit place))

@@ -5,18 +5,21 @@ use Rattle.fix_model.specs.declared.state.State.{State}
 use Rattle.fix_model.specs.declared.state.Step.{Step}
 use Rattle.fix_model.specs.Application.{Fires, after}
 use Rattle.fix_model.specs.FirstRun.{IsFirstRun}
+use Rattle.fix_model.specs.Least.{IsLeast}
 use Rattle.fix_model.specs.Order.{IsBefore, IsRunBefore}
 use Rattle.fix_model.specs.Run.{IsMaximalRun, end_of}
 use Rattle.fix_engine.specs.declared.leads.Lead.{Lead}
 use Rattle.fix_engine.specs.declared.second_run.Turn.{Turn}
 use Rattle.fix_engine.specs.Departures.{AreDepartures, CanDepart, EndsElsewhere, IsLedTo, Keeps, Supports}
 
--- the run is maximal and ends in another record than the end, and comes before every other such run
-pub record IsLeastElsewhere (kit : Kit) (end state : State) (run : List Step) : Type 0 where
+-- the run is maximal, and ends in another record than the end
+pub record IsElsewhere (kit : Kit) (end state : State) (run : List Step) : Type 0 where
   pub maximal : IsMaximalRun kit state run
   pub elsewhere : EndsElsewhere kit end state run
-  pub least : (other : List Step) → IsMaximalRun kit state other → EndsElsewhere kit end state other
-      → (run ≡ other) ⊎ IsRunBefore run other
+
+-- the run is the least of those that end elsewhere
+abbrev pub IsLeastElsewhere : Kit → State → State → List Step → Type 0
+IsLeastElsewhere kit end state = IsLeast IsRunBefore (IsElsewhere kit end state)
 
 -- some attribute can be departed at
 abbrev pub CanDepartSomewhere : Kit → State → State → Type 0

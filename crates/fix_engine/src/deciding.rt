@@ -13,8 +13,8 @@ use fix_model::{Book, State};
 
 /// Judges whether every maximal run from the state ends in the record in which the first run ends. It leaves the
 /// first run in the work, and no second, at a conflict too: `decide` makes that one. Only rules whose keys and
-/// conditions are covered at the end of the first run are looked up, each once at most. It takes no memory, and
-/// gives the state back as it was.
+/// conditions are covered at the end of the first run are looked up, each once at most. It succeeds whatever memory
+/// there is, and gives the state back as it was.
 pub fn judge<L, B: Book<L>>(
     work: &mut Work,
     book: &B,
@@ -35,8 +35,8 @@ pub fn judge<L, B: Book<L>>(
 
 /// Decides whether every maximal run from the state ends in the record in which the first run ends. It leaves
 /// the first run in the work, and at a conflict the second: the least maximal run that ends in another record.
-/// At a fix no second run is left. Each rule is looked up at most twice, whatever the orders are. It takes no
-/// memory, and gives the state back as it was.
+/// At a fix no second run is left. Each rule is looked up at most twice, whatever the orders are. It succeeds
+/// whatever memory there is, and gives the state back as it was.
 pub fn decide<L, B: Book<L>>(
     work: &mut Work,
     book: &B,

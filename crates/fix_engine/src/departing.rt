@@ -80,8 +80,8 @@ impl Leads {
         self.is_left(reach, book, attribute)
     }
 
-    /// Whether some rule with this head, whose keys and conditions are flagged, has a row that gives it another value than
-    /// it has at the end.
+    /// Whether some rule with this head, whose keys and conditions are flagged, has a row that gives it another value
+    /// than it has at the end.
     fn is_left<L, B: Book<L>>(&self, flags: &[bool], book: &B, attribute: u16) -> bool
         ensures { MatchBool result (IsLeft (B.kit book.now) self.now.leads.items flags.now attribute)
             (¬ IsLeft (B.kit book.now) self.now.leads.items flags.now attribute) }

@@ -15,7 +15,7 @@ use desk_base::Steps;
 use fix_model::{Book, Hit, State, Step, enabled};
 
 /// Leaves the first run from the state: of all maximal runs the least, by rule and then row. Each rule is
-/// looked up at most once. It takes no memory, and gives the state back as it was.
+/// looked up at most once. It succeeds whatever memory there is, and gives the state back as it was.
 pub fn least<L, B: Book<L>>(work: &mut Work, book: &B, state: &mut State, counts: &mut Steps<L>)
     requires fits { Fits (B.kit book.now) state.old }
     requires room { IsRoomFor work.old (B.kit book.now) }

@@ -1,9 +1,10 @@
 //! Sets of attributes, as a flag for each.
-ghost use Rattle.std.specs.Prelude.{◌≡◌, ◌≢◌, ◌≤◌, ◌↔◌, ℕ, All, length, map, replicate, false, IsTrue, MatchBool, vec_capacity};
+ghost use Rattle.std.specs.Prelude.{◌≡◌, ◌≢◌, ◌≤◌, ◌↔◌, ℕ, All, length, map, replicate, false, IsTrue};
+ghost use Rattle.std.specs.Prelude.{MatchBool, vec_capacity};
 ghost use Rattle.fix_model.specs.States.{is_covering};
 ghost use Rattle.fix_engine.specs.Flags.{HasFlags, IsFlagged};
 
-use fix_model::{Cell, Rule, State};
+use fix_model::{Rule, State};
 
 /// Flags none of so many attributes.
 pub fn flag_none(flags: &mut Vec<bool>, width: u16)
@@ -23,16 +24,7 @@ pub fn flag_covered(flags: &mut Vec<bool>, state: &State)
 {
     flags.clear();
     'cells: for cell in state.cells.as_slice() {
-        flags.push(is_covering(*cell)).unwrap();
-    }
-}
-
-fn is_covering(cell: Cell) -> bool
-    ensures { result ≡ is_covering cell }
-{
-    match cell {
-        Cell::Uncovered => false,
-        Cell::Confirmed | Cell::Fixed(_) => true,
+        flags.push(cell.is_covering()).unwrap();
     }
 }
 

@@ -46,8 +46,8 @@ impl Looks {
         }
     }
 
-    /// What a look for the rule finds. It is made where it was not made yet, for this rule or another that shares it, and
-    /// remembered for all of these.
+    /// What a look for the rule finds. It is made where it was not made yet, for this rule or another that shares it,
+    /// and remembered for all of these.
     pub(crate) fn look_up<L, B: Book<L>>(
         &mut self,
         book: &B,

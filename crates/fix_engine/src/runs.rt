@@ -74,7 +74,7 @@ impl Runs {
     }
 }
 
-/// Makes the steps of a run, one after the other. It takes no memory.
+/// Makes the steps of a run, one after the other. It succeeds whatever memory there is.
 pub fn apply<L, B: Book<L>>(book: &B, state: &mut State, run: &[Step])
     requires fits { Fits (B.kit book.now) state.old }
     requires run { IsRun (B.kit book.now) state.old run.now }

@@ -4,7 +4,8 @@ ghost use Rattle.fix_model.specs.declared.state.State.{State as StateOf};
 ghost use Rattle.fix_model.specs.States.{Fits, uncovered_count};
 ghost use Rattle.fix_model.specs.Valid.{IsValid};
 ghost use Rattle.fix_engine.specs.Departures.{AreDepartures, IsLedTo};
-ghost use Rattle.fix_engine.specs.Turns.{BeginsElsewhere, CanDepartSomewhere, IsLeastOf, IsLeastOfAll, IsLeftFrom, IsPassed, IsTurn};
+ghost use Rattle.fix_engine.specs.Turns.{BeginsElsewhere, CanDepartSomewhere, IsLeastOf, IsLeastOfAll};
+ghost use Rattle.fix_engine.specs.Turns.{IsLeftFrom, IsPassed, IsTurn};
 
 use crate::flags::has_other;
 use crate::leads::{Lead, Leads};

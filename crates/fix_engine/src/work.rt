@@ -7,7 +7,7 @@ use fix_model::Step;
 use std::alloc::Global;
 use std::marker::Model;
 
-/// Room for the calls of the engine, which take no memory themselves.
+/// Room for the calls of the engine, which succeed whatever memory there is.
 #[derive(Debug, Drop)]
 pub struct Work {
     pub(crate) search: Search,

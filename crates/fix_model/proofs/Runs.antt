@@ -18,7 +18,7 @@ IsRunBefore-nil kit state final (step ∷ rest) maximal = absurd (final step max
 IsRunBefore-cons : (kit : Kit) (state : State) (step : Step) (rest : List Step) → IsLeastStep kit state step
     → IsFirstRun kit (after kit state step) rest → (other : List Step) → IsMaximalRun kit state other
     → ((step ∷ rest) ≡ other) ⊎ IsRunBefore (step ∷ rest) other
-IsRunBefore-cons kit state step rest least first [] maximal = absurd (maximal.1 step least.fires)
+IsRunBefore-cons kit state step rest least first [] maximal = absurd (maximal.1 step least.holds)
 IsRunBefore-cons kit state step rest least first (next ∷ others) maximal = elim (least.least next maximal.0.0) [
   | inr before ↦ inr (inl before)
   | inl same ↦
@@ -32,17 +32,15 @@ IsRunBefore-cons kit state step rest least first (next ∷ others) maximal = eli
 
 -- where nothing fires, the first run is empty
 pub IsFirstRun-nil : (kit : Kit) (state : State) → IsFinal kit state → IsFirstRun kit state []
-IsFirstRun-nil kit state final = record { maximal = (tt, final); least = IsRunBefore-nil kit state final }
+IsFirstRun-nil kit state final = record { holds = (tt, final); least = IsRunBefore-nil kit state final }
 
 -- where the least step is followed by the first run from there, that is the first run
 pub IsFirstRun-cons : (kit : Kit) (state : State) (step : Step) (rest : List Step) → IsLeastStep kit state step
     → IsFirstRun kit (after kit state step) rest → IsFirstRun kit state (step ∷ rest)
-IsFirstRun-cons kit state step rest least
-    first = record {
-      maximal = ((least.fires, first.maximal.0), first.maximal.1);
-      least = IsRunBefore-cons kit state
-          step rest least first;
-    }
+IsFirstRun-cons kit state step rest least first = record {
+  holds = ((least.holds, first.holds.0), first.holds.1);
+  least = IsRunBefore-cons kit state step rest least first;
+}
 
 -- a run goes on from the end of another
 pub IsRun-append : (kit : Kit) (state : State) (run rest : List Step) → IsRun kit state run

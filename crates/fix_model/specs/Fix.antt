@@ -1,10 +1,11 @@
 -- Whether the order of applications matters: a unique fix, or two runs that disagree.
-use Rattle.std.specs.Prelude.{◌≡◌, ◌≢◌, ◌⊎◌, ◌↔◌, ℕ, ◌<◌, Bool, IsTrue, List, length, Option, MatchOption}
+use Rattle.std.specs.Prelude.{◌≡◌, ◌≢◌, ◌↔◌, ℕ, ◌<◌, Bool, IsTrue, List, length, Option, MatchOption}
 use Rattle.fix_model.specs.declared.kit.Kit.{Kit}
 use Rattle.fix_model.specs.declared.state.State.{State}
 use Rattle.fix_model.specs.declared.state.Step.{Step}
 use Rattle.fix_model.specs.Application.{IsEnabled, RowAgrees}
 use Rattle.fix_model.specs.FirstRun.{IsFirstRun}
+use Rattle.fix_model.specs.Least.{IsLeast}
 use Rattle.fix_model.specs.Order.{IsBefore, IsRunBefore}
 use Rattle.fix_model.specs.Rules.{rule_at, step_text}
 use Rattle.fix_model.specs.Run.{IsMaximalRun, end_of}
@@ -14,12 +15,14 @@ use Rattle.fix_model.specs.States.{IsCovered, value_at, record_of}
 abbrev pub EndAlike : Kit → State → List Step → List Step → Type 0
 EndAlike kit state run other = record_of kit (end_of kit state run) ≡ record_of kit (end_of kit state other)
 
--- the second run: it is maximal and ends in another record than the first, and it comes before every other such run
-pub record IsSecondRun (kit : Kit) (state : State) (first second : List Step) : Type 0 where
-  pub maximal : IsMaximalRun kit state second
-  pub differs : ¬ EndAlike kit state first second
-  pub least : (other : List Step) → IsMaximalRun kit state other → (¬ EndAlike kit state first other)
-      → (second ≡ other) ⊎ IsRunBefore second other
+-- the run is maximal, and ends in another record than the first
+pub record Differs (kit : Kit) (state : State) (first run : List Step) : Type 0 where
+  pub maximal : IsMaximalRun kit state run
+  pub differs : ¬ EndAlike kit state first run
+
+-- the second run: the least of those that differ from the first
+abbrev pub IsSecondRun : Kit → State → List Step → List Step → Type 0
+IsSecondRun kit state first = IsLeast IsRunBefore (Differs kit state first)
 
 -- every attribute is covered
 abbrev pub AreAllCovered : Kit → State → Type 0
@@ -33,10 +36,9 @@ pub record Dissents (kit : Kit) (state : State) (step : Step) : Type 0 where
   pub agrees : RowAgrees kit (value_at kit state) (rule_at kit step.rule) step.row
   pub differs : step_text kit step ≢ value_at kit state (rule_at kit step.rule).head
 
--- the step dissents, and comes before every other that does
-pub record IsLeastDissent (kit : Kit) (state : State) (step : Step) : Type 0 where
-  pub dissents : Dissents kit state step
-  pub least : (other : Step) → Dissents kit state other → (step ≡ other) ⊎ IsBefore step other
+-- the step is the least of those that dissent
+abbrev pub IsLeastDissent : Kit → State → Step → Type 0
+IsLeastDissent kit state = IsLeast IsBefore (Dissents kit state)
 
 -- the least step that dissents, or none where no step does
 abbrev pub IsDissent : Kit → State → Option Step → Type 0
@@ -60,10 +62,8 @@ abbrev pub HasFix : Kit → State → Bool → Type 0
 HasFix kit state certain = (first : List Step) × (dissent : Option Step) × IsFix kit state first certain dissent
 
 -- some maximal run ends in another record than this run
-pub record SomeRunDiffers (kit : Kit) (state : State) (run : List Step) : Type 0 where
-  pub other : List Step
-  pub maximal : IsMaximalRun kit state other
-  pub differs : ¬ EndAlike kit state run other
+abbrev pub SomeRunDiffers : Kit → State → List Step → Type 0
+SomeRunDiffers kit state run = (other : List Step) × Differs kit state run other
 
 -- there is a conflict: some maximal run ends in another record than the first
 abbrev pub HasConflict : Kit → State → Type 0

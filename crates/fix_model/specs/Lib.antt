@@ -5,6 +5,7 @@ pub mod Entries
 pub mod FirstRun
 pub mod Fix
 pub mod Hit
+pub mod Least
 pub mod Obeys
 pub mod Order
 pub mod Pattern

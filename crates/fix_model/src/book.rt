@@ -20,7 +20,7 @@ pub struct Hit {
     pub other: Option<u32>,
 }
 
-/// A valid kit behind look-ups. Its calls take no memory.
+/// A valid kit behind look-ups. Its calls succeed whatever memory there is.
 pub trait Book<L> {
     /// The kit that is looked into.
     ghost kit: { Self → KitOf };
@@ -57,7 +57,8 @@ pub trait Book<L> {
         requires rule_within { rule < length (kit self.now).rules }
         requires fits { Fits (kit self.now) state.now }
         requires covered { All (λ key. IsCovered state.now key.0) (rule_at (kit self.now) rule).keys }
-        ensures found { IsFound (kit self.now) (value_at (kit self.now) state.now) (rule_at (kit self.now) rule) result }
+        ensures found { IsFound (kit self.now) (value_at (kit self.now) state.now)
+            (rule_at (kit self.now) rule) result }
         ensures looks { counts.new.looks ≡ min (counts.old.looks + 1) (2 ^ 64 - 1) }
         ensures compares { counts.old.compares ≤ counts.new.compares };
 
@@ -84,7 +85,7 @@ pub fn value<'a, L, B: Book<L>>(book: &'a B, state: &'a State, attribute: u16) -
 }
 
 /// Whether the keys and the conditions of a rule are covered, and each condition matches the value of its
-/// attribute. It takes no memory.
+/// attribute. It succeeds whatever memory there is.
 pub fn enabled<L, B: Book<L>>(book: &B, state: &State, rule: &Rule) -> bool
     requires fits { Fits (B.kit book.now) state.now }
     requires rule_valid { IsValidRule (B.kit book.now) rule.now }
@@ -102,7 +103,8 @@ pub fn covers_left_side(state: &State, rule: &Rule) -> bool
     has_covered_keys(state, rule) && has_covered_conds(state, rule)
 }
 
-fn has_covered_keys(state: &State, rule: &Rule) -> bool
+/// Whether the keys of a rule are covered.
+pub fn has_covered_keys(state: &State, rule: &Rule) -> bool
     ensures { IsTrue result ↔ All (λ key. IsCovered state.now key.0) rule.now.keys }
 {
     rule.keys.as_slice().iter().all(|key| state.covers(key.0))

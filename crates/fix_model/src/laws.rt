@@ -16,7 +16,8 @@ use crate::state::{State, Step};
 /// exactly where its row's cells equal the values and its conditions match by equality.
 pub fn plain(kit: &Kit, state: &State, step: Step)
     requires { IsUnfolded kit.now }
-    ensures alike { (attribute : ℕ) (one other : List ℕ) → AreAlike (is_folded kit.now attribute) one other ↔ (one ≡ other) }
+    ensures alike { (attribute : ℕ) (one other : List ℕ)
+        → AreAlike (is_folded kit.now attribute) one other ↔ (one ≡ other) }
     ensures fires { Fires kit.now state.now step ↔ FiresExactly kit.now state.now step }
 {}
 
@@ -25,7 +26,8 @@ pub fn covered_values_stay(kit: &Kit, state: &State, run: &[Step], attribute: u1
     requires run { IsRun kit.now state.now run.now }
     requires covered { IsCovered state.now attribute }
     ensures covered { IsCovered (end_of kit.now state.now run.now) attribute }
-    ensures value { value_at kit.now (end_of kit.now state.now run.now) attribute ≡ value_at kit.now state.now attribute }
+    ensures value { value_at kit.now (end_of kit.now state.now run.now) attribute
+        ≡ value_at kit.now state.now attribute }
 {}
 
 /// A run has at most as many steps as there are attributes.

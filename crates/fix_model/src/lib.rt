@@ -23,7 +23,7 @@ mod rule;
 mod state;
 
 pub use application::fires;
-pub use book::{Book, Hit, covers_left_side, enabled, value};
+pub use book::{Book, Hit, covers_left_side, enabled, has_covered_keys, value};
 pub use comparison::{alike, text_order};
 pub use kit::Kit;
 pub use lent_book::some_row_agrees;

@@ -13,7 +13,7 @@ use desk_base::Steps;
 use std::cmp::Ordering;
 
 /// The order of a row of the rule's master and the record, by the row's cells and the record's values at
-/// the rule's keys, key by key. It counts one comparison and takes no memory.
+/// the rule's keys, key by key. It counts one comparison, and succeeds whatever memory there is.
 pub fn compare<L>(kit: &Kit, rule: u16, row: u32, state: &State, counts: &mut Steps<L>) -> Ordering
     requires valid { IsValid kit.now }
     requires rule_within { rule < length kit.now.rules }

@@ -1,7 +1,7 @@
 //! A record while it is keyed.
 ghost use Rattle.std.specs.Prelude.{◌≡◌, ◌<◌, length, map, if◌then◌else◌, IfOk, IsTrue, ◌↔◌};
 ghost use Rattle.fix_model.specs.declared.kit.Kit.{Kit};
-ghost use Rattle.fix_model.specs.States.{cell_at, confirmed_cell, fixed_by, Fits, IsCovered};
+ghost use Rattle.fix_model.specs.States.{cell_at, confirmed_cell, fixed_by, Fits, IsCovered, is_covering};
 
 use desk_base::{Duplicate, List, NoMemory, Text};
 use std::alloc::Global;
@@ -22,6 +22,18 @@ pub enum Cell {
     Confirmed,
     /// The step gave the attribute its text.
     Fixed(Step),
+}
+
+impl Cell {
+    /// Whether the cell is confirmed or fixed.
+    pub fn is_covering(self) -> bool
+        ensures { result ≡ is_covering self }
+    {
+        match self {
+            Cell::Uncovered => false,
+            Cell::Confirmed | Cell::Fixed(_) => true,
+        }
+    }
 }
 
 /// The typed text and the cell of each attribute, in the schema's order.
@@ -59,8 +71,8 @@ impl State {
         ensures { IsTrue result ↔ IsCovered self.now attribute }
     {
         match self.cells.as_slice().get(usize::from(attribute)) {
-            Some(Cell::Confirmed | Cell::Fixed(_)) => true,
-            Some(Cell::Uncovered) | None => false,
+            Some(cell) => cell.is_covering(),
+            None => false,
         }
     }
 }

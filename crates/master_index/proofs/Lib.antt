@@ -1,4 +1,5 @@
 pub mod Ascending
+pub mod Found
 pub mod Fronts
 pub mod Grouping
 pub mod Halving
@@ -9,3 +10,4 @@ pub mod RowOrder
 pub mod Rows
 pub mod Sharing
 pub mod Twins
+pub mod Holding

@@ -20,8 +20,8 @@ IsKeyFront key = IsFront (slice_index_or key 0 [])
 -- each entry has the front of its key
 pub record AreFronts (key : ℕ → List (List ℕ)) (entries : List Hit) (fronts : List ℕ) : Type 0 where
   pub whole : length fronts ≡ length entries
-  pub each : (place : ℕ) (d : Hit) → place < length entries
-      → IsKeyFront (key (slice_index_or entries place d).first) (slice_index fronts place)
+  pub each : (place : ℕ) (otherwise : Hit) → place < length entries
+      → IsKeyFront (key (slice_index_or entries place otherwise).first) (slice_index fronts place)
 
 -- each row has the front of its key, and one past the last that of a blank
 abbrev pub AreRowFronts : (ℕ → List (List ℕ)) → List ℕ → Type 0

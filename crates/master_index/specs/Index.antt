@@ -22,8 +22,8 @@ IsMapFor kit rule map = IsMapOf (master_of kit rule) (first_key rule).1 (is_fold
 -- the rule at this place has a map, and it is one for the rule
 pub record HasMap (kit : Kit) (index : Index) (place : ℕ) : Type 0 where
   pub within : slice_index index.places place < length index.maps
-  pub map : (d : RowMap)
-      → IsMapFor kit (rule_at kit place) (slice_index_or index.maps (slice_index index.places place) d)
+  pub map : (otherwise : RowMap)
+      → IsMapFor kit (rule_at kit place) (slice_index_or index.maps (slice_index index.places place) otherwise)
 
 -- each of the first rules has its map
 pub record IsIndexBefore (kit : Kit) (count : ℕ) (index : Index) : Type 0 where

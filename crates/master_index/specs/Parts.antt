@@ -16,5 +16,5 @@ pub record IsPartOf (kit : Kit) (rule : Rule) (part : Part) : Type 0 where
 -- each of the first owners has its part
 pub record ArePartsBefore (kit : Kit) (owners : List ℕ) (count : ℕ) (parts : List Part) : Type 0 where
   pub size : length parts ≡ count
-  pub each : (place : ℕ) (d : Part) → place < count
-      → IsPartOf kit (rule_at kit (slice_index owners place)) (slice_index_or parts place d)
+  pub each : (place : ℕ) (otherwise : Part) → place < count
+      → IsPartOf kit (rule_at kit (slice_index owners place)) (slice_index_or parts place otherwise)

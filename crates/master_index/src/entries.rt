@@ -4,7 +4,8 @@ ghost use Rattle.std.specs.Prelude.{◌≡◌, ◌<◌, ◌+◌, ◌↔◌, leng
 ghost use Rattle.fix_model.specs.Comparison.{row_key};
 ghost use Rattle.fix_model.specs.Rules.{from_text, master_of};
 ghost use Rattle.fix_model.specs.Valid.{IsValid, IsValidRule};
-ghost use Rattle.master_index.specs.Sorted.{AreEntries, AreEntriesOf, AreSortedRows, EndsWithKey, IsGrown, StandsBefore};
+ghost use Rattle.master_index.specs.Sorted.{AreEntries, AreEntriesOf, AreSortedRows, EndsWithKey, IsGrown};
+ghost use Rattle.master_index.specs.Sorted.{StandsBefore};
 
 use crate::sorting::{has_same_key, sorted_rows};
 use desk_base::{List, NoMemory};
@@ -47,8 +48,10 @@ fn add(
     requires rule_valid { IsValidRule kit.now rule.now }
     requires rows { AreSortedRows kit.now rule.now rows.now }
     requires place_within { place < length rows.now }
-    requires before { AreEntries (row_key kit.now rule.now) (from_text kit.now rule.now) (StandsBefore rows.now place) place entries.old }
-    ensures { OnOk result (AreEntries (row_key kit.now rule.now) (from_text kit.now rule.now) (StandsBefore rows.now (place + 1)) (place + 1) entries.new) }
+    requires before { AreEntries (row_key kit.now rule.now) (from_text kit.now rule.now)
+        (StandsBefore rows.now place) place entries.old }
+    ensures { OnOk result (AreEntries (row_key kit.now rule.now) (from_text kit.now rule.now)
+        (StandsBefore rows.now (place + 1)) (place + 1) entries.new) }
 {
     let row = rows[place];
     if !ends_with_key(entries.as_slice(), kit, rule, row) {

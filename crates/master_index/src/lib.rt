@@ -1,8 +1,8 @@
 //! A book over a kit with an index of its masters, so that a look goes through few rows.
 //!
 //! A clause sees a book as its kit. `specs/RowMap.antt` says what a map of a master holds, and `specs/Index.antt` that
-//! each rule has its map; `specs/Sorted.antt` says what the entries of a sorted index are, and `specs/Fronts.antt` which
-//! numbers stand beside them.
+//! each rule has its map; `specs/Sorted.antt` says what the entries of a sorted index are, and `specs/Fronts.antt`
+//! which numbers stand beside them.
 #![tactic(auto)]
 
 mod earliest;

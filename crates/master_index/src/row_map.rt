@@ -52,7 +52,7 @@ impl RowMap {
         }
     }
 
-    /// The rows whose text is alike this one. It takes no memory.
+    /// The rows whose text is alike this one. It succeeds whatever memory there is.
     pub(crate) fn alike(&self, text: &Text, folded: bool) -> &[u32]
         ensures { result.now ≡ rows_at self.now (compared folded text.now) }
     {
@@ -83,13 +83,9 @@ fn key_of(alloc: Global, text: &Text, folded: bool) -> Result<Vec<u8>, NoMemory>
     ensures { IfOk result (λ key. key.items ≡ compared folded text.now) }
 {
     let bytes = text.as_str().as_bytes();
-    let key = if folded {
-        bytes.to_ascii_lowercase(alloc)
+    if folded {
+        Ok(bytes.to_ascii_lowercase(alloc)?)
     } else {
-        bytes.to_vec(alloc)
-    };
-    match key {
-        Ok(key) => Ok(key),
-        Err(_) => Err(NoMemory),
+        Ok(bytes.to_vec(alloc)?)
     }
 }

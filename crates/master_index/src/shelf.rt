@@ -1,5 +1,5 @@
 //! The books of the editions that were used last.
-ghost use Rattle.std.specs.Prelude.{◌≡◌, nat_eq, option_copied, IfOk, OnOk, OnErr, IsOk, IsSome, []};
+ghost use Rattle.std.specs.Prelude.{◌≡◌, ◌≤◌, length, nat_eq, option_copied, IfOk, OnOk, OnErr, IsOk, IsSome, []};
 ghost use Rattle.std.specs.Map.{lookup};
 ghost use Rattle.master_index.specs.Held.{brought_first, put_first};
 
@@ -29,14 +29,15 @@ pub struct Shelf {
 }
 
 impl Model for Shelf {
-    ghost use Rattle.std.specs.Prelude.{◌≡◌, ℕ, List};
+    ghost use Rattle.std.specs.Prelude.{◌≡◌, ◌≤◌, ℕ, List, length};
     ghost use Rattle.master_index.specs.declared.shelf.Shelved.{Shelved};
+    ghost use Rattle.master_index.specs.declared.shelf.TheConstants.{MAX_HELD};
 
     ghost Value = { List (ℕ × Shelved) };
 
     ghost view = { λ s. s.books.entries };
 
-    ghost invariant = { λ s. s.books.cap ≡ 4 };
+    ghost invariant = { λ s. (s.books.cap ≡ MAX_HELD) × (length s.books.entries ≤ MAX_HELD) };
 }
 
 impl Shelf {
@@ -48,10 +49,9 @@ impl Shelf {
         ensures { IfOk result (λ shelf. shelf ≡ []) }
     {
         let most = NonZeroUsize::new(MAX_HELD).unwrap();
-        match LruCache::new(alloc, most) {
-            Ok(books) => Ok(Shelf { books }),
-            Err(_) => Err(NoMemory),
-        }
+        Ok(Shelf {
+            books: LruCache::new(alloc, most)?,
+        })
     }
 
     /// What is shelved of an edition, or nothing where it is not held. It comes to the front. It succeeds
@@ -65,14 +65,16 @@ impl Shelf {
 
     /// What is shelved of an edition, or nothing where it is not held. The order stays.
     pub fn peek(&self, edition: u32) -> Option<&Shelved>
-        ensures { option_copied result ≡ lookup (nat_eq edition) self.now }
+        ensures held { option_copied result ≡ lookup (nat_eq edition) self.now }
+        ensures few { length self.now ≤ MAX_HELD }
     {
         self.books.peek(&edition)
     }
 
     /// Brings an edition to the front, if it is held. It succeeds whatever memory there is.
     pub fn bring(&mut self, edition: u32)
-        ensures { self.new ≡ brought_first edition self.old }
+        ensures brought { self.new ≡ brought_first edition self.old }
+        ensures few { length self.new ≤ MAX_HELD }
     {
         self.books.promote(&edition);
     }
@@ -84,6 +86,7 @@ impl Shelf {
         ensures put { OnOk result (self.new ≡ put_first edition shelved self.old) }
         ensures unchanged { OnErr result (self.new ≡ self.old) }
         ensures held { IsSome (lookup (nat_eq edition) self.old) → IsOk result }
+        ensures few { length self.new ≤ MAX_HELD }
     {
         match self.books.put(edition, shelved) {
             Ok(_) => Ok(()),

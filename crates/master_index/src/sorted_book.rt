@@ -14,7 +14,7 @@ use crate::part::Part;
 use crate::search::entry_at;
 use crate::triples::Triples;
 use desk_base::{List, MAX_ENTRIES, NoMemory, Steps, Text};
-use fix_model::{Book, Hit, Kit, Rule, State, Step, some_row_agrees};
+use fix_model::{Book, Hit, Kit, Rule, State, Step, has_covered_keys, some_row_agrees};
 use std::alloc::Global;
 use std::marker::Model;
 
@@ -134,7 +134,8 @@ impl<L> Book<L> for SortedBook {
         ensures compares { counts.old.compares ≤ counts.new.compares }
 
         // At most as many comparisons as the number of the master's rows has binary digits.
-        ensures digits { RisesByDigits (length (master_of self.now (rule_at self.now rule)).rows) counts.old counts.new }
+        ensures digits { RisesByDigits (length (master_of self.now (rule_at self.now rule)).rows)
+            counts.old counts.new }
     {
         counts.look();
         entry_at(&self.inside, rule, self.part(rule), state, counts)
@@ -142,6 +143,10 @@ impl<L> Book<L> for SortedBook {
 
     fn agrees(&self, rule: u16, state: &State, counts: &mut Steps<L>) -> bool {
         counts.look();
-        some_row_agrees(&self.inside, state, self.inside.rule(rule))
+        let this = self.inside.rule(rule);
+        if !has_covered_keys(state, this) {
+            return some_row_agrees(&self.inside, state, this);
+        }
+        entry_at(&self.inside, rule, self.part(rule), state, counts).is_some()
     }
 }

@@ -13,7 +13,7 @@ use std::alloc::Global;
 /// The rows of a grid, counted from 0 and in their order, for which a certain fix follows where exactly these
 /// attributes are confirmed to the texts of the row in these columns: of rows with the same texts the first one, and
 /// none where one of these texts is blank. Each row comes with its texts. The master's rows are gone through once,
-/// and each rule is looked up at most once for each list of texts.
+/// and each rule is looked up at most once for each row.
 pub fn derive<L, B: Book<L>>(
     alloc: Global,
     work: &mut Work,
@@ -34,7 +34,7 @@ pub fn derive<L, B: Book<L>>(
     let mut seen = Seen::new(alloc);
     'rows: for row in 0..grid.rows() {
         let texts = texts_of(alloc, grid, columns, row)?;
-        let is_new = seen.is_new(alloc, texts.as_slice())?;
+        let is_new = seen.keep(alloc, texts.as_slice())?;
         if is_new && promises(alloc, work, book, attributes, texts.as_slice(), counts)? {
             found.push((row, texts))?;
         }

@@ -23,7 +23,7 @@ impl Seen {
     }
 
     /// Keeps a list, and says whether it is new.
-    pub(crate) fn is_new(&mut self, alloc: Global, texts: &[Text]) -> Result<bool, NoMemory>
+    pub(crate) fn keep(&mut self, alloc: Global, texts: &[Text]) -> Result<bool, NoMemory>
         ensures new { IfOk result (λ is_new. is_new ≡ not (has_come self.old texts.now)) }
         ensures kept { OnOk result ((other : List (List ℕ))
             → has_come self.new other ≡ (are_same other texts.now || has_come self.old other)) }

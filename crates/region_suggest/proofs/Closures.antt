@@ -13,7 +13,8 @@ use Rattle.fix_engine.specs.Flags.{IsFlagged}
 use Rattle.region_suggest.specs.declared.dependencies.Dependencies.{Dependencies}
 use Rattle.region_suggest.specs.Closing.{IsEnough, IsMet, TakesOff}
 use Rattle.region_suggest.specs.Dependencies.{Follows, IsClosure, IsSound, left_count, occurrences, users, uses_of}
-use Rattle.region_suggest.proofs.Lists.{All-Contains, Contains-at, Contains-cases, Contains-first, IsFlagged-cases}
+use Rattle.fix_engine.proofs.Lists.{All-Contains, Contains-cases, Contains-first}
+use Rattle.region_suggest.proofs.Lists.{Contains-at, IsFlagged-cases}
 use Rattle.region_suggest.proofs.Lists.{IsFlagged-here, IsFlagged-set, IsFlagged-within}
 use Rattle.region_suggest.proofs.LeftSides.{All-users, Contains-or-none, left_count-flagged, left_count-set}
 use Rattle.region_suggest.proofs.LeftSides.{left_count-zero, occurrences-append, occurrences-other, occurrences-self}

@@ -11,7 +11,7 @@ use Rattle.std.proofs.lemmas.List.Elements.{Contains-append_cases}
 use Rattle.std.proofs.Math.Seq.{take-suc}
 use Rattle.region_suggest.specs.declared.dependencies.Dependencies.{Dependencies}
 use Rattle.region_suggest.specs.Dependencies.{left_count, occurrences, users, uses_of, with_uses}
-use Rattle.region_suggest.proofs.Lists.{All-Contains, Contains-behind, Contains-cases, Contains-first}
+use Rattle.fix_engine.proofs.Lists.{All-Contains, Contains-behind, Contains-cases, Contains-first}
 
 -- ---- occurrences
 

@@ -4,8 +4,6 @@ pub mod Closures
 pub mod Openings
 pub mod Hopes
 pub mod Needs
-pub mod Twins
-pub mod Rows
 pub mod Wider
 pub mod Tries
 pub mod Pairs

@@ -1,6 +1,6 @@
 -- What lists contain, and flags that are set in them.
 use Rattle.std.proofs.Common.{◌≡◌, ◌≢◌, ◌⊎◌, ◌<◌, ◌+◌, ◌∙◌, ℕ, zero, suc, Bool, true, false, List, [], ◌∷◌, ◌++◌}
-use Rattle.std.proofs.Common.{length, get_or, map, set, replicate, eqb, eqb-true, inl, inr, sym, ap, refl, arith}
+use Rattle.std.proofs.Common.{length, get_or, map, set, replicate, eqb, eqb-true, inl, inr, sym, ap, arith}
 use Rattle.std.specs.Prelude.{◌↔◌, All, Contains}
 use Rattle.std.proofs.lemmas.Bool.{cases_Bool, eqb-false}
 use Rattle.std.proofs.Math.ListN.{get_or-append}
@@ -9,19 +9,7 @@ use Rattle.std.proofs.lemmas.List.{get_or-map, get_or-set_same, get_or-set_other
 use Rattle.std.proofs.lemmas.List.{replicate-append-replicate}
 use Rattle.std.proofs.lemmas.List.Elements.{Contains-append_left, Contains-append_right, Contains-append_cases}
 use Rattle.fix_engine.specs.Flags.{IsFlagged}
-
--- the first item is in a list
-pub Contains-first : {A : Type 0} (x : A) (xs : List A) → Contains (x ∷ xs) x
-Contains-first x xs = (zero, omega arith, refl)
-
--- an item behind the first is in the list
-pub Contains-behind : {A : Type 0} (x y : A) (xs : List A) → Contains xs y → Contains (x ∷ xs) y
-Contains-behind x y xs h = (suc h.0, omega (arith, h.1), h.2)
-
--- an item of a list is the first or behind it
-pub Contains-cases : {A : Type 0} (x y : A) (xs : List A) → Contains (x ∷ xs) y → (y ≡ x) ⊎ Contains xs y
-Contains-cases x y xs (zero, within, is) = inl (sym is)
-Contains-cases x y xs (suc k, within, is) = inr (k, omega (arith, within), is)
+use Rattle.fix_engine.proofs.Lists.{Contains-behind, Contains-cases, Contains-first}
 
 -- the item at a place is in the list
 pub Contains-at : {A : Type 0} (xs : List A) (k : ℕ) (d : A) → k < length xs → Contains xs (get_or xs k d)
@@ -29,10 +17,6 @@ Contains-at [] k d within = absurd (omega (arith, within))
 Contains-at (x ∷ xs) zero d within = Contains-first x xs
 Contains-at (x ∷ xs) (suc k) d within =
     Contains-behind x (get_or xs k d) xs (Contains-at xs k d (omega (arith, within)))
-
--- what holds of all items holds of one that the list contains
-pub All-Contains : {A : Type 0} (P : A → Type 0) (xs : List A) (x : A) → All P xs → Contains xs x → P x
-All-Contains P xs x all (k, within, is) = rw (← is) (all k x within)
 
 -- the image of an item is among the images
 pub Contains-map : {A B : Type 0} (f : A → B) (xs : List A) (k : ℕ) (d : A) → k < length xs

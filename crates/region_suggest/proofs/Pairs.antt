@@ -24,7 +24,8 @@ use Rattle.fix_model.proofs.Twins.{pointwise-all}
 use Rattle.region_suggest.specs.Finding.{IsMatchWithin}
 use Rattle.region_suggest.specs.Offers.{HoldsConfirmed, IsMatch, IsOfferBefore, ListsExactly, region_at}
 use Rattle.region_suggest.specs.Verdicts.{row_at}
-use Rattle.region_suggest.proofs.Lists.{Contains-at, Contains-cases, Contains-first, Contains-nil}
+use Rattle.fix_engine.proofs.Lists.{Contains-cases, Contains-first}
+use Rattle.region_suggest.proofs.Lists.{Contains-at, Contains-nil}
 
 -- a pair behind all others is listed
 pub ListsExactly-push : (Before After : ℕ × ℕ → Type 0) (pairs longer : List (ℕ × ℕ)) (pair : ℕ × ℕ)
@@ -316,4 +317,4 @@ certain-only kit state Partial is fix = absurd (
     cc)
 certain-only kit state Conflict is fix = absurd (
     let same : fix.0 ≡ is.0 = IsFirstRun-unique kit state fix.0 is.0 fix.2.is_first is.1 in
-    is.2.differs (rw same at (fix.2.unique is.2.other is.2.maximal)))
+    is.2.1.differs (rw same at (fix.2.unique is.2.0 is.2.1.maximal)))

@@ -19,7 +19,8 @@ use Rattle.region_suggest.specs.Need.{IsGivenWithout, IsNeed}
 use Rattle.region_suggest.specs.Openings.{AreOpenings}
 use Rattle.region_suggest.specs.Trying.{AreTried, IsGivenAt, IsTested}
 use Rattle.region_suggest.proofs.Hopes.{IsClosure-IsHoped}
-use Rattle.region_suggest.proofs.Lists.{Contains-cases, Contains-first, Contains-nil, Contains-at}
+use Rattle.fix_engine.proofs.Lists.{Contains-cases, Contains-first}
+use Rattle.region_suggest.proofs.Lists.{Contains-nil, Contains-at}
 use Rattle.region_suggest.proofs.Needs.{AreAllHoped-more, decide_covered}
 
 module _ (kit : Kit) (state : State) where

@@ -26,8 +26,8 @@ use Rattle.fix_engine.specs.Flags.{IsFlagged}
 use Rattle.fix_engine.proofs.Ends.{IsEnabled-inside, IsInside-after, RowAgrees-inside, cell_at-head, cell_at-other}
 use Rattle.fix_engine.proofs.Ends.{value_at-head}
 use Rattle.region_suggest.specs.Hope.{ConfirmsMore, IsHopeClosed, IsOpen}
-use Rattle.region_suggest.proofs.Rows.{Contains-is_listed, is_listed-Contains}
-use Rattle.region_suggest.proofs.Twins.{IsInside-step, IsInside-then}
+use Rattle.fix_engine.proofs.Rows.{Contains-is_listed, is_listed-Contains}
+use Rattle.fix_engine.proofs.Departures.{IsInside-step, IsInside-then}
 use Rattle.desk_base.specs.Places.{is_listed}
 
 -- the rest of a run is a run from the end of its beginning

@@ -2,7 +2,8 @@
 //!
 //! The closure is found as for functional dependencies, after Beeri and Bernstein: each dependency counts the
 //! attributes of its left side that are missing, so the work is linear in the sizes of the left sides.
-ghost use Rattle.std.specs.Prelude.{◌≡◌, ◌+◌, ◌<◌, ◌≤◌, ◌↔◌, ◌++◌, ◌∷◌, slice_set, false, ℕ, List, [], length, map, replicate, sum, All, Contains, IfOk, OnOk, slice_index_or, count_by, IsTrue};
+ghost use Rattle.std.specs.Prelude.{◌≡◌, ◌+◌, ◌<◌, ◌≤◌, ◌↔◌, ◌++◌, ◌∷◌, slice_set, false, ℕ, List, [], length, map};
+ghost use Rattle.std.specs.Prelude.{replicate, sum, All, Contains, IfOk, OnOk, slice_index_or, count_by, IsTrue};
 ghost use Rattle.fix_engine.specs.Flags.{IsFlagged};
 ghost use Rattle.region_suggest.specs.Dependencies.{AddsRule, IsClosure, IsSound, uses_of, users, with_uses};
 ghost use Rattle.region_suggest.specs.Closing.{IsEnough, TakesOff};

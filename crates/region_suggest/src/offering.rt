@@ -1,10 +1,12 @@
 //! Which rows of the regions are offered for a record.
-ghost use Rattle.std.specs.Prelude.{◌≡◌, ◌+◌, ◌*◌, ◌-◌, ◌^◌, ◌<◌, ◌≤◌, ◌↔◌, [], ℕ, length, map, All, AllPairs, Contains, IfOk, OnOk, IsTrue};
+ghost use Rattle.std.specs.Prelude.{◌≡◌, ◌+◌, ◌*◌, ◌-◌, ◌^◌, ◌<◌, ◌≤◌, ◌↔◌, [], ℕ, length, map, All, AllPairs};
+ghost use Rattle.std.specs.Prelude.{Contains, IfOk, OnOk, IsTrue};
 ghost use Rattle.fix_model.specs.Regions.{IsRegionOf};
 ghost use Rattle.fix_model.specs.States.{Fits, value_at};
 ghost use Rattle.fix_engine.specs.WorkSeen.{IsRoomFor, KeepsSize};
 ghost use Rattle.region_suggest.specs.Finding.{IsMatchWithin};
-ghost use Rattle.region_suggest.specs.Offers.{HoldsConfirmed, IsCertain, IsOfferBefore, IsMatch, IsPlace, ListsExactly, region_at};
+ghost use Rattle.region_suggest.specs.Offers.{HoldsConfirmed, IsCertain, IsOfferBefore, IsMatch, IsPlace};
+ghost use Rattle.region_suggest.specs.Offers.{ListsExactly, region_at};
 ghost use Rattle.region_suggest.specs.Verdicts.{row_count};
 
 use crate::checking::verdict_of;

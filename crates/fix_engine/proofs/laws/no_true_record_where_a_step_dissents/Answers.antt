@@ -7,4 +7,4 @@ returns c = λ texts agrees obeys.
     let fix = c.requires.fix in
     no_dissent kit c.requires.valid texts obeys _ c.args.dissent
     (RecordAgrees-end_of kit c.requires.valid texts obeys c.args.state.now c.args.first.now c.requires.fits
-    fix.is_first.maximal.0 agrees) fix.is_dissent.dissents
+    fix.is_first.holds.0 agrees) fix.is_dissent.holds

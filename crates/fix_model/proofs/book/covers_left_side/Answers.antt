@@ -7,5 +7,6 @@ returns-then-has_covered_keys c = covers_left_side-conds c.args.state.now c.args
     (c.has_covered_keys.ensures.0 c.if-has_covered_keys.true) c.has_covered_conds.ensures
 
 pub returns-else-has_covered_keys : goal.returns-else-has_covered_keys
-returns-else-has_covered_keys c = c.if-has_covered_keys.false ∙ covers_left_side-no_keys c.args.state.now c.args.rule.now
+returns-else-has_covered_keys c = c.if-has_covered_keys.false
+    ∙ covers_left_side-no_keys c.args.state.now c.args.rule.now
     (λ all. let passes = c.has_covered_keys.ensures.1 all in let fails = c.if-has_covered_keys.false in cc)

@@ -20,7 +20,7 @@ rows-preserved g c =
     let texts : c.as_slice.result.now ≡ texts_in grid columns row = c.as_slice.ensures ∙ c.in_ok-texts.ensures in
     let told = rw texts at c.in_ok-is_new.ensures.new in
     let kept = rw texts at c.in_ok-is_new.ensures.kept in
-    let come = HaveCome-next grid columns row (has_come c.rows.seen) (has_come c.is_new.new.self) before.seen kept in
+    let come = HaveCome-next grid columns row (has_come c.rows.seen) (has_come c.keep.new.self) before.seen kept in
     elim c.if-is_new.branch [
       | then-is_new+in_ok-promises+then-branch+in_ok-push w ↦
           let promised = (rw (w.as_slice-then-is_new.ensures ∙ c.in_ok-texts.ensures)
@@ -29,7 +29,7 @@ rows-preserved g c =
           let derived : IsDerived kit grid attributes columns row = record {
             within = (let few = before.few in omega arith);
             filled = promised.0;
-            first = first_here grid columns row (has_come c.rows.seen) (has_come c.is_new.new.self) before.seen
+            first = first_here grid columns row (has_come c.rows.seen) (has_come c.keep.new.self) before.seen
                 c.in_ok-is_new.is_new told w.if-is_new.true;
             certain = promised.1;
           } in
@@ -65,7 +65,7 @@ rows-preserved g c =
             }
         | else-is_new-via-else-is_new w' ↦
             let none : ¬ IsDerived kit grid attributes columns row = not_first grid columns row (has_come c.rows.seen)
-            (has_come c.is_new.new.self) before.seen kit attributes c.in_ok-is_new.is_new told w'.if-is_new.false in
+            (has_come c.keep.new.self) before.seen kit attributes c.in_ok-is_new.is_new told w'.if-is_new.false in
             record {
               found = subst (AreDerivedBefore kit grid attributes columns (row + 1)) (sym w.found-is)
                   (AreDerivedBefore-passed kit grid attributes columns row c.rows.found before.found none);

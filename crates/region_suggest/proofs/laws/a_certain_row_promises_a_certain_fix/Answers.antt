@@ -1,6 +1,6 @@
 use Rattle.fix_model.specs.Regions.{row_state}
-use Rattle.region_suggest.proofs.Rows.{AreTwins-row, Fits-row}
-use Rattle.region_suggest.proofs.Twins.{IsFix-twins}
+use Rattle.fix_engine.proofs.Rows.{AreTwins-row, Fits-row}
+use Rattle.fix_engine.proofs.Twins.{IsFix-twins}
 use Rattle.region_suggest.proofs.laws.a_certain_row_promises_a_certain_fix.Goals as goal
 
 pub returns : goal.returns

@@ -5,7 +5,7 @@ use Rattle.fix_model.specs.States.{IsCovered}
 use Rattle.fix_model.proofs.Lengths.{IsCovered-end_of, IsMaximalRun-exists}
 use Rattle.fix_model.proofs.Runs.{end_of-append}
 use Rattle.fix_engine.proofs.Ends.{IsInside-alike}
-use Rattle.region_suggest.proofs.Lists.{All-Contains}
+use Rattle.fix_engine.proofs.Lists.{All-Contains}
 use Rattle.region_suggest.proofs.Wider.{IsCovered-within, IsRun-behind, IsRun-wider, IsWider-start, covered-closed}
 use Rattle.region_suggest.proofs.laws.hope_is_sound.Goals as goal
 
@@ -28,7 +28,7 @@ returns c = λ attribute within flags closed.
     let fix = c.requires.certain.2 in
     let alike = fix.unique (run ++ rest.0) rest.1 in
     let into = IsInside-alike kit valid more c.requires.certain.0 (run ++ rest.0) c.requires.confirmed_fits
-    fix.is_first.maximal.0 rest.1 alike in
+    fix.is_first.holds.0 rest.1 alike in
     let last : IsCovered (end_of kit (end_of kit more run) rest.0) attribute =
     rw end_of-append at (into.covered attribute (fix.is_certain.0 refl attribute within)) in
     covered-closed kit valid attributes (end_of kit state run) flags closed (end_of kit more run) rest.0 ends.2

@@ -6,7 +6,8 @@ use Rattle.fix_model.specs.States.{IsCovered}
 use Rattle.fix_engine.proofs.Turns.{read_rule}
 use Rattle.region_suggest.proofs.Openings.{IsOpen-covered}
 use Rattle.region_suggest.proofs.opening.is_open.Goals as goal
-use Rattle.region_suggest.proofs.opening.is_open.Goals.{then-covers-via-then-covers, then-covers-via-else-covers+then-covers_left_side}
+use Rattle.region_suggest.proofs.opening.is_open.Goals.{then-covers-via-then-covers}
+use Rattle.region_suggest.proofs.opening.is_open.Goals.{then-covers-via-else-covers+then-covers_left_side}
 
 -- neither a rule with a covered head nor one with a covered left side is open
 pub returns-then-covers-clause-open : goal.returns-then-covers-clause-open

@@ -22,7 +22,7 @@ unwrap-requires g c =
     let kit = g.B.Book.kit c.args.book.now in
     let before = c.steps.invariant in
     let count = uncovered_count-step kit c.steps.state c.in-Some.step c.requires.valid before.fits
-    c.in-Some.ensures.step.fires in
+    c.in-Some.ensures.step.holds in
     c.push.ensures.succeeds (omega (arith, count, before.places))
 
 pub steps-smaller : goal.steps-smaller
@@ -30,7 +30,7 @@ steps-smaller g c =
     let kit = g.B.Book.kit c.args.book.now in
     let before = c.steps.invariant in
     let count = uncovered_count-step kit c.steps.state c.in-Some.step c.requires.valid before.fits
-    c.in-Some.ensures.step.fires in
+    c.in-Some.ensures.step.holds in
     rw c.make.ensures (omega (arith, count))
 
 pub steps-preserved : goal.steps-preserved
@@ -40,14 +40,14 @@ steps-preserved g c =
     let step : Step = c.in-Some.step in
     let least = c.in-Some.ensures.step in
     let before = c.steps.invariant in
-    let count = uncovered_count-step kit state step c.requires.valid before.fits least.fires in
+    let count = uncovered_count-step kit state step c.requires.valid before.fits least.holds in
     let pushed : c.push.new.self.items ≡ c.steps.run.items ++ step ∷ [] = rw c.unwrap.ensures at c.push.ensures.items in
     record {
       beginning = IsBeginning-step kit c.args.state.now state c.make.new.state c.args.run.now.items c.steps.run.items
           c.push.new.self.items step before.beginning least c.make.ensures pushed;
-      fits = rw c.make.ensures (Fits-after kit state step before.fits least.fires);
+      fits = rw c.make.ensures (Fits-after kit state step before.fits least.holds);
       looks = rw c.make.ensures (LooksAround-step kit state step c.args.self.now c.steps.self c.next_step.new.self
-          c.args.counts.now c.steps.counts c.next_step.new.counts least.fires before.looks c.in-Some.ensures.looks);
+          c.args.counts.now c.steps.counts c.next_step.new.counts least.holds before.looks c.in-Some.ensures.looks);
       places = rw c.make.ensures
           (omega (
             arith,

@@ -1,8 +1,8 @@
 use Rattle.std.proofs.Common.{◌∙◌, ◌||◌, List, ℕ, not, ap}
 use Rattle.region_derive.specs.Seen.{are_same, has_come}
 use Rattle.region_derive.proofs.Keys.{has, has-insert_key, has-key}
-use Rattle.region_derive.proofs.seen.Seen.is_new.Goals as goal
-use Rattle.region_derive.proofs.seen.Seen.is_new.Goals.{in-Ok, in-Err}
+use Rattle.region_derive.proofs.seen.Seen.keep.Goals as goal
+use Rattle.region_derive.proofs.seen.Seen.keep.Goals.{in-Ok, in-Err}
 
 pub returns-clause-new : goal.returns-clause-new
 returns-clause-new c = elim c.match-insert.branch [

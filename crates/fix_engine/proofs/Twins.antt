@@ -10,10 +10,10 @@ use Rattle.fix_model.specs.Rules.{rule_at}
 use Rattle.fix_model.specs.Run.{IsMaximalRun, IsRun, end_of}
 use Rattle.fix_model.specs.States.{Fits}
 use Rattle.fix_model.specs.Valid.{IsValid}
-use Rattle.fix_model.proofs.Covered.{IsCovered-after, value_at-after}
 use Rattle.fix_model.proofs.Runs.{typed-end_of}
 use Rattle.fix_model.proofs.States.{Fits-after}
 use Rattle.fix_engine.specs.Departures.{IsInside}
+use Rattle.fix_engine.proofs.Departures.{IsInside-step, IsInside-then}
 use Rattle.fix_engine.proofs.Ends.{IsEnabled-inside, IsInside-after, IsInside-alike, RowAgrees-inside, cell_at-head}
 use Rattle.fix_engine.proofs.Ends.{value_at-head}
 use Rattle.fix_engine.proofs.Truth.{same_record}
@@ -26,22 +26,6 @@ pub record AreTwins (kit : Kit) (one other : State) : Type 0 where
 -- so it is the other way round
 pub AreTwins-turned : (kit : Kit) (one other : State) → AreTwins kit one other → AreTwins kit other one
 AreTwins-turned kit one other twins = record { there = twins.back; back = twins.there }
-
--- what lies inside one state lies inside another that it lies inside
-pub IsInside-then : (kit : Kit) (one other last : State) → IsInside kit one other → IsInside kit other last
-    → IsInside kit one last
-IsInside-then kit one other last first second = record {
-  covered = λ attribute is. second.covered attribute (first.covered attribute is);
-  value = λ attribute is. first.value attribute is ∙ second.value attribute (first.covered attribute is);
-}
-
--- a state lies inside the state after a step
-pub IsInside-step : (kit : Kit) (state : State) (step : Step) → Fires kit state step
-    → IsInside kit state (after kit state step)
-IsInside-step kit state step fires = record {
-  covered = λ attribute is. IsCovered-after kit state step fires attribute is;
-  value = λ attribute is. sym (value_at-after kit state step fires attribute is);
-}
 
 -- a step that fires at one fires at the other
 pub Fires-twins : (kit : Kit) (one other : State) (step : Step) → AreTwins kit one other → Fires kit one step
@@ -121,7 +105,7 @@ module _ (kit : Kit) (valid : IsValid kit) where
   IsDissent-twins one other None twins none = λ step dissents.
       none step (Dissents-twins other one step (AreTwins-turned kit one other twins) dissents)
   IsDissent-twins one other (Some step) twins least = record {
-    dissents = Dissents-twins one other step twins least.dissents;
+    holds = Dissents-twins one other step twins least.holds;
     least = λ later dissents. least.least later
         (Dissents-twins other one later (AreTwins-turned kit one other twins) dissents);
   }
@@ -131,12 +115,12 @@ module _ (kit : Kit) (valid : IsValid kit) where
       → Fits kit one → Fits kit other
       → IsFix kit one first true dissent → IsFix kit other first true dissent
   IsFix-twins one other first dissent twins fits fits' fix = let turned = AreTwins-turned kit one other twins in
-      let maximal = fix.is_first.maximal in
+      let maximal = fix.is_first.holds in
       let ends = AreTwins-end_of one other first twins fits fits' maximal.0 in
       let all : AreAllCovered kit (end_of kit one first) = fix.is_certain.0 refl in
       record {
         is_first = record {
-          maximal = IsMaximalRun-twins one other first twins fits fits' maximal;
+          holds = IsMaximalRun-twins one other first twins fits fits' maximal;
           least = λ run longest. fix.is_first.least run (IsMaximalRun-twins other one run turned fits' fits longest);
         };
         unique = λ run longest.

@@ -17,8 +17,8 @@ use Rattle.fix_model.specs.Regions.{ConfirmsExactly, row_state, row_texts, text_
 use Rattle.fix_model.specs.States.{Fits, IsCovered, cell_at, confirmed_cell, shown, value_at}
 use Rattle.fix_model.proofs.Deciding.{decide_less}
 use Rattle.fix_model.proofs.States.{Fits-confirmed}
-use Rattle.region_suggest.proofs.Lists.{All-Contains, Contains-behind, Contains-cases, Contains-first}
-use Rattle.region_suggest.proofs.Twins.{AreTwins}
+use Rattle.fix_engine.proofs.Lists.{All-Contains, Contains-behind, Contains-cases, Contains-first}
+use Rattle.fix_engine.proofs.Twins.{AreTwins}
 
 -- a number is listed exactly where the list contains it
 pub is_listed-Contains : (ones : List ℕ) (one : ℕ) → is_listed ones one ≡ true → Contains ones one
