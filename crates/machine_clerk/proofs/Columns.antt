@@ -1,5 +1,6 @@
 -- Rows under columns, one column after another.
-use Rattle.std.proofs.Common.{◌≡◌, ◌∙◌, ◌<◌, ◌≤◌, ◌+◌, ℕ, Bool, true, false, List, [], ◌∷◌, ◌++◌, length, get_or, map, take, ap, sym, arith, cond}
+use Rattle.std.proofs.Common.{◌≡◌, ◌∙◌, ◌<◌, ◌≤◌, ◌+◌, ℕ, Bool, true, false, List, [], ◌∷◌, ◌++◌, length, get_or, map}
+use Rattle.std.proofs.Common.{take, ap, sym, arith, cond}
 use Rattle.std.specs.Prelude.{filter, zip}
 use Rattle.std.proofs.lemmas.List.{append-nil, map-append, take_all, take_more}
 use Rattle.std.proofs.lemmas.List.Elements.{filter_more}
@@ -24,7 +25,8 @@ module _ {A B : Type 0} (columns : List A) (texts : List B) (whole : length text
         ∙ ap (λ cell. take place (zip columns texts) ++ cell ∷ []) cell-under
 
     -- with the cell one more image
-    pub map-cells_more : {C : Type 0} (f : A × B → C) (before : List C) → before ≡ map f (take place (zip columns texts))
+    pub map-cells_more : {C : Type 0} (f : A × B → C) (before : List C)
+        → before ≡ map f (take place (zip columns texts))
         → before ++ f (column, text) ∷ [] ≡ map f (take (place + 1) (zip columns texts))
     map-cells_more f before is = ap (λ cells. cells ++ f (column, text) ∷ []) is
         ∙ sym (ap (map f) cells-more ∙ map-append f (take place (zip columns texts)) ((column, text) ∷ []))

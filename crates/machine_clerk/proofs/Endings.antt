@@ -1,5 +1,5 @@
 -- A commit by the end of the first run and its record.
-use Rattle.std.proofs.Common.{◌≡◌, ◌∙◌, ℕ, ◌+◌, Some, subst, sym}
+use Rattle.std.proofs.Common.{◌≡◌, ℕ, ◌+◌, Some, refl, subst, sym}
 use Rattle.std.specs.Prelude.{Result, Ok, Err, IsErrAnd}
 use Rattle.desk_words.specs.declared.clerk_work.Accept.{Accept}
 use Rattle.desk_words.specs.declared.limit.Which.TheVariants as which
@@ -10,28 +10,16 @@ use Rattle.desk_words.specs.Tables.{Published}
 use Rattle.desk_valid.specs.declared.bound.Bound.{Bound}
 use Rattle.desk_valid.specs.Bindings.{bound_at}
 use Rattle.desk_valid.specs.Tallies.{bytes_in, text_bytes}
-use Rattle.fix_model.specs.declared.kit.Kit.{Kit}
 use Rattle.fix_model.specs.declared.state.State.{State}
-use Rattle.fix_model.specs.Run.{end_of}
-use Rattle.fix_model.specs.States.{uncovered_count}
 use Rattle.machine_core.specs.Answers.{state_of}
 use Rattle.machine_core.specs.declared.stop.Stop.{Stop}
-use Rattle.machine_core.specs.Checked.{Checked, ◌>>=◌, ◌>>◌, Gives, answer_for, asked, done}
-use Rattle.machine_core.specs.Clerk.Commit.{accepts, commit_rows, not_in_conflict, record_at}
+use Rattle.machine_core.specs.Checked.{Checked, ◌>>=◌, ◌>>◌, Gives, done}
+use Rattle.machine_core.specs.Clerk.Commit.{accepted_record, commit_rows, fixed_end}
 use Rattle.machine_core.specs.Limits.{within}
 use Rattle.machine_core.specs.Outcomes.{Answers, Finds}
 use Rattle.machine_core.specs.Own.{Own}
 use Rattle.machine_core.specs.Tests.{active_session}
-use Rattle.machine_core.proofs.Chains.{bind-assoc}
-use Rattle.machine_clerk.specs.Ends.{accepted_record, fixed_end}
 use Rattle.machine_core.proofs.Answering.{Answers-found, Answers-stopped, Answers-then}
-
--- what comes of an answer that is a fix comes of the end of its first run
-end-then : {B : Type 0} (kit : Kit) (state : State) (next : State → Checked B)
-    → (answer_for kit state >>= (λ answer. not_in_conflict answer.verdict >> next (end_of kit state answer.first)))
-    ≡ (fixed_end kit state >>= next)
-end-then kit state next = λ i. asked kit state (λ answer.
-    sym (bind-assoc (not_in_conflict answer.verdict) (λ _. done (end_of kit state answer.first)) next) i)
 
 -- what is left once the record is there: its bytes are no more than may stand
 abbrev pub committed_rows : Own → SessionRow → RecordRow → Checked (SessionRow × RecordRow)
@@ -40,16 +28,14 @@ committed_rows own session row = do
   done (record session { stage = Committed }, row)
 
 -- a commit is the end of the first run, its record, and what is left
-pub commit-parts : (published : Published) (own : Own) (number : ℕ) (accept : Accept) (session : SessionRow) (bound : Bound)
+pub commit-parts : (published : Published) (own : Own) (number : ℕ) (accept : Accept) (session : SessionRow)
+    (bound : Bound)
     → active_session own.sessions number ≡ done session → bound_at published session.edition ≡ Some bound
     → commit_rows published own number accept
     ≡ (fixed_end bound.kit (state_of session) >>= (λ end.
     accepted_record bound number accept end >>= committed_rows own session))
 commit-parts published own number accept session bound active is =
-    rw (active, is) (end-then bound.kit (state_of session) (λ end. accepts accept (uncovered_count end)
-    >> committed_rows own session (record_at bound number end))
-    ∙ (λ i. fixed_end bound.kit (state_of session) >>= (λ end. sym (bind-assoc (accepts accept (uncovered_count end))
-    (λ _. done (record_at bound number end)) (committed_rows own session)) i)))
+    rw (active, is) refl
 
 -- once the run has its end, a commit answers what is found of its record
 pub commit-recorded : (published : Published) (own : Own) (number : ℕ) (accept : Accept) (session : SessionRow)
@@ -63,7 +49,8 @@ commit-recorded published own number accept session bound end result active is g
     accepted_record bound number accept one >>= committed_rows own session in
     subst (λ (one : Checked (SessionRow × RecordRow)). Answers result one)
     (sym (commit-parts published own number accept session bound active is))
-    (Answers-then (fixed_end bound.kit (state_of session)) next end result gives (Answers-found (next end) result finds))
+    (Answers-then (fixed_end bound.kit (state_of session)) next end result gives
+    (Answers-found (next end) result finds))
 
 -- and it stops where the run has none
 pub commit-unended : (published : Published) (own : Own) (number : ℕ) (accept : Accept) (session : SessionRow)

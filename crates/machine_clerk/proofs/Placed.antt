@@ -1,5 +1,6 @@
 -- Sessions behind others, each at its place.
-use Rattle.std.proofs.Common.{◌≡◌, ◌∙◌, ◌+◌, ◌<◌, ◌≤◌, ℕ, List, [], ◌∷◌, ◌++◌, length, map, replicate, take, get_or, ap, arith, subst, sym}
+use Rattle.std.proofs.Common.{◌≡◌, ◌∙◌, ◌+◌, ◌<◌, ◌≤◌, ℕ, List, [], ◌∷◌, ◌++◌, length, map, replicate, take, get_or, ap}
+use Rattle.std.proofs.Common.{arith, subst, sym}
 use Rattle.std.specs.Prelude.{All, zip}
 use Rattle.std.specs.List.{range_with_len}
 use Rattle.std.proofs.lemmas.List.{length-map, length-replicate, length-take, map-append, take_more}
@@ -59,21 +60,24 @@ placed-all P count sessions all place past inside =
 
 -- a session of a row has a text for each attribute
 pub narrow-sessions : (edition width batch count : ℕ) (columns : List Column) (rows : List (List (List ℕ))) → width ≤ 48
-    → All (λ (put : ℕ × SessionRow). length put.1.typed ≤ 48) (placed count (map (row_session edition width batch columns) rows))
+    → All (λ (put : ℕ × SessionRow). length put.1.typed ≤ 48)
+    (placed count (map (row_session edition width batch columns) rows))
 narrow-sessions edition width batch count columns rows narrow =
     let Narrow : SessionRow → Type 0 = λ session. length session.typed ≤ 48 in
     let session_of : List (List ℕ) → SessionRow = row_session edition width batch columns in
     placed-all Narrow count (map session_of rows) (All-map Narrow session_of rows (λ index past inside. omega (
       arith,
       narrow,
-      length-typed_over (replicate width []) (map (λ cell. (cell.0.attribute, cell.1)) (zip columns (get_or rows index past))),
+      length-typed_over (replicate width []) (map (λ cell. (cell.0.attribute, cell.1))
+          (zip columns (get_or rows index past))),
       length-replicate {A = List ℕ} width [],
     )))
 
 -- cells under columns of attributes below a number are of such attributes
 pub cells-within : (width : ℕ) (columns : List Column) (texts : List (List ℕ)) → length texts ≡ length columns
     → All (λ column. column.attribute < width) columns
-    → All (λ (cell : ℕ × List ℕ). cell.0 < width) (map (λ (cell : Column × List ℕ). (cell.0.attribute, cell.1)) (zip columns texts))
+    → All (λ (cell : ℕ × List ℕ). cell.0 < width) (map (λ (cell : Column × List ℕ). (cell.0.attribute, cell.1))
+    (zip columns texts))
 cells-within width columns texts whole within =
     let attributed : Column × List ℕ → ℕ × List ℕ = λ cell. (cell.0.attribute, cell.1) in
     All-map (λ (cell : ℕ × List ℕ). cell.0 < width) attributed (zip columns texts) (λ index past inside.

@@ -12,5 +12,6 @@ word_of-plain column plain = elim (cases_Bool (is_starred column)) [
   | inl starred ↦
       let last : ℕ = length column - 1 in
       let star : 42 ∷ [] ≡ drop last column = (bytes_decides (42 ∷ []) (drop last column)).0 starred in
-      absurd (plain (take last column) (sym (take-append-drop last column) ∙ ap (λ rest. take last column ++ rest) (sym star)))
+      absurd (plain (take last column) (sym (take-append-drop last column)
+      ∙ ap (λ rest. take last column ++ rest) (sym star)))
 ]

@@ -29,8 +29,8 @@ use master_index::Shelf;
 use std::alloc::Global;
 pub use withdraw::withdraw_deed;
 
-/// What an accepted write of a clerk does. The book of the session's edition is brought to the front of the shelf, or put
-/// there, where a test comes that needs it.
+/// What an accepted write of a clerk does. The book of the session's edition is brought to the front of the shelf, or
+/// put there, where a test comes that needs it.
 pub fn deed_of(
     alloc: Global,
     tables: &Tables,
@@ -52,10 +52,7 @@ pub fn deed_of(
             edition,
             cells,
             confirmed,
-        } => {
-            let (cells, confirmed) = (cells.as_slice(), confirmed.as_slice());
-            enter_deed(alloc, tables, shelf, own, edition, cells, confirmed)
-        }
+        } => enter_deed(alloc, tables, shelf, own, edition, cells, confirmed),
         ClerkWork::Confirm { session, cells } => {
             confirm_deed(alloc, tables, shelf, own, *session, cells.as_slice())
         }

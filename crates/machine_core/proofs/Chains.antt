@@ -7,7 +7,8 @@ use Rattle.fix_model.specs.declared.state.State.{State}
 use Rattle.fix_engine.specs.Verdicts.{IsAnswer}
 use Rattle.fix_engine.proofs.Once.{IsAnswer-unique}
 use Rattle.region_suggest.specs.declared.suggestion.Suggestion.{Suggestion}
-use Rattle.machine_core.specs.Checked.{Answer, Checked, Explanation, done, refused, asked, advised, explained, derived, compared, never, ◌>>=◌, Gives}
+use Rattle.machine_core.specs.Checked.{Answer, Checked, Explanation, done, refused, asked, advised, explained, derived}
+use Rattle.machine_core.specs.Checked.{compared, never, ◌>>=◌, Gives}
 use Rattle.machine_core.proofs.Questions.{AreChanged-unique, AreDerived-unique, IsExplanation-unique}
 use Rattle.machine_core.proofs.Suggestions.{IsSuggestion-unique}
 
@@ -24,7 +25,8 @@ pub refused-not_done : {A : Type 0} (refusal : Refusal) (found : A) → Gives {A
 refused-not_done refusal found gives = cc
 
 -- and is refused so
-pub refused-refusal : {A : Type 0} (refusal other : Refusal) → Gives {A = A} (refused refusal) (Err other) → other ≡ refusal
+pub refused-refusal : {A : Type 0} (refusal other : Refusal) → Gives {A = A} (refused refusal) (Err other)
+    → other ≡ refusal
 refused-refusal refusal other gives = cc
 
 -- there is one answer for a state
@@ -32,8 +34,8 @@ one-answer : (kit : Kit) (state : State) (answer other : Answer)
     → IsAnswer kit state answer.first answer.second answer.verdict
     → IsAnswer kit state other.first other.second other.verdict → answer ≡ other
 one-answer kit state answer other is is_too =
-    let same = IsAnswer-unique kit state answer.verdict other.verdict answer.first answer.second other.first other.second
-    is is_too in
+    let same = IsAnswer-unique kit state answer.verdict other.verdict answer.first answer.second other.first
+    other.second is is_too in
     λ i. record { first = same.0 i; second = same.1 i; verdict = same.2 i }
 
 -- a chain gives one result
@@ -56,7 +58,8 @@ Gives-unique {A} (explained kit state run attribute next) result other gives giv
 Gives-unique {A} (derived kit grid attributes columns next) result other gives gives_too =
     let P : List (ℕ × List (List ℕ)) → Type 0 = λ rows. Gives (next rows) result in
     Gives-unique (next gives_too.0) result other
-    (subst P (AreDerived-unique kit grid attributes columns gives.0 gives_too.0 gives.1 gives_too.1) gives.2) gives_too.2
+    (subst P (AreDerived-unique kit grid attributes columns gives.0 gives_too.0 gives.1 gives_too.1) gives.2)
+    gives_too.2
 Gives-unique {A} (compared before after next) result other gives gives_too =
     let P : List (ℕ × ℕ) → Type 0 = λ pairs. Gives (next pairs) result in
     Gives-unique (next gives_too.0) result other
@@ -160,7 +163,8 @@ pub bind-done : {A : Type 0} (checked : Checked A) → (checked >>= (λ value. d
 bind-done (done value) = refl
 bind-done (refused refusal) = refl
 bind-done (asked kit state more) = λ i. asked kit state (λ answer. bind-done (more answer) i)
-bind-done (advised kit state regions more) = λ i. advised kit state regions (λ suggestion. bind-done (more suggestion) i)
+bind-done (advised kit state regions more) =
+    λ i. advised kit state regions (λ suggestion. bind-done (more suggestion) i)
 bind-done (explained kit state run attribute more) =
     λ i. explained kit state run attribute (λ explanation. bind-done (more explanation) i)
 bind-done (derived kit grid attributes columns more) =

@@ -1,5 +1,6 @@
 -- What is derived: distinct attributes and columns, and a text in each row for each.
-use Rattle.std.proofs.Common.{◌≡◌, ◌∙◌, ℕ, ◌+◌, ◌<◌, List, [], ◌∷◌, ◌++◌, length, get_or, map, Contains, Some, refl, sym, ap, subst, append_assoc, arith}
+use Rattle.std.proofs.Common.{◌≡◌, ◌∙◌, ℕ, ◌+◌, ◌<◌, List, [], ◌∷◌, ◌++◌, length, get_or, map, Contains, Some, refl}
+use Rattle.std.proofs.Common.{sym, ap, subst, append_assoc, arith}
 use Rattle.std.specs.Prelude.{◌==◌, All, IfSome, Ok, find, not, position, slice_get}
 use Rattle.std.specs.List.{list_any}
 use Rattle.std.specs.Str.{bytes_eq}
@@ -26,9 +27,11 @@ use Rattle.master_rows.specs.Master.{IsMaster}
 use Rattle.master_rows.specs.Sheet.{read_sheet}
 use Rattle.master_rows.proofs.Masters.{IsMaster-read_sheet}
 use Rattle.region_derive.specs.Derived.{ArePairs, IsDerived, texts_in}
-use Rattle.machine_core.specs.Checked.{Checked, ◌>>=◌, ◌>>◌, certainly, done, each_behind, rows_for, some_or, unless, Gives}
+use Rattle.machine_core.specs.Checked.{Checked, ◌>>=◌, ◌>>◌, certainly, done, each_behind, rows_for, some_or, unless}
+use Rattle.machine_core.specs.Checked.{Gives}
 use Rattle.machine_core.specs.declared.derivation.Derivation.{Derivation}
-use Rattle.machine_core.specs.Deriving.{IsDerivable, another_column, another_pair, derivation_of, derived_rows, derived_sheet, master_of, places_of}
+use Rattle.machine_core.specs.Deriving.{IsDerivable, another_master_column, another_pair, derivation_of, derived_rows}
+use Rattle.machine_core.specs.Deriving.{derived_sheet, master_of, places_of}
 use Rattle.machine_core.specs.Finding.{edition_named}
 use Rattle.machine_core.specs.Steward.AddEdition.{master_name}
 use Rattle.machine_core.specs.Tests.{another_attribute, attribute_of}
@@ -80,8 +83,8 @@ module _ (words names : List (List ℕ)) where
       let first : (ℕ × ℕ) → ℕ = λ one. one.0 in
       let second : (ℕ × ℕ) → ℕ = λ one. one.1 in
       let attribute = Gives-bind_ok (another_attribute words (map first before) pair.0) (λ attribute.
-      another_column names (map second before) pair.1 >>= (λ column. done (attribute, column))) place gives in
-      let column = Gives-bind_ok (another_column names (map second before) pair.1)
+      another_master_column names (map second before) pair.1 >>= (λ column. done (attribute, column))) place gives in
+      let column = Gives-bind_ok (another_master_column names (map second before) pair.1)
       (λ column. done (attribute.0, column)) place attribute.2 in
       let same : place ≡ (attribute.0, column.0) = done-value (attribute.0, column.0) place column.2 in
       subst (λ one. ArePairsSoFar (before ++ one ∷ [])) (sym same) (record {
@@ -107,8 +110,8 @@ module _ (words names : List (List ℕ)) where
       let here = Gives-bind_ok (another_pair words names before pair)
       (λ one. each_behind (before ++ one ∷ []) (another_pair words names) others) found gives in
       let attribute = Gives-bind_ok (another_attribute words (map first before) pair.0) (λ attribute.
-      another_column names (map second before) pair.1 >>= (λ column. done (attribute, column))) here.0 here.1 in
-      let column = Gives-bind_ok (another_column names (map second before) pair.1)
+      another_master_column names (map second before) pair.1 >>= (λ column. done (attribute, column))) here.0 here.1 in
+      let column = Gives-bind_ok (another_master_column names (map second before) pair.1)
       (λ column. done (attribute.0, column)) here.0 attribute.2 in
       let named : word here.0 ≡ pair.0 =
       ap word (done-value (attribute.0, column.0) here.0 column.2)

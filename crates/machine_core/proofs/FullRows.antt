@@ -1,5 +1,6 @@
 -- The rows of a region, one after another.
-use Rattle.std.proofs.Common.{◌≡◌, ◌∙◌, ℕ, ◌+◌, ◌<◌, ◌≤◌, suc, sym, ap, List, [], ◌∷◌, ◌++◌, length, get_or, drop, drop-cons, add-one}
+use Rattle.std.proofs.Common.{◌≡◌, ◌∙◌, ℕ, ◌+◌, ◌<◌, ◌≤◌, suc, sym, ap, List, [], ◌∷◌, ◌++◌, length, get_or, drop}
+use Rattle.std.proofs.Common.{drop-cons, add-one}
 use Rattle.std.proofs.lemmas.List.{append-nil, drop_all}
 use Rattle.machine_core.specs.Checked.{done, ◌>>=◌}
 use Rattle.machine_core.specs.Steward.AddRegion.{full_row, full_rows}
@@ -13,7 +14,8 @@ rows-none attributes rows before none = rw none (sym (bind-done (full_rows attri
 
 -- the next row is found: it stands behind what was found before
 pub rows-step : (attributes : List (List ℕ)) (rows : List (List (List ℕ))) (place : ℕ) (texts : List (List ℕ))
-    (before after : List (List (List ℕ))) (found : List (List ℕ)) → place < length rows → texts ≡ get_or rows place texts
+    (before after : List (List (List ℕ))) (found : List (List ℕ)) → place < length rows
+    → texts ≡ get_or rows place texts
     → full_row attributes (place + 1) texts ≡ done found → after ≡ before ++ found ∷ []
     → (full_rows attributes (place + 1) (drop place rows) >>= joined before)
     ≡ (full_rows attributes (place + 1 + 1) (drop (place + 1) rows) >>= joined after)

@@ -1,8 +1,10 @@
 -- Tests of one item after another, as far as they have come.
-use Rattle.std.proofs.Common.{◌≡◌, ◌∙◌, ℕ, ◌+◌, ◌<◌, ◌≤◌, suc, refl, sym, ap, List, [], ◌∷◌, ◌++◌, length, get_or, drop, append_assoc, drop-cons, add-one}
+use Rattle.std.proofs.Common.{◌≡◌, ◌∙◌, ℕ, ◌+◌, ◌<◌, ◌≤◌, suc, refl, sym, ap, List, [], ◌∷◌, ◌++◌, length, get_or, drop}
+use Rattle.std.proofs.Common.{append_assoc, drop-cons, add-one}
 use Rattle.std.proofs.lemmas.List.{append-nil, drop_all}
 use Rattle.desk_words.specs.declared.refusal.Refusal.{Refusal}
-use Rattle.machine_core.specs.Checked.{Checked, done, refused, asked, advised, explained, derived, compared, never, ◌>>=◌, each, each_behind}
+use Rattle.machine_core.specs.Checked.{Checked, done, refused, asked, advised, explained, derived, compared, never}
+use Rattle.machine_core.specs.Checked.{◌>>=◌, each, each_behind}
 use Rattle.machine_core.proofs.Chains.{bind-done}
 
 -- what is found stands behind what was found before
@@ -14,7 +16,8 @@ pub joined-next : {B : Type 0} (before : List B) (found : B) (others : Checked (
     → ((others >>= (λ more. done (found ∷ more))) >>= joined before) ≡ (others >>= joined (before ++ found ∷ []))
 joined-next before found (done more) = simp append_assoc
 joined-next before found (refused refusal) = refl
-joined-next before found (asked kit state next) = λ i. asked kit state (λ answer. joined-next before found (next answer) i)
+joined-next before found (asked kit state next) =
+    λ i. asked kit state (λ answer. joined-next before found (next answer) i)
 joined-next before found (advised kit state regions next) =
     λ i. advised kit state regions (λ suggestion. joined-next before found (next suggestion) i)
 joined-next before found (explained kit state run attribute next) =

@@ -18,4 +18,5 @@ pub mod Deriving
 pub mod Answering
 pub mod Pairs
 pub mod ReadRows
+pub mod SheetCells
 pub mod Carried

@@ -1,5 +1,6 @@
 -- The newest version of a name is the last row that has it.
-use Rattle.std.proofs.Common.{◌≡◌, ◌∙◌, ◌≤◌, ◌<◌, ◌+◌, ◌==◌, ◌&&◌, ℕ, Bool, true, false, List, [], ◌∷◌, length, take, get_or, Some, None, inl, inr, sym, ap, arith, refl}
+use Rattle.std.proofs.Common.{◌≡◌, ◌∙◌, ◌≤◌, ◌<◌, ◌+◌, ◌==◌, ◌&&◌, ℕ, Bool, true, false, List, [], ◌∷◌, length, take}
+use Rattle.std.proofs.Common.{get_or, Some, None, inl, inr, sym, ap, arith, refl}
 use Rattle.std.specs.Prelude.{count_by, position, slice_get, if◌then◌else◌, MatchOption, Option}
 use Rattle.std.specs.List.{position_or_len}
 use Rattle.std.specs.Str.{bytes_eq}
@@ -19,8 +20,8 @@ position_some : {T : Type 0} (test : T → Bool) (rows : List T) (place : ℕ) (
     → position test rows ≡ Some place
 position_some test rows place row stands passes before =
     let within = slice_get_within rows place row stands in
-    let first : position_or_len test rows ≡ place = position_or_len_is test rows place row (omega (arith, within)) before
-    (λ _. ap test (get_or_from_slice_get rows place row row stands) ∙ passes) in
+    let first : position_or_len test rows ≡ place = position_or_len_is test rows place row (omega (arith, within))
+    before (λ _. ap test (get_or_from_slice_get rows place row row stands) ∙ passes) in
     grind (arith, nat_tests, first, within)
 
 -- where no row passes there is no place
@@ -84,7 +85,8 @@ module _ {T : Type 0} (name_of : T → List ℕ) (version_of : T → ℕ) (rows 
     pub newest-last : newest_of name_of version_of rows name ≡ Some place
     newest-last =
         let version = version-last in
-        position_some tested rows place last.row last.stands (grind (arith, nat_tests, last.named, version)) tested-before
+        position_some tested rows place last.row last.stands (grind (arith, nat_tests, last.named, version))
+        tested-before
 
   -- without a row of the name there is none
   pub newest-none : count_by has rows ≡ 0 → newest_of name_of version_of rows name ≡ None

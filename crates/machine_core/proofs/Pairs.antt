@@ -3,7 +3,7 @@ use Rattle.std.proofs.Common.{◌≡◌, ℕ, List, [], ◌∷◌, ◌++◌, len
 use Rattle.std.specs.Prelude.{Err, zip}
 use Rattle.std.proofs.lemmas.Slice.Zip.{firsts-zip, seconds-zip}
 use Rattle.machine_core.specs.Checked.{done}
-use Rattle.machine_core.specs.Deriving.{another_column, another_pair}
+use Rattle.machine_core.specs.Deriving.{another_master_column, another_pair}
 use Rattle.machine_core.specs.Outcomes.{Finds}
 use Rattle.machine_core.specs.Tests.{another_attribute}
 use Rattle.machine_core.specs.declared.stop.Stop.{Stop}
@@ -22,7 +22,7 @@ module _ (words names : List (List ℕ)) (attributes columns : List ℕ) (each :
     (pair : List ℕ × List ℕ) where
   -- a pair is found as its attribute and its column are
   pub pair-found : (attribute column : ℕ) → another_attribute words attributes pair.0 ≡ done attribute
-      → another_column names columns pair.1 ≡ done column
+      → another_master_column names columns pair.1 ≡ done column
       → another_pair words names (zip attributes columns) pair ≡ done (attribute, column)
   pair-found attribute column first second =
       rw (firsts-zip attributes columns each, seconds-zip attributes columns each, first, second) refl
@@ -36,9 +36,9 @@ module _ (words names : List (List ℕ)) (attributes columns : List ℕ) (each :
 
   -- or its column
   pub no-column : (attribute : ℕ) (stop : Stop) → another_attribute words attributes pair.0 ≡ done attribute
-      → Finds {A = ℕ} (Err stop) (another_column names columns pair.1)
+      → Finds {A = ℕ} (Err stop) (another_master_column names columns pair.1)
       → Finds {A = ℕ × ℕ} (Err stop) (another_pair words names (zip attributes columns) pair)
   no-column attribute stop first finds =
       rw (firsts-zip attributes columns each, seconds-zip attributes columns each, first)
-      (Finds-stopped (another_column names columns pair.1) (λ column. done (attribute, column)) stop (Err stop)
+      (Finds-stopped (another_master_column names columns pair.1) (λ column. done (attribute, column)) stop (Err stop)
       refl finds)

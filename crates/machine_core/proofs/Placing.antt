@@ -17,6 +17,7 @@ put_all-placed sessions [] count is = sym (append-nil sessions)
 put_all-placed sessions (session ∷ news) count is =
     let first : put sessions count session ≡ sessions ++ session ∷ [] =
     ap (λ place. put sessions place session) is ∙ put-end sessions session in
-    let longer : count + 1 ≡ length (sessions ++ session ∷ []) = omega (arith, is, length-append sessions (session ∷ [])) in
+    let longer : count + 1 ≡ length (sessions ++ session ∷ []) =
+    omega (arith, is, length-append sessions (session ∷ [])) in
     ap (λ list. put_all list (placed (count + 1) news)) first
     ∙ put_all-placed (sessions ++ session ∷ []) news (count + 1) longer ∙ append_assoc sessions (session ∷ []) news

@@ -1,13 +1,15 @@
 -- What stands on the shelf after an edition was brought to its front, or put there.
-use Rattle.std.proofs.Common.{◌≡◌, ◌∙◌, ℕ, nat_eq, true, List, [], ◌∷◌, Option, Some, None, inl, inr, refl, subst, ap, sym, take, eq-eqb}
+use Rattle.std.proofs.Common.{◌≡◌, ◌∙◌, ◌-◌, ℕ, nat_eq, true, List, [], ◌∷◌, Option, Some, None, inl, inr, refl}
+use Rattle.std.proofs.Common.{subst, ap, sym, take, eq-eqb}
 use Rattle.std.specs.Borrow.{Bor}
-use Rattle.std.specs.Prelude.{All, IfSome, OnErr, OnOk, Result, Ok, Err, is_some}
+use Rattle.std.specs.Prelude.{All, IfSome, OnErr, OnOk, Result, Ok, Err, is_some, slice_get}
 use Rattle.std.specs.Map.{lookup, lookup_entry, remove_entry}
 use Rattle.std.specs.Option.{option_copied, option_map_or}
 use Rattle.std.proofs.lemmas.Bool.{cases_Bool, eqb-true}
 use Rattle.std.proofs.lemmas.Option.{same_Some}
 use Rattle.std.proofs.lemmas.List.Elements.{All-cons, All-head, All-tail, All-take}
 use Rattle.master_index.specs.declared.shelf.Shelved.{Shelved}
+use Rattle.master_index.specs.declared.shelf.TheConstants.{MAX_HELD}
 use Rattle.master_index.specs.Held.{brought_first, put_first}
 use Rattle.desk_words.specs.Tables.{Published}
 use Rattle.desk_valid.specs.Bindings.{bound_at}
@@ -46,9 +48,9 @@ module _ (P : ℕ × Shelved → Type 0) (edition : ℕ) where
   placed : (found : Option (ℕ × Shelved)) (held : List (ℕ × Shelved)) (shelved : Shelved) → Found found → All P held
       → P (edition, shelved)
       → All P (option_map_or (λ pair. (pair.0, shelved) ∷ remove_entry (nat_eq edition) held)
-      found ((edition, shelved) ∷ take 3 held))
+      found ((edition, shelved) ∷ take (MAX_HELD - 1) held))
   placed None held shelved good all is =
-      All-cons P (edition, shelved) (take 3 held) is (All-take P 3 held all)
+      All-cons P (edition, shelved) (take (MAX_HELD - 1) held) is (All-take P (MAX_HELD - 1) held all)
   placed (Some pair) held shelved good all is =
       let here : P (pair.0, shelved) = subst (λ one. P (one, shelved)) (sym good.1) is in
       All-cons P (pair.0, shelved) (remove_entry (nat_eq edition) held) here (others-stay held all)
@@ -76,7 +78,7 @@ module _ (P : ℕ × Shelved → Type 0) (edition : ℕ) where
 
   put-front : (found : Option (ℕ × Shelved)) (held : List (ℕ × Shelved)) (shelved : Shelved) → Found found
       → IsFirst edition (option_map_or (λ pair. (pair.0, shelved) ∷ remove_entry (nat_eq edition) held) found
-      ((edition, shelved) ∷ take 3 held))
+      ((edition, shelved) ∷ take (MAX_HELD - 1) held))
   put-front None held shelved good = refl
   put-front (Some pair) held shelved good = ap Some good.1
 
@@ -87,8 +89,8 @@ module _ (P : ℕ × Shelved → Type 0) (edition : ℕ) where
 
   -- what is held stays good where a good book was to be put, be there memory or not
   pub All-after_put : {E : Type 0} (result : Result (Unit {0}) E) (new held : List (ℕ × Shelved)) (shelved : Shelved)
-      → OnOk result (new ≡ put_first edition shelved held) → OnErr result (new ≡ held) → All P held → P (edition, shelved)
-      → All P new
+      → OnOk result (new ≡ put_first edition shelved held) → OnErr result (new ≡ held) → All P held
+      → P (edition, shelved) → All P new
   All-after_put (Ok done) new held shelved put stays all is = rw put (All-put held shelved all is)
   All-after_put (Err fault) new held shelved put stays all is = rw stays all
 
@@ -104,6 +106,15 @@ held-first edition [] first = absurd (cc)
 held-first edition (pair ∷ rest) first =
     let same : pair.0 ≡ edition = same_Some pair.0 edition first in
     rw (eq-eqb edition pair.0 (sym same)) refl
+
+-- and what is found of it is what stands there
+pub found-first : (edition : ℕ) (held : List (ℕ × Shelved)) (shelved : Shelved) → IsFirst edition held
+    → lookup (nat_eq edition) held ≡ Some shelved → slice_get held 0 ≡ Some (edition, shelved)
+found-first edition [] shelved first is = absurd (cc)
+found-first edition (pair ∷ rest) shelved first is =
+    let same : pair.0 ≡ edition = same_Some pair.0 edition first in
+    let found : pair.1 ≡ shelved = same_Some pair.1 shelved (rw (eq-eqb edition pair.0 (sym same)) at is) in
+    λ i. Some (same i, found i)
 
 -- a book that is held is that of its edition
 pub bound-held : (published : Published) (edition : ℕ) (held : List (ℕ × Shelved)) (shelved : Shelved)

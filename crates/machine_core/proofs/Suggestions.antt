@@ -1,5 +1,6 @@
 -- There is one suggestion at most.
-use Rattle.std.proofs.Common.{◌≡◌, ◌⊎◌, ℕ, ◌+◌, ◌<◌, ◌≤◌, zero, suc, Bool, true, false, List, [], ◌∷◌, length, get_or, map, inl, inr, refl, sym, ap, subst, ◌∙◌, arith}
+use Rattle.std.proofs.Common.{◌≡◌, ◌⊎◌, ℕ, ◌+◌, ◌<◌, ◌≤◌, zero, suc, Bool, true, false, List, [], ◌∷◌, length, get_or}
+use Rattle.std.proofs.Common.{map, inl, inr, refl, sym, ap, subst, ◌∙◌, arith}
 use Rattle.std.specs.Prelude.{◌↔◌, All, AllPairs, Contains, count_by}
 use Rattle.std.proofs.lemmas.List.{get_or_default, same_lists}
 use Rattle.std.proofs.lemmas.List.Elements.{All-head, All-tail}
@@ -15,7 +16,8 @@ use Rattle.region_suggest.specs.Hope.{AreAllHoped}
 use Rattle.region_suggest.specs.Need.{IsGivenWithout, IsNeed, IsNeeded}
 use Rattle.region_suggest.specs.Offers.{IsOffer, IsOfferBefore, ListsExactly}
 use Rattle.region_suggest.specs.Suggestions.{AdvisesAtFix, AdvisesNothing, IsSuggestion}
-use Rattle.region_suggest.proofs.Lists.{Contains-behind, Contains-cases, Contains-first, Contains-nil}
+use Rattle.fix_engine.proofs.Lists.{Contains-behind, Contains-cases, Contains-first}
+use Rattle.region_suggest.proofs.Lists.{Contains-nil}
 
 -- the first of a list in order comes before each that the list contains behind it
 first-before : {A : Type 0} (R : A → A → Type 0) (first : A) (rest : List A) → AllPairs R (first ∷ rest) → (one : A)
@@ -24,7 +26,8 @@ first-before R first rest in_order one (place, within, is) =
     subst (λ other. R first other) is (in_order 0 (suc place) one (omega arith) (omega arith))
 
 -- and without it the list is in order too
-rest-in_order : {A : Type 0} (R : A → A → Type 0) (first : A) (rest : List A) → AllPairs R (first ∷ rest) → AllPairs R rest
+rest-in_order : {A : Type 0} (R : A → A → Type 0) (first : A) (rest : List A) → AllPairs R (first ∷ rest)
+    → AllPairs R rest
 rest-in_order R first rest in_order i j d before within = in_order (suc i) (suc j) d (omega arith) (omega arith)
 
 -- two lists in a strict order that contain the same are one
@@ -46,7 +49,8 @@ module _ {A : Type 0} (R : A → A → Type 0) (apart : (one other : A) → R on
   contains-behind : (first : A) (rest others : List A) → AllPairs R (first ∷ rest) → (one : A) → Contains rest one
       → Contains (first ∷ others) one → Contains others one
   contains-behind first rest others in_order one behind there = elim (Contains-cases first one others there) [
-    | inl same ↦ absurd (strict one (subst (λ other. R other one) (sym same) (first-before R first rest in_order one behind)))
+    | inl same ↦ absurd (strict one (subst (λ other. R other one) (sym same)
+        (first-before R first rest in_order one behind)))
     | inr found ↦ found
   ]
 
@@ -124,10 +128,12 @@ module _ (kit : Kit) (state : State) where
       absurd (omega (arith, ((is.each attribute).0 there).within, last))
   needed-from need other is is_too (suc left) attribute last there =
       (is_too.each attribute).1 (needed-alike need other attribute
-      (λ later behind found. needed-from other need is_too is left later (omega arith) found) ((is.each attribute).0 there))
+      (λ later behind found. needed-from other need is_too is left later (omega arith) found)
+      ((is.each attribute).0 there))
 
   same-need : (need other : List ℕ) → IsNeed kit state need → IsNeed kit state other → need ≡ other
-  same-need need other is is_too = same-in_order (λ one another. one < another) (λ one another before after. omega arith)
+  same-need need other is is_too =
+      same-in_order (λ one another. one < another) (λ one another before after. omega arith)
       (λ one before. omega arith) need other is.in_order is_too.in_order
       (λ attribute. (
         needed-from need other is is_too kit.width attribute (omega arith),
@@ -140,7 +146,8 @@ module _ (kit : Kit) (state : State) where
   same-flag false true there here = here refl
   same-flag false false there here = refl
 
-  same-gain : (attribute gain other : ℕ) → IsGain kit state attribute gain → IsGain kit state attribute other → gain ≡ other
+  same-gain : (attribute gain other : ℕ) → IsGain kit state attribute gain → IsGain kit state attribute other
+      → gain ≡ other
   same-gain attribute gain other is is_too =
       let lengths : length is.closure ≡ length is_too.closure = is.whole ∙ sym is_too.whole in
       let same : is.closure ≡ is_too.closure = same_lists is.closure is_too.closure lengths (λ place d within.
@@ -149,7 +156,8 @@ module _ (kit : Kit) (state : State) where
       ap (λ flags. count_by (λ flag. flag) flags) same in
       omega (arith, is.counted, is_too.counted, counts)
     where
-      same-at : (place : ℕ) (d : Bool) → place < length is.closure → get_or is.closure place d ≡ get_or is_too.closure place d
+      same-at : (place : ℕ) (d : Bool) → place < length is.closure → get_or is.closure place d
+          ≡ get_or is_too.closure place d
       same-at place d within =
           get_or_default is.closure place d false within
           ∙ same-flag (get_or is.closure place false) (get_or is_too.closure place false)
@@ -178,8 +186,10 @@ module _ (Holds : ℕ → ℕ → Type 0) (one_gain : (attribute gain other : �
       let P : ℕ × ℕ → Type 0 = λ one. Holds one.0 one.1 in
       let heads : gain.0 ≡ other.0 = cc in
       let tails : map (λ (one : ℕ × ℕ). one.0) gains ≡ map (λ (one : ℕ × ℕ). one.0) others = cc in
-      let first : gain ≡ other = same-pair gain other heads (All-head P gain gains are) (All-head P other others are_too) in
-      let rest : gains ≡ others = same-gains gains others tails (All-tail P gain gains are) (All-tail P other others are_too) in
+      let first : gain ≡ other = same-pair gain other heads (All-head P gain gains are)
+      (All-head P other others are_too) in
+      let rest : gains ≡ others = same-gains gains others tails (All-tail P gain gains are)
+      (All-tail P other others are_too) in
       ap (λ head. head ∷ gains) first ∙ ap (λ tail. other ∷ tail) rest
 
 -- what is advised: equal needs and gains
@@ -203,8 +213,8 @@ module _ (kit : Kit) (state : State) (suggestion other : Suggestion) where
   never-both one advises conflict =
       let same : advises.first ≡ conflict.0 = IsFirstRun-unique kit state advises.first conflict.0
       advises.fix.is_first conflict.1 in
-      conflict.2.differs (subst (λ run. EndAlike kit state run conflict.2.other) same
-      (advises.fix.unique conflict.2.other conflict.2.maximal))
+      conflict.2.1.differs (subst (λ run. EndAlike kit state run conflict.2.0) same
+      (advises.fix.unique conflict.2.0 conflict.2.1.maximal))
 
   advised-alike : AdvisesAtFix kit state suggestion ⊎ AdvisesNothing kit state suggestion
       → AdvisesAtFix kit state other ⊎ AdvisesNothing kit state other

@@ -1,5 +1,6 @@
 -- What a test says, where it finds a value and where it refuses.
-use Rattle.std.proofs.Common.{◌≡◌, ◌⊎◌, ◌∙◌, ℕ, suc, ◌+◌, ◌≤◌, ◌<◌, refl, sym, ap, subst, List, [], ◌∷◌, ◌++◌, length, Contains, inl, inr, Option, Some, None, Bool, true, false, arith}
+use Rattle.std.proofs.Common.{◌≡◌, ◌⊎◌, ◌∙◌, ℕ, suc, ◌+◌, ◌≤◌, ◌<◌, refl, sym, ap, subst, List, [], ◌∷◌, ◌++◌, length}
+use Rattle.std.proofs.Common.{Contains, inl, inr, Option, Some, None, Bool, true, false, arith}
 use Rattle.std.specs.Prelude.{All, Result, Ok, Err, nat_le}
 use Rattle.std.proofs.lemmas.Bool.Decides.{nat_tests}
 use Rattle.std.proofs.lemmas.List.{length-append}
@@ -7,12 +8,14 @@ use Rattle.std.proofs.lemmas.List.Elements.{All-cons, All-nil, Contains-append_r
 use Rattle.desk_words.specs.declared.limit.Which.{Which}
 use Rattle.desk_words.specs.declared.refusal.Refusal.{Refusal}
 use Rattle.desk_words.specs.declared.refusal.Refusal.TheVariants.{Limit}
-use Rattle.machine_core.specs.Checked.{Checked, done, ◌>>=◌, certainly, each, each_behind, some_or, unless, value_or, Gives}
+use Rattle.machine_core.specs.Checked.{Checked, done, ◌>>=◌, certainly, each, each_behind, some_or, unless, value_or}
+use Rattle.machine_core.specs.Checked.{Gives}
 use Rattle.machine_core.specs.Limits.{limit_of, within}
 use Rattle.machine_core.proofs.Chains.{Gives-bind, Gives-bind_err, Gives-bind_ok, done-not_refused, done-value}
 
 -- the test passed
-pub unless-ok : (test : Bool) (refusal : Refusal) (passed : Unit {0}) → Gives (unless test refusal) (Ok passed) → test ≡ true
+pub unless-ok : (test : Bool) (refusal : Refusal) (passed : Unit {0}) → Gives (unless test refusal) (Ok passed)
+    → test ≡ true
 unless-ok true refusal passed gives = refl
 unless-ok false refusal passed gives = absurd (cc)
 
@@ -29,13 +32,15 @@ some_or-ok None refusal found gives = absurd (cc)
 some_or-ok (Some other) refusal found gives = cc
 
 -- what is refused where there is none
-pub some_or-err : {A : Type 0} (option : Option A) (refusal other : Refusal) → Gives (some_or option refusal) (Err other)
+pub some_or-err : {A : Type 0} (option : Option A) (refusal other : Refusal)
+    → Gives (some_or option refusal) (Err other)
     → (option ≡ None) × (other ≡ refusal)
 some_or-err None refusal other gives = (refl, cc)
 some_or-err (Some found) refusal other gives = absurd (cc)
 
 -- what valid tables have
-pub certainly-ok : {A : Type 0} (option : Option A) (found : A) → Gives (certainly option) (Ok found) → option ≡ Some found
+pub certainly-ok : {A : Type 0} (option : Option A) (found : A) → Gives (certainly option) (Ok found)
+    → option ≡ Some found
 certainly-ok None found gives = absurd gives
 certainly-ok (Some other) found gives = cc
 
@@ -77,12 +82,14 @@ within-err which count other gives =
 
 -- where a list passes, what holds of each that is found holds of all
 pub each-all : {A B : Type 0} (P : B → Type 0) (find : A → Checked B) (items : List A) (found : List B)
-    → ((item : A) (value : B) → Gives (find item) (Ok value) → P value) → Gives (each find items) (Ok found) → All P found
+    → ((item : A) (value : B) → Gives (find item) (Ok value) → P value) → Gives (each find items) (Ok found)
+    → All P found
 each-all P find [] found holds gives = subst (All P) (sym (done-value [] found gives)) (All-nil P)
 each-all P find (first ∷ others) found holds gives =
     let here = Gives-bind_ok (find first) (λ one. each find others >>= (λ more. done (one ∷ more))) found gives in
     let rest = Gives-bind_ok (each find others) (λ more. done (here.0 ∷ more)) found here.2 in
-    subst (All P) (sym (done-value (here.0 ∷ rest.0) found rest.2)) (All-cons P here.0 rest.0 (holds first here.0 here.1)
+    subst (All P) (sym (done-value (here.0 ∷ rest.0) found rest.2))
+    (All-cons P here.0 rest.0 (holds first here.0 here.1)
     (each-all P find others rest.0 holds rest.1))
 
 -- as many are found as there are items
@@ -119,7 +126,8 @@ each_behind-all P find (first ∷ others) before found holds start gives =
     each_behind-all P find others (before ++ here.0 ∷ []) found holds (holds before first here.0 start here.1) here.2
 
 -- where such a list is refused, one of its items is, behind those before it
-pub each_behind-err : {A B : Type 0} (find : List B → A → Checked B) (items : List A) (before : List B) (refusal : Refusal)
+pub each_behind-err : {A B : Type 0} (find : List B → A → Checked B) (items : List A) (before : List B)
+    (refusal : Refusal)
     → Gives (each_behind before find items) (Err refusal)
     → (item : A) × Contains items item × (sofar : List B) × Gives (find sofar item) (Err refusal)
 each_behind-err find [] before refusal gives = absurd (cc)
@@ -136,7 +144,11 @@ pub each_behind-length : {A B : Type 0} (find : List B → A → Checked B) (ite
 each_behind-length find [] before found gives = omega (arith, ap length (done-value before found gives))
 each_behind-length find (first ∷ others) before found gives =
     let here = Gives-bind_ok (find before first) (λ one. each_behind (before ++ one ∷ []) find others) found gives in
-    omega (arith, each_behind-length find others (before ++ here.0 ∷ []) found here.2, length-append before (here.0 ∷ []))
+    omega (
+      arith,
+      each_behind-length find others (before ++ here.0 ∷ []) found here.2,
+      length-append before (here.0 ∷ []),
+    )
 
 -- what holds of each refusal of the parts holds of that of the chain
 pub chain-why : {A B : Type 0} (P : Refusal → Type 0) (checked : Checked A) (next : A → Checked B)
@@ -148,13 +160,15 @@ chain-why P checked next first rest refusal gives = elim (Gives-bind_err checked
   | inr there ↦ rest there.0 there.1 refusal there.2
 ]
 
-pub unless-why : (P : Refusal → Type 0) (test : Bool) (refusal : Refusal) → (test ≡ false → P refusal) → (other : Refusal)
+pub unless-why : (P : Refusal → Type 0) (test : Bool) (refusal : Refusal) → (test ≡ false → P refusal)
+    → (other : Refusal)
     → Gives (unless test refusal) (Err other) → P other
 unless-why P test refusal why other gives =
     let says = unless-err test refusal other gives in
     subst P (sym says.1) (why says.0)
 
-pub some_or-why : {A : Type 0} (P : Refusal → Type 0) (option : Option A) (refusal : Refusal) → (option ≡ None → P refusal)
+pub some_or-why : {A : Type 0} (P : Refusal → Type 0) (option : Option A) (refusal : Refusal)
+    → (option ≡ None → P refusal)
     → (other : Refusal) → Gives (some_or option refusal) (Err other) → P other
 some_or-why P option refusal why other gives =
     let says = some_or-err option refusal other gives in
@@ -211,7 +225,8 @@ each_behind-refused find (first ∷ others) before refusal gives =
     ]
 
 -- each value that is found behind others was found for an item
-pub each_behind-found : {A B : Type 0} (find : List B → A → Checked B) (items : List A) (before sofar : List B) (value : B)
+pub each_behind-found : {A B : Type 0} (find : List B → A → Checked B) (items : List A) (before sofar : List B)
+    (value : B)
     → Gives (each_behind before find items) (Ok sofar) → Contains sofar value
     → Contains before value ⊎ ((item : A) × Contains items item × (some : List B) × Gives (find some item) (Ok value))
 each_behind-found find [] before sofar value gives there =
@@ -221,7 +236,12 @@ each_behind-found find (first ∷ others) before sofar value gives there =
     elim (each_behind-found find others (before ++ here.0 ∷ []) sofar value here.2 there) [
       | inl found ↦ elim (Contains-push_cases before here.0 value found) [
         | inl earlier ↦ inl earlier
-        | inr is ↦ inr (first, (0, grind arith, refl), before, subst (λ one. Gives (find before first) (Ok one)) is here.1)
+        | inr is ↦ inr (
+          first,
+          (0, grind arith, refl),
+          before,
+          subst (λ one. Gives (find before first) (Ok one)) is here.1,
+        )
       ]
       | inr rest ↦ inr (rest.0, Contains-append_right (first ∷ []) others rest.0 rest.1, rest.2, rest.3)
     ]

@@ -1,11 +1,12 @@
 -- How many attributes the sessions of an edition have.
-use Rattle.std.proofs.Common.{◌≡◌, ◌∙◌, ℕ, ◌<◌, ◌≤◌, Bool, true, false, List, [], ◌∷◌, length, map, set, replicate, Option, Some, refl, sym, ap, subst, arith}
+use Rattle.std.proofs.Common.{◌≡◌, ◌∙◌, ℕ, ◌<◌, ◌≤◌, Bool, true, false, List, [], ◌∷◌, length, map, set, replicate}
+use Rattle.std.proofs.Common.{Option, Some, refl, sym, ap, subst, arith}
 use Rattle.std.specs.Prelude.{IfSome, IsSomeAnd, option_map, slice_get}
 use Rattle.std.specs.List.{range_with_len}
 use Rattle.std.proofs.lemmas.List.{length-map, length-replicate, length-set}
 use Rattle.std.proofs.lemmas.List.FromFn.{length-range_with_len}
 use Rattle.std.proofs.lemmas.Option.{option_and_then_some, slice_get_within}
-use Rattle.rule_text.specs.Binding.{is_among}
+use Rattle.desk_base.specs.Places.{is_listed}
 use Rattle.desk_words.specs.declared.rows.batch.BatchRow.{BatchRow}
 use Rattle.desk_words.specs.declared.rows.session.SessionRow.{SessionRow}
 use Rattle.desk_words.specs.Tables.{Published, Rows, published_of}
@@ -40,7 +41,8 @@ width-bound published edition bound is =
     let masters = option_map-Some (λ masters. record { rules = rules; masters = masters })
     (all_of (map (master_at published) row.masters)) parts rest in
     let names : length rules.schema.attributes ≡ length bound.names.attributes =
-    ap (λ one. length one.rules.schema.attributes) masters.2 ∙ ap (λ (one : Bound). length one.names.attributes) kit.2 in
+    ap (λ one. length one.rules.schema.attributes) masters.2
+    ∙ ap (λ (one : Bound). length one.names.attributes) kit.2 in
     rw (stands, found, names) refl)))
 
 -- the kit of an edition of valid tables is valid, and each of its places has a name
@@ -67,7 +69,8 @@ pub typed-width : (published : Published) (batches : List BatchRow) (session : S
     → bound_at published session.edition ≡ Some bound → IsSessionRow published batches session
     → length session.typed ≡ length bound.names.attributes
 typed-width published batches session bound is good =
-    subst (λ found. IfSome found (λ width. length session.typed ≡ width)) (width-bound published session.edition bound is)
+    subst (λ found. IfSome found (λ width. length session.typed ≡ width))
+    (width-bound published session.edition bound is)
     good.typed
 
 -- it has as many flags
@@ -75,11 +78,13 @@ pub confirmed-width : (published : Published) (batches : List BatchRow) (session
     → bound_at published session.edition ≡ Some bound → IsSessionRow published batches session
     → length session.confirmed ≡ length bound.names.attributes
 confirmed-width published batches session bound is good =
-    subst (λ found. IfSome found (λ width. length session.confirmed ≡ width)) (width-bound published session.edition bound is)
+    subst (λ found. IfSome found (λ width. length session.confirmed ≡ width))
+    (width-bound published session.edition bound is)
     good.confirmed
 
 -- what is typed and confirmed keeps its length
-pub length-typed_over : (texts : List (List ℕ)) (cells : List (ℕ × List ℕ)) → length (typed_over texts cells) ≡ length texts
+pub length-typed_over : (texts : List (List ℕ)) (cells : List (ℕ × List ℕ))
+    → length (typed_over texts cells) ≡ length texts
 length-typed_over texts [] = refl
 length-typed_over texts ((place, text) ∷ others) =
     length-typed_over (set texts place text) others ∙ length-set texts place text
@@ -104,10 +109,11 @@ IsSessionRow-new published batches edition bound cells confirmed batch is within
     let typed : length session.typed ≡ width =
     length-typed_over (replicate width []) cells ∙ length-replicate width [] in
     let flags : length session.confirmed ≡ width =
-    length-map (range_with_len 0 width) (is_among confirmed) ∙ length-range_with_len 0 width in
+    length-map (range_with_len 0 width) (is_listed confirmed) ∙ length-range_with_len 0 width in
     record {
       edition = edition-stands published edition bound is;
-      typed = subst (λ found. IfSome found (λ one. length session.typed ≡ one)) (sym (width-bound published edition bound is))
+      typed = subst (λ found. IfSome found (λ one. length session.typed ≡ one))
+          (sym (width-bound published edition bound is))
           typed;
       confirmed = subst (λ found. IfSome found (λ one. length session.confirmed ≡ one))
           (sym (width-bound published edition bound is)) flags;

@@ -1,13 +1,15 @@
 -- Why a request is refused: one equation a refusal, without any order.
-use Rattle.std.specs.Prelude.{◌≡◌, ◌≢◌, ◌⊎◌, ℕ, ◌+◌, ◌-◌, ◌<◌, ◌≤◌, false, IsSomeAnd, List, [], ◌∷◌, ◌++◌, All, Contains, IsTrue, drop, length, map, option_map, position, replicate, slice_get, slice_index_or, Some, None, Ok, Err}
+use Rattle.std.specs.Prelude.{◌≡◌, ◌≢◌, ◌⊎◌, ℕ, ◌+◌, ◌-◌, ◌<◌, ◌≤◌, false, IsSomeAnd, List, [], ◌∷◌, ◌++◌, All}
+use Rattle.std.specs.Prelude.{Contains, IsTrue, drop, length, map, option_map, position, replicate, slice_get}
+use Rattle.std.specs.Prelude.{slice_index_or, Some, None, Ok, Err}
 use Rattle.std.specs.Str.{bytes_eq}
 use Rattle.desk_base.specs.declared.limits.TheConstants.{MAX_ENTRIES, MAX_TEXT}
 use Rattle.desk_base.specs.Words.{is_name}
 use Rattle.desk_words.specs.declared.clerk_work.Accept.{Accept}
 use Rattle.desk_words.specs.declared.clerk_work.Accept.TheVariants.{Certain}
-use Rattle.desk_words.specs.declared.clerk_work.ClerkWork.TheVariants.{Enter, Confirm, Withdraw, Commit, Abandon, Batch, Carry}
+use Rattle.desk_words.specs.declared.clerk_work.ClerkWork.TheVariants.{Enter, Confirm, Withdraw, Commit, Batch}
 use Rattle.desk_words.specs.declared.command.Command.{Command}
-use Rattle.desk_words.specs.declared.command.Command.TheVariants.{Steward, Clerk, Look, DeskReport, DeskDerive}
+use Rattle.desk_words.specs.declared.command.Command.TheVariants.{Steward, Clerk, Look}
 use Rattle.desk_words.specs.declared.command.Ticket.{Ticket}
 use Rattle.desk_words.specs.declared.limit.Which.{Which}
 use Rattle.desk_words.specs.declared.limit.Which.TheVariants as which
@@ -15,12 +17,17 @@ use Rattle.desk_words.specs.declared.look.Look.TheVariants.{Explain}
 use Rattle.desk_words.specs.declared.refusal.Kind.TheVariants as kind
 use Rattle.desk_words.specs.declared.refusal.Reader.TheVariants as reader
 use Rattle.desk_words.specs.declared.refusal.Refusal.{Refusal}
-use Rattle.desk_words.specs.declared.refusal.Refusal.TheVariants.{NoClerk, Stale, Gap, Reused, NoSuch, Closed, UnknownAttr, ValueLong, NotCertain, InConflict, NotConfirmed, Limit, BadText, Unavailable, NoMemory, Twice, Taken, BadName, RowWidth, NotFixed, NoColumn, NotNewer}
+use Rattle.desk_words.specs.declared.refusal.Refusal.TheVariants.{NoClerk, Stale, Gap, Reused, NoSuch, Closed}
+use Rattle.desk_words.specs.declared.refusal.Refusal.TheVariants.{UnknownAttr, ValueLong, NotCertain, InConflict}
+use Rattle.desk_words.specs.declared.refusal.Refusal.TheVariants.{NotConfirmed, Limit, BadText, Unavailable, NoMemory}
+use Rattle.desk_words.specs.declared.refusal.Refusal.TheVariants.{Twice, Taken, BadName, RowWidth, NotFixed, NoColumn}
+use Rattle.desk_words.specs.declared.refusal.Refusal.TheVariants.{NotNewer}
 use Rattle.desk_words.specs.declared.rows.clerk.ClerkRow.{ClerkRow}
 use Rattle.desk_words.specs.declared.rows.edition.EditionRow.{EditionRow}
 use Rattle.desk_words.specs.declared.rows.session.SessionRow.{SessionRow}
 use Rattle.desk_words.specs.declared.rows.session.Stage.TheVariants.{Active}
-use Rattle.desk_words.specs.declared.steward_work.StewardWork.TheVariants.{AddClerk, AddSchema, AddMaster, AddRulebook, AddEdition, AddRegion, AddDerived}
+use Rattle.desk_words.specs.declared.steward_work.StewardWork.TheVariants.{AddClerk, AddSchema, AddMaster, AddRulebook}
+use Rattle.desk_words.specs.declared.steward_work.StewardWork.TheVariants.{AddEdition, AddRegion}
 use Rattle.desk_words.specs.Tables.{Rows, published_of}
 use Rattle.desk_valid.specs.declared.bound.Bound.{Bound}
 use Rattle.desk_valid.specs.Bindings.{binding, bound_at, parts_of}
@@ -51,10 +58,12 @@ use Rattle.machine_core.specs.Clerk.Confirm.{bytes_with, confirm_row}
 use Rattle.machine_core.specs.Clerk.Enter.{typed_over}
 use Rattle.machine_core.specs.Deriving.{master_of}
 use Rattle.machine_core.specs.Faults.{bind_refusal, rules_refusal, schema_refusal, sheet_refusal}
-use Rattle.machine_core.specs.Finding.{edition_named, master_named, newest_edition, rulebook_named, schema_named, session_at}
+use Rattle.machine_core.specs.Finding.{edition_named, master_named, newest_edition, rulebook_named, schema_named}
+use Rattle.machine_core.specs.Finding.{session_at}
 use Rattle.machine_core.specs.Limits.{limit_of}
 use Rattle.machine_core.specs.Machine.{clerk_of}
-use Rattle.machine_core.specs.Named.{GivesText, attributes_in, carried_in, clerk_in, columns_in, edition_in, master_in, masters_in, new_name_in, rulebook_in, schema_in, session_in, version_in}
+use Rattle.machine_core.specs.Named.{GivesText, attributes_in, carried_in, clerk_in, columns_in, edition_in, master_in}
+use Rattle.machine_core.specs.Named.{masters_in, new_name_in, rulebook_in, schema_in, session_in, version_in}
 use Rattle.machine_core.specs.Own.{Own, own_of}
 use Rattle.machine_core.specs.Steward.AddEdition.{master_name}
 use Rattle.machine_core.specs.Steward.AddRegion.{region_count}
@@ -74,9 +83,7 @@ abbrev pub WritesWith : Rows → Command → ClerkRow → Ticket → Type 0
 WritesWith rows (Steward ticket work) row one = (row ≡ (own_of rows 0).row) × (one ≡ ticket)
 WritesWith rows (Clerk name ticket work) row one =
     (place : ℕ) × (clerk_of rows.clerks name ≡ done place) × (row ≡ (own_of rows place).row) × (one ≡ ticket)
-WritesWith rows (Look name look) row one = ⊥
-WritesWith rows DeskReport row one = ⊥
-WritesWith rows (DeskDerive edition version master pairs) row one = ⊥
+WritesWith rows _ row one = ⊥
 
 -- the command names this session of the clerk who asks
 pub record Names (rows : Rows) (command : Command) (session : SessionRow) : Type 0 where
@@ -176,36 +183,16 @@ RefusesBody rows (Steward ticket (AddEdition name rulebook masters folded)) refu
     ((fault : BindFault) × (binding parts row.folded ≡ Err fault) × (refusal ≡ bind_refusal fault))
     ⊎ ((kit : Kit) × (binding parts row.folded ≡ Ok kit) × (MAX_ENTRIES < entries kit)
     × (refusal ≡ BadText reader.Index 1 (entries kit) 0)))
-RefusesBody rows (Steward ticket (AddClerk name)) refusal = ⊥
-RefusesBody rows (Steward ticket (AddRegion edition version attributes texts)) refusal = ⊥
-RefusesBody rows (Steward ticket (AddDerived edition version master pairs from)) refusal = ⊥
 RefusesBody rows (Clerk name ticket (Batch edition body)) refusal =
     (fault : SheetFault) × (read_sheet body ≡ Err fault) × (refusal ≡ sheet_refusal fault)
-RefusesBody rows (Clerk name ticket (Enter edition cells confirmed)) refusal = ⊥
-RefusesBody rows (Clerk name ticket (Confirm number cells)) refusal = ⊥
-RefusesBody rows (Clerk name ticket (Withdraw number words)) refusal = ⊥
-RefusesBody rows (Clerk name ticket (Commit number accept)) refusal = ⊥
-RefusesBody rows (Clerk name ticket (Abandon number)) refusal = ⊥
-RefusesBody rows (Clerk name ticket (Carry number version)) refusal = ⊥
-RefusesBody rows (Look name look) refusal = ⊥
-RefusesBody rows DeskReport refusal = ⊥
-RefusesBody rows (DeskDerive edition version master pairs) refusal = ⊥
+RefusesBody rows _ refusal = ⊥
 
 -- a row of this number in a new region has not one text for each attribute
 abbrev pub HasNarrowRow : Command → ℕ → Type 0
 HasNarrowRow (Steward ticket (AddRegion edition version attributes rows)) number =
     (texts : List (List ℕ)) × (1 ≤ number) × (slice_get rows (number - 1) ≡ Some texts)
     × (length texts ≢ length attributes)
-HasNarrowRow (Steward ticket (AddClerk name)) number = ⊥
-HasNarrowRow (Steward ticket (AddSchema body)) number = ⊥
-HasNarrowRow (Steward ticket (AddMaster name body)) number = ⊥
-HasNarrowRow (Steward ticket (AddRulebook name schema version body)) number = ⊥
-HasNarrowRow (Steward ticket (AddEdition name rulebook masters folded)) number = ⊥
-HasNarrowRow (Steward ticket (AddDerived edition version master pairs from)) number = ⊥
-HasNarrowRow (Clerk name ticket work) number = ⊥
-HasNarrowRow (Look name look) number = ⊥
-HasNarrowRow DeskReport number = ⊥
-HasNarrowRow (DeskDerive edition version master pairs) number = ⊥
+HasNarrowRow _ number = ⊥
 
 -- an equal name stands before this one among names
 pub record StandsTwice (names : List (List ℕ)) (name : List ℕ) : Type 0 where
@@ -219,21 +206,14 @@ abbrev pub MakesSessions : Command → ℕ → Type 0
 MakesSessions (Clerk name ticket (Enter edition cells confirmed)) count = count ≡ 1
 MakesSessions (Clerk name ticket (Batch edition body)) count =
     (sheet : Master) × (read_sheet body ≡ Ok sheet) × (count ≡ length sheet.grid.rows)
-MakesSessions (Clerk name ticket (Confirm number cells)) count = ⊥
-MakesSessions (Clerk name ticket (Withdraw number words)) count = ⊥
-MakesSessions (Clerk name ticket (Commit number accept)) count = ⊥
-MakesSessions (Clerk name ticket (Abandon number)) count = ⊥
-MakesSessions (Clerk name ticket (Carry number version)) count = ⊥
-MakesSessions (Look name look) count = ⊥
-MakesSessions (Steward ticket work) count = ⊥
-MakesSessions DeskReport count = ⊥
-MakesSessions (DeskDerive edition version master pairs) count = ⊥
+MakesSessions _ count = ⊥
 
 -- so many bytes of a clerk's texts would stand
 abbrev pub HoldsBytes : Rows → Command → Own → ℕ → Type 0
 HoldsBytes rows (Clerk name ticket (Enter edition cells confirmed)) own count =
     (place : ℕ) × (bound : Bound) × (texts : List (ℕ × List ℕ)) × (newest_edition rows.editions edition ≡ Some place)
-    × (bound_at (published_of rows) place ≡ Some bound) × Gives (each (typed_cell bound.names.attributes) cells) (Ok texts)
+    × (bound_at (published_of rows) place ≡ Some bound)
+    × Gives (each (typed_cell bound.names.attributes) cells) (Ok texts)
     × (count ≡ text_bytes own.sessions own.records
     + bytes_in (typed_over (replicate (length bound.names.attributes) []) texts))
 HoldsBytes rows (Clerk name ticket (Confirm number cells)) own count =
@@ -251,13 +231,7 @@ HoldsBytes rows (Clerk name ticket (Batch edition body)) own count =
     × Gives (each_behind [] (another_column bound.names.attributes) sheet.columns) (Ok columns)
     × (count ≡ text_bytes own.sessions own.records + typed_bytes (map (row_session place
     (length bound.names.attributes) (length own.batches + 1) columns) sheet.grid.rows))
-HoldsBytes rows (Clerk name ticket (Withdraw number words)) own count = ⊥
-HoldsBytes rows (Clerk name ticket (Abandon number)) own count = ⊥
-HoldsBytes rows (Clerk name ticket (Carry number version)) own count = ⊥
-HoldsBytes rows (Look name look) own count = ⊥
-HoldsBytes rows (Steward ticket work) own count = ⊥
-HoldsBytes rows DeskReport own count = ⊥
-HoldsBytes rows (DeskDerive edition version master pairs) own count = ⊥
+HoldsBytes rows _ own count = ⊥
 
 -- so many of a kind would stand after the command
 abbrev pub WouldStand : Rows → Command → Which → ℕ → Type 0

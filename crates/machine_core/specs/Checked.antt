@@ -27,6 +27,7 @@ pub record Explanation : Type 0 where
   pub steps : List Step
   pub uses : List ℕ
 
+-- the steps are the reason why the run fixes the attribute, and the uses are those of these steps
 pub record IsExplanation (kit : Kit) (state : State) (run : List Step) (attribute : ℕ) (explanation : Explanation)
     : Type 0 where
   pub reason : IsReason kit state run attribute explanation.steps

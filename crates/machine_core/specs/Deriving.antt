@@ -18,9 +18,9 @@ use Rattle.machine_core.specs.Steward.AddEdition.{master_name}
 use Rattle.machine_core.specs.Tests.{another_attribute}
 use Rattle.machine_core.specs.Views.{edition_at}
 
--- the place of a column that is none of those before it
-abbrev pub another_column : List (List ℕ) → List ℕ → List ℕ → Checked ℕ
-another_column columns before word = do
+-- the place of a column of a master that is none of those before it
+abbrev pub another_master_column : List (List ℕ) → List ℕ → List ℕ → Checked ℕ
+another_master_column columns before word = do
   place ← some_or (position (bytes_eq word) columns) (NoColumn word)
   unless (not (list_any (λ earlier. earlier == place) before)) (Twice word)
   done place
@@ -29,7 +29,7 @@ another_column columns before word = do
 abbrev pub another_pair : List (List ℕ) → List (List ℕ) → List (ℕ × ℕ) → List ℕ × List ℕ → Checked (ℕ × ℕ)
 another_pair attributes columns before pair = do
   attribute ← another_attribute attributes (map (λ one. one.0) before) pair.0
-  column ← another_column columns (map (λ one. one.1) before) pair.1
+  column ← another_master_column columns (map (λ one. one.1) before) pair.1
   done (attribute, column)
 
 -- the master of this name among those of an edition, as it reads

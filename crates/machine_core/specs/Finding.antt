@@ -24,15 +24,19 @@ newest_of name_of version_of rows name = place_of name_of version_of rows name (
 abbrev pub next_version : {T : Type 0} → (T → List ℕ) → List T → List ℕ → ℕ
 next_version name_of rows name = version_count name_of rows name + 1
 
+-- the place of this version of a schema
 abbrev pub schema_named : List SchemaRow → List ℕ → ℕ → Option ℕ
 schema_named schemas name version = place_of (λ row. row.name) (λ row. row.version) schemas name version
 
+-- the place of this version of a master
 abbrev pub master_named : List MasterRow → List ℕ → ℕ → Option ℕ
 master_named masters name version = place_of (λ row. row.name) (λ row. row.version) masters name version
 
+-- the place of this version of a rulebook
 abbrev pub rulebook_named : List RulebookRow → List ℕ → ℕ → Option ℕ
 rulebook_named rulebooks name version = place_of (λ row. row.name) (λ row. row.version) rulebooks name version
 
+-- the place of this version of an edition
 abbrev pub edition_named : List EditionRow → List ℕ → ℕ → Option ℕ
 edition_named editions name version = place_of (λ row. row.name) (λ row. row.version) editions name version
 

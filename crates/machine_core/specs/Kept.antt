@@ -7,7 +7,8 @@ use Rattle.desk_words.specs.declared.made.Made.TheVariants as made
 use Rattle.desk_words.specs.declared.reply.Reply.{Reply}
 use Rattle.desk_words.specs.declared.reply.Reply.TheVariants as reply
 use Rattle.desk_words.specs.declared.rows.act.Act.{Act}
-use Rattle.desk_words.specs.declared.rows.act.Act.TheVariants.{Nothing, Clerk, Schema, Master, Rulebook, Edition, Region, Opened, Changed, Committed, Batched as BatchedAct}
+use Rattle.desk_words.specs.declared.rows.act.Act.TheVariants.{Clerk, Schema, Master, Rulebook, Edition, Region, Opened}
+use Rattle.desk_words.specs.declared.rows.act.Act.TheVariants.{Changed, Committed, Batched as BatchedAct}
 use Rattle.desk_words.specs.declared.rows.batch.BatchRow.{BatchRow}
 use Rattle.desk_words.specs.declared.rows.region.RegionRow.{RegionRow}
 use Rattle.desk_words.specs.Tables.{Published, Rows, published_of}
@@ -49,11 +50,7 @@ kept_made rows Edition place = do
 kept_made rows Region place = do
   row ← certainly (slice_get rows.regions place)
   region_made (published_of rows) place row
-kept_made rows Nothing place = never
-kept_made rows Opened place = never
-kept_made rows Changed place = never
-kept_made rows Committed place = never
-kept_made rows BatchedAct place = never
+kept_made rows _ place = never
 
 -- the batch of this number, with its sessions' verdicts
 abbrev pub batch_reply : Published → Own → ℕ → BatchRow → Checked Reply
@@ -82,10 +79,4 @@ kept_reply published own Committed place = do
 kept_reply published own BatchedAct place = do
   row ← certainly (slice_get own.batches place)
   batch_reply published own (place + 1) row
-kept_reply published own Nothing place = never
-kept_reply published own Clerk place = never
-kept_reply published own Schema place = never
-kept_reply published own Master place = never
-kept_reply published own Rulebook place = never
-kept_reply published own Edition place = never
-kept_reply published own Region place = never
+kept_reply published own _ place = never

@@ -2,7 +2,9 @@
 use Rattle.std.specs.Prelude.{ℕ, nat_le}
 use Rattle.desk_base.specs.declared.limits.TheConstants as limits
 use Rattle.desk_words.specs.declared.limit.Which.{Which}
-use Rattle.desk_words.specs.declared.limit.Which.TheVariants.{Clerks, Schemas, Masters, MasterCells, Rulebooks, EditionMasters, Editions, RegionRows, Regions, ActiveSessions, Sessions, Bytes, BatchRows, Batches}
+use Rattle.desk_words.specs.declared.limit.Which.TheVariants.{Clerks, Schemas, Masters, MasterCells, Rulebooks}
+use Rattle.desk_words.specs.declared.limit.Which.TheVariants.{EditionMasters, Editions, RegionRows, Regions}
+use Rattle.desk_words.specs.declared.limit.Which.TheVariants.{ActiveSessions, Sessions, Bytes, BatchRows, Batches}
 use Rattle.desk_words.specs.declared.refusal.Refusal.TheVariants.{Limit}
 use Rattle.machine_core.specs.Checked.{Checked, unless}
 

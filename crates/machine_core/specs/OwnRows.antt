@@ -1,7 +1,7 @@
 -- A clerk's own rows in valid tables, and a deed that keeps them so.
 use Rattle.std.specs.Prelude.{ℕ, ◌<◌, List, [], ◌∷◌, length, ⊤}
 use Rattle.desk_words.specs.declared.rows.act.Act.{Act}
-use Rattle.desk_words.specs.declared.rows.act.Act.TheVariants.{Nothing, Clerk, Schema, Master, Rulebook, Edition, Region, Opened, Changed, Committed, Batched}
+use Rattle.desk_words.specs.declared.rows.act.Act.TheVariants.{Opened, Changed, Committed, Batched}
 use Rattle.desk_words.specs.declared.rows.batch.BatchRow.{BatchRow}
 use Rattle.desk_words.specs.declared.rows.record.RecordRow.{RecordRow}
 use Rattle.desk_words.specs.declared.rows.session.SessionRow.{SessionRow}
@@ -28,17 +28,11 @@ PutsFit sessions ((place, session) ∷ others) = FitsAt place sessions × PutsFi
 
 -- the act is one of a clerk, and its target stands among the clerk's own rows
 abbrev pub HasOwnTarget : Own → Act → ℕ → Type 0
-HasOwnTarget own Nothing target = ⊥
-HasOwnTarget own Clerk target = ⊥
-HasOwnTarget own Schema target = ⊥
-HasOwnTarget own Master target = ⊥
-HasOwnTarget own Rulebook target = ⊥
-HasOwnTarget own Edition target = ⊥
-HasOwnTarget own Region target = ⊥
 HasOwnTarget own Opened target = target < length own.sessions
 HasOwnTarget own Changed target = target < length own.sessions
 HasOwnTarget own Committed target = target < length own.records
 HasOwnTarget own Batched target = target < length own.batches
+HasOwnTarget own _ target = ⊥
 
 -- a deed fits a clerk's rows and leaves valid ones, none fewer than before, among which its target stands
 pub record IsSoundDeed (published : Published) (own : Own) (deed : Deed) : Type 0 where

@@ -18,8 +18,8 @@ abbrev pub IfStillTold : Option Rows → Option Rows → Type 0
 IfStillTold None new = ⊤
 IfStillTold (Some old) new = IfTold new old
 
--- why there is no beginning, and what the keeper tells: its tables have this first damage, or its count of faults rose, or
--- there was no memory
+-- why there is no beginning, and what the keeper tells: its tables have this first damage, or its count of faults
+-- rose, or there was no memory
 abbrev pub IsUnstarted : Option Rows → Option Rows → ℕ → ℕ → StartFail → Type 0
 IsUnstarted old new before now (Damaged damage) = (rows : Rows) × IsLoaded old new rows × IsFirstDamage rows damage
 IsUnstarted old new before now Unavailable = StayTold old new × Rose before now

@@ -6,7 +6,8 @@ use Rattle.desk_base.specs.declared.limits.TheConstants.{MAX_TEXT}
 use Rattle.desk_base.specs.Words.{is_name}
 use Rattle.desk_valid.specs.Tallies.{is_active}
 use Rattle.desk_words.specs.declared.refusal.Kind.TheVariants as kind
-use Rattle.desk_words.specs.declared.refusal.Refusal.TheVariants.{BadName, Closed, NoSuch, Twice, UnknownAttr, ValueLong}
+use Rattle.desk_words.specs.declared.refusal.Refusal.TheVariants.{BadName, Closed, NoSuch, Twice, UnknownAttr}
+use Rattle.desk_words.specs.declared.refusal.Refusal.TheVariants.{ValueLong}
 use Rattle.desk_words.specs.declared.rows.session.SessionRow.{SessionRow}
 use Rattle.machine_core.specs.Checked.{Checked, done, ◌>>=◌, ◌>>◌, some_or, unless}
 use Rattle.machine_core.specs.Finding.{session_at}

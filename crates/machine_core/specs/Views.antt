@@ -62,7 +62,8 @@ view_with published number session bound answer = record {
   edition = (edition_at published session.edition).name;
   version = (edition_at published session.edition).version;
   stage = session.stage;
-  cells = map (view_cell bound (shown_state bound (state_of session) answer answer.verdict)) (range_with_len 0 bound.kit.width);
+  cells = map (view_cell bound (shown_state bound (state_of session) answer answer.verdict))
+      (range_with_len 0 bound.kit.width);
   first = map (named_step bound) answer.first;
   outcome = outcome_of bound answer answer.verdict;
 }

@@ -82,6 +82,7 @@ pub(crate) fn another_attribute(
     Ok(place)
 }
 
+/// Whether one of these places is this one.
 pub(crate) fn is_among(places: &[u16], place: u16) -> bool
     ensures { result ≡ list_any (λ earlier. earlier == place) places.now }
 {

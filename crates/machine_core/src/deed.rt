@@ -9,7 +9,8 @@ use std::alloc::Global;
 /// What an accepted write of a clerk does to the clerk's own rows, and what the clerk's row keeps of it.
 #[derive(Debug, Drop)]
 pub struct Deed {
-    /// Sessions that are put, each at its place, counted from 0; one at the number of sessions stands behind the others.
+    /// Sessions that are put, each at its place, counted from 0. One at the number of sessions stands behind the
+    /// others.
     pub sessions: List<(u32, SessionRow)>,
     /// A record behind the others.
     pub record_row: Option<RecordRow>,

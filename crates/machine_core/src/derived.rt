@@ -5,7 +5,8 @@ ghost use Rattle.desk_words.specs.Tables.{published_of, rows_of};
 ghost use Rattle.desk_valid.specs.Valid.{AreValid};
 ghost use Rattle.master_rows.specs.Master.{IsMaster};
 ghost use Rattle.machine_core.specs.Checked.{Gives};
-ghost use Rattle.machine_core.specs.Deriving.{IsDerivable, another_column, derivation_of, derived_rows, master_of, places_of};
+ghost use Rattle.machine_core.specs.Deriving.{IsDerivable, another_master_column, derivation_of, derived_rows};
+ghost use Rattle.machine_core.specs.Deriving.{master_of, places_of};
 ghost use Rattle.machine_core.specs.Outcomes.{Finds};
 ghost use Rattle.machine_core.specs.Shelves.{AreHeld, IsFirst, IsFullRoom};
 ghost use Rattle.machine_core.specs.Steward.AddEdition.{master_name};
@@ -102,17 +103,17 @@ fn places_of(
     let mut columns = List::new(alloc);
     'pairs: for pair in pairs {
         let attribute = another_attribute(words, attributes.as_slice(), &pair.0)?;
-        let column = another_column(names, columns.as_slice(), &pair.1)?;
+        let column = another_master_column(names, columns.as_slice(), &pair.1)?;
         attributes.push(attribute)?;
         columns.push(column)?;
     }
     Ok((attributes, columns))
 }
 
-/// The place of a column that is none of those before it.
-fn another_column(names: &[Text], before: &[u16], name: &Str) -> Result<u16, Stop>
+/// The place of a column of a master that is none of those before it.
+fn another_master_column(names: &[Text], before: &[u16], name: &Str) -> Result<u16, Stop>
     requires { length names.now < 65536 }
-    ensures { Finds result (another_column names.now before.now name.now) }
+    ensures { Finds result (another_master_column names.now before.now name.now) }
 {
     let Some(place) = place_of(names, name.as_str()) else {
         return Err(Stop::Refused(Refusal::NoColumn(name.copy()?)));

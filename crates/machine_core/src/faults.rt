@@ -69,7 +69,7 @@ fn schema_stop(fault: SchemaFault) -> Stop
 }
 
 /// That a body is no sheet.
-fn sheet_stop(fault: SheetFault) -> Stop
+pub(crate) fn sheet_stop(fault: SheetFault) -> Stop
     ensures { IfRefused result (λ refusal. (refusal ≡ sheet_refusal fault) × (fault ≢ SheetFault.NoMemory)) }
 {
     let (code, first, second) = match fault {
@@ -105,7 +105,7 @@ fn rules_stop(fault: RuleFault) -> Stop
 }
 
 /// That a rulebook does not bind.
-pub fn bind_stop(fault: BindFault) -> Stop
+pub(crate) fn bind_stop(fault: BindFault) -> Stop
     ensures { IfRefused result (λ refusal. (refusal ≡ bind_refusal fault) × (fault ≢ BindFault.NoMemory)) }
 {
     let (code, rule, position) = match fault {

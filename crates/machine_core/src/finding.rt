@@ -13,7 +13,7 @@ use desk_valid::Versioned;
 use desk_words::{Kind, Refusal};
 
 /// The place of the row with this name and version, counted from 0.
-pub fn place_of<T: Versioned>(rows: &[T], name: &str, version: u32) -> Option<usize>
+pub(crate) fn place_of<T: Versioned>(rows: &[T], name: &str, version: u32) -> Option<usize>
     ensures place { result ≡ place_of T.name_of T.version_of rows.now name.now version }
     ensures within { IfSome result (λ place. place < length rows.now) }
 {

@@ -1,5 +1,5 @@
 //! The book of an edition, from the shelf, or built where it is not there.
-ghost use Rattle.std.specs.Prelude.{◌≡◌, ◌<◌, ◌≤◌, length, nat_eq, None, Some, IfOk, OnErr, OnOk, IsSome};
+ghost use Rattle.std.specs.Prelude.{◌≡◌, ◌<◌, ◌≤◌, length, nat_eq, None, Some, IfOk, OnErr, OnOk, IsSome, slice_get};
 ghost use Rattle.std.specs.Map.{lookup};
 ghost use Rattle.desk_base.specs.declared.limits.TheConstants.{MAX_ENTRIES};
 ghost use Rattle.desk_words.specs.Tables.{Published, published_of, rows_of};
@@ -18,9 +18,9 @@ use fix_model::Kit;
 use master_index::{BuildFault, Shelf, Shelved, SortedBook};
 use std::alloc::Global;
 
-/// Has the book of an edition stand first on the shelf. Where it is held nothing is built and no memory is taken, so it
-/// succeeds; else it is built and put in front, where four others are held in place of the one that was used longest
-/// ago. Where there is no memory the shelf is as before.
+/// Has the book of an edition stand first on the shelf. Where it is held it is brought there, which succeeds whatever
+/// memory there is; else it is built and put in front, where four others are held in place of the one that was used
+/// longest ago. Where there is no memory the shelf is as before.
 pub fn hold(alloc: Global, tables: &Tables, shelf: &mut Shelf, edition: u32) -> Result<(), NoMemory>
     requires valid { AreValid (rows_of tables.now) }
     requires edition { edition < length tables.now.editions.items }
@@ -41,10 +41,11 @@ pub fn hold(alloc: Global, tables: &Tables, shelf: &mut Shelf, edition: u32) -> 
     shelf.put(edition, shelved)
 }
 
-/// The book of the edition that stands first on the shelf, with its names.
+/// The book that stands first on the shelf, with its names. It is that of this edition.
 pub fn shelved(shelf: &Shelf, edition: u32) -> &Shelved
     requires { IsFirst edition shelf.now }
-    ensures { (published : Published) → AreHeld published shelf.now
+    ensures first { slice_get shelf.now 0 ≡ Some (edition, result.now) }
+    ensures bound { (published : Published) → AreHeld published shelf.now
         → bound_at published edition ≡ Some (bound_on result.now) }
 {
     match shelf.peek(edition) {

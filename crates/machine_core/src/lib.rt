@@ -33,17 +33,18 @@ pub use column::Column;
 pub use deed::Deed;
 pub use derivation::Derivation;
 pub use derived::{derivation_of, derived_rows};
-pub use faults::{bind_stop, read_master, read_rulebook, read_schema};
-pub use finding::{named, newest_of, next_version, place_of};
+pub use faults::{read_master, read_rulebook, read_schema};
+pub use finding::{named, newest_of, next_version};
 pub use holding::{hold, shelved};
-pub use limits::{limit_of, within};
+pub use limits::within;
 pub use machine::{Machine, SettleFail, StartFail, Weighed};
 pub use making::Making;
-pub use naming::proper_name;
 pub use own::Own;
-pub use sessions::{active, active_session, session_of};
+pub use sessions::{active, active_session, session_at, session_of};
 pub use steward::{
-    clerk_row, derived_region, edition_row, master_row, region_on, rulebook_row, schema_row,
+    clerk_row, derived_region, edition_row, master_row, region_count, region_on, rulebook_row,
+    schema_row,
 };
 pub use stop::Stop;
-pub use ticket::{Use, ticketed, use_of};
+pub use ticket::{Use, is_numbered, ticketed, use_of};
+pub use words::words_of;

@@ -11,7 +11,7 @@ use desk_base::{
 use desk_words::{Refusal, Which};
 
 /// The most that may stand.
-pub fn limit_of(which: Which) -> u64
+fn limit_of(which: Which) -> u64
     ensures { result ≡ limit_of which }
 {
     match which {

@@ -65,8 +65,8 @@ pub trait Machine {
         ensures settleable { IsSettleable (rows self.old) result }
         ensures rows { rows self.new ≡ rows self.old };
 
-    /// Makes what was weighed over these tables, in the keeper and in the tables, or in neither. Without changes the keeper
-    /// is not called, and nothing refuses.
+    /// Makes what was weighed over these tables, in the keeper and in the tables, or in neither. Without changes the
+    /// keeper is not called, and nothing refuses.
     fn settle<K: Keeper>(&mut self, keeper: &mut K, weighed: Weighed) -> Result<Reply, SettleFail>
         requires told { IfTold (K.tables keeper.old) (rows self.old) }
         requires settleable { IsSettleable (rows self.old) weighed }

@@ -8,7 +8,7 @@ use desk_base::{Duplicate, Str, is_name};
 use desk_words::Refusal;
 
 /// The text is a name.
-pub fn proper_name(text: &Str) -> Result<(), Stop>
+pub(crate) fn proper_name(text: &Str) -> Result<(), Stop>
     ensures finds { Finds result (proper_name text.now) }
     ensures short { OnOk result (length text.now ≤ 32) }
 {

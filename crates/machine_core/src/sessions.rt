@@ -20,7 +20,8 @@ pub fn session_of(sessions: &[SessionRow], number: u32) -> Result<&SessionRow, S
     }
 }
 
-fn session_at(sessions: &[SessionRow], number: u32) -> Option<&SessionRow>
+/// The session with this number, counted from 1, if there is one.
+pub fn session_at(sessions: &[SessionRow], number: u32) -> Option<&SessionRow>
     ensures { option_copied result ≡ session_at sessions.now number }
 {
     if number == 0 {

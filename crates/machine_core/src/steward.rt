@@ -12,6 +12,6 @@ pub use add_derived::derived_region;
 pub use add_edition::edition_row;
 pub(crate) use add_edition::master_name;
 pub use add_master::master_row;
-pub use add_region::region_on;
+pub use add_region::{region_count, region_on};
 pub use add_rulebook::rulebook_row;
 pub use add_schema::schema_row;

@@ -1,12 +1,12 @@
 //! Whether a write is a new one, or the last one again.
-ghost use Rattle.std.specs.Prelude.{◌≡◌, ◌≤◌, IfOk};
+ghost use Rattle.std.specs.Prelude.{◌≡◌, ◌≤◌, ◌↔◌, IfOk, IsTrue};
 ghost use Rattle.desk_base.specs.declared.limits.TheConstants.{MAX_REQUEST};
 ghost use Rattle.machine_core.specs.Outcomes.{Finds};
-ghost use Rattle.machine_core.specs.Ticket.{ticketed, use_of};
+ghost use Rattle.machine_core.specs.Ticket.{IsNumbered, ticketed, use_of};
 
 use crate::stop::Stop;
-use desk_base::{Duplicate, NoMemory};
-use desk_words::{Act, ClerkRow, Refusal, Ticket};
+use desk_base::{Duplicate, MAX_REQUEST, NoMemory};
+use desk_words::{Act, ClerkRow, Command, Refusal, Ticket};
 
 /// What the number of a write says.
 #[derive(Clone, Copy, Debug, PartialEq, Eq)]
@@ -15,6 +15,18 @@ pub enum Use {
     Fresh,
     /// It is the last one again, of the same request.
     Repeated,
+}
+
+/// Whether a write has a number that a write may have. A look has none.
+pub fn is_numbered(command: &Command) -> bool
+    ensures { IsTrue result ↔ IsNumbered command.now }
+{
+    match command {
+        Command::Steward(ticket, _) | Command::Clerk(_, ticket, _) => {
+            1 <= ticket.number && ticket.number <= MAX_REQUEST
+        }
+        Command::Look(_, _) | Command::DeskReport | Command::DeskDerive { .. } => true,
+    }
 }
 
 /// Whether a write of a caller is a new one, or the last one again.

@@ -11,7 +11,7 @@ use desk_words::Tables;
 use std::alloc::Global;
 
 /// The words of the attributes of the edition at a place, counted from 0. Of what it names the schema alone is read.
-pub(crate) fn words_of(alloc: Global, tables: &Tables, edition: u32) -> Result<List<Text>, NoMemory>
+pub fn words_of(alloc: Global, tables: &Tables, edition: u32) -> Result<List<Text>, NoMemory>
     requires valid { AreValid (rows_of tables.now) }
     requires edition { edition < length tables.now.editions.items }
     ensures words { IfOk result (λ words. words_at (published_of (rows_of tables.now)) edition ≡ Some words) }

@@ -1,17 +1,18 @@
-//! Batch: a session for each row of a sheet, as Enter would make it. A column `zip*` is the attribute `zip`, confirmed in
-//! each row whose cell there is not blank; a column without the star is typed only.
-ghost use Rattle.std.specs.Prelude.{◌≡◌, ◌==◌, ◌<◌, ◌≤◌, ◌+◌, ◌^◌, All, IfOk, [], filter, length, map, slice_index_or, zip};
+//! Batch: a session for each row of a sheet, as Enter would make it. A column `zip*` is the attribute `zip`, confirmed
+//! in each row whose cell there is not blank; a column without the star is typed only.
+ghost use Rattle.std.specs.Prelude.{◌≡◌, ◌==◌, ◌<◌, ◌≤◌, ◌+◌, ◌^◌, All, IfOk, [], filter, length, map, slice_index_or};
+ghost use Rattle.std.specs.Prelude.{zip};
 ghost use Rattle.std.specs.List.{list_any};
 ghost use Rattle.desk_base.specs.declared.limits.TheConstants.{MAX_ATTRIBUTES};
 ghost use Rattle.desk_words.specs.Tables.{published_of, rows_of};
 ghost use Rattle.desk_valid.specs.Tallies.{typed_bytes};
 ghost use Rattle.desk_valid.specs.Valid.{AreValid};
 ghost use Rattle.machine_core.specs.Checked.{each_behind};
-ghost use Rattle.machine_core.specs.Clerk.Batch.{another_column, enter_batch, is_confirmed, is_starred, placed, row_session, word_of};
+ghost use Rattle.machine_core.specs.Clerk.Batch.{another_column, batch_rows, enter_batch, is_confirmed, is_starred};
+ghost use Rattle.machine_core.specs.Clerk.Batch.{placed, row_session, word_of};
 ghost use Rattle.machine_core.specs.Outcomes.{Finds};
 ghost use Rattle.machine_core.specs.Own.{IsOwn};
 ghost use Rattle.machine_core.specs.Shelves.{AreHeld};
-ghost use Rattle.machine_clerk.specs.Entering.{batch_rows};
 
 use crate::clerk::bytes::{bytes_in, within_bytes};
 use crate::clerk::enter::new_session;

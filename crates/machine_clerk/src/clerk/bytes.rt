@@ -23,8 +23,8 @@ pub(crate) fn bytes_in(texts: &[Text]) -> u64
     bytes
 }
 
-/// So many bytes come to a clerk's texts, and no more stand then than may. A sum that is too great to be counted is more
-/// than may.
+/// So many bytes come to a clerk's texts, and no more stand then than may. A sum that is too great to be counted is
+/// more than may.
 pub(crate) fn within_bytes(own: &Own, come: u64) -> Result<(), Stop>
     ensures { Finds result (within which.Bytes (text_bytes own.now.sessions own.now.records + come)) }
 {

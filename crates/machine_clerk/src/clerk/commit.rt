@@ -5,11 +5,10 @@ ghost use Rattle.desk_valid.specs.Valid.{AreValid};
 ghost use Rattle.fix_engine.specs.WorkSeen.{IsRoomFor, KeepsSize};
 ghost use Rattle.fix_model.specs.States.{Fits, record_of, uncovered_count};
 ghost use Rattle.machine_core.specs.Answers.{state_of};
-ghost use Rattle.machine_core.specs.Clerk.Commit.{accepts, commit, commit_rows};
+ghost use Rattle.machine_core.specs.Clerk.Commit.{accepted_record, accepts, commit, commit_rows, fixed_end};
 ghost use Rattle.machine_core.specs.Outcomes.{Answers, Finds};
 ghost use Rattle.machine_core.specs.Own.{IsOwn};
 ghost use Rattle.machine_core.specs.Shelves.{AreHeld, IsFullRoom, bound_on};
-ghost use Rattle.machine_clerk.specs.Ends.{accepted_record, fixed_end};
 
 use crate::clerk::bytes::{bytes_in, within_bytes};
 use crate::clerk::opening::open_session;

@@ -22,8 +22,8 @@ pub fn enter_deed(
     shelf: &mut Shelf,
     own: &Own,
     edition: &Str,
-    cells: &[(Str, Str)],
-    confirmed: &[Str],
+    cells: &List<(Str, Str)>,
+    confirmed: &List<Str>,
 ) -> Result<Deed, Stop>
     requires valid { AreValid (rows_of tables.now) }
     requires own { IsOwn (rows_of tables.now) own.now }
@@ -32,6 +32,7 @@ pub fn enter_deed(
         (enter (published_of (rows_of tables.now)) own.now edition.now cells.now confirmed.now) }
     ensures held { AreHeld (published_of (rows_of tables.now)) shelf.new }
 {
+    let (cells, confirmed) = (cells.as_slice(), confirmed.as_slice());
     let session = enter_row(alloc, tables, shelf, own, edition, cells, confirmed)?;
     let place = own.sessions().len() as u32;
     Ok(Deed::puts(alloc, place, session, Act::Opened)?)

@@ -7,6 +7,7 @@ use Rattle.machine_core.specs.Own.{Own, puts}
 use Rattle.machine_core.specs.declared.deed.Deed.{Deed}
 use Rattle.machine_core.specs.Tests.{active_session}
 
+-- the test, and the deed: the session of this number is abandoned
 abbrev pub abandon : Own → ℕ → Checked Deed
 abandon own number = do
   session ← active_session own.sessions number

@@ -1,12 +1,12 @@
--- Batch: a session for each row of a sheet, as Enter would make it. A column `zip*` is the attribute `zip`, confirmed in
--- each row whose cell there is not blank; a column without the star is typed only.
-use Rattle.std.specs.Prelude.{codes, ℕ, ◌+◌, ◌-◌, ◌==◌, ◌&&◌, not, nat_eq, Bool, List, [], length, map, filter, take, zip, Some, None, if◌then◌else◌}
+-- Batch: a session for each row of a sheet, as Enter would make it. A column `zip*` is the attribute `zip`, confirmed
+-- in each row whose cell there is not blank; a column without the star is typed only.
+use Rattle.std.specs.Prelude.{codes, ℕ, ◌+◌, ◌-◌, ◌==◌, ◌&&◌, not, nat_eq, Bool, List, [], length, map, filter, take}
+use Rattle.std.specs.Prelude.{zip, Some, None, if◌then◌else◌}
 use Rattle.std.specs.List.{ends_with, list_any, range_with_len}
 use Rattle.desk_words.specs.declared.limit.Which.TheVariants as which
 use Rattle.desk_words.specs.declared.refusal.Kind.TheVariants as kind
 use Rattle.desk_words.specs.declared.refusal.Refusal.TheVariants.{NoSuch, Twice}
 use Rattle.desk_words.specs.declared.rows.act.Act.TheVariants as act
-use Rattle.desk_words.specs.declared.rows.batch.BatchRow.{BatchRow}
 use Rattle.desk_words.specs.declared.rows.session.SessionRow.{SessionRow}
 use Rattle.desk_words.specs.Tables.{Published}
 use Rattle.desk_valid.specs.Bindings.{bound_at}
@@ -51,24 +51,28 @@ row_session edition width batch columns cells =
 abbrev pub placed : ℕ → List SessionRow → List (ℕ × SessionRow)
 placed count sessions = zip (range_with_len count (length sessions)) sessions
 
+-- the limits, in their order, and the deed: a session for each row behind the others, and the batch of them
+abbrev pub batch_rows : Own → ℕ → ℕ → List Column → List (List (List ℕ)) → Checked Deed
+batch_rows own edition width columns rows = do
+  within which.BatchRows (length rows)
+  within which.ActiveSessions (active_count own.sessions + length rows)
+  within which.Sessions (length own.sessions + length rows)
+  within which.Batches (length own.batches + 1)
+  let sessions = map (row_session edition width (length own.batches + 1) columns) rows
+  within which.Bytes (text_bytes own.sessions own.records + typed_bytes sessions)
+  done (record {
+    sessions = placed (length own.sessions) sessions;
+    record_row = None;
+    batch = Some (record { edition = edition; first = length own.sessions + 1; count = length rows });
+    act = act.Batched;
+    target = length own.batches;
+  })
+
+-- the tests of the edition and the sheet, in their order, and the deed of its rows
 abbrev pub enter_batch : Published → Own → List ℕ → List ℕ → Checked Deed
 enter_batch published own edition_name body = do
   edition ← some_or (newest_edition published.editions edition_name) (NoSuch kind.Edition)
   bound ← certainly (bound_at published edition)
   sheet ← value_or (read_sheet body) sheet_refusal
   columns ← each_behind [] (another_column bound.names.attributes) sheet.columns
-  let rows = sheet.grid.rows
-  within which.BatchRows (length rows)
-  within which.ActiveSessions (active_count own.sessions + length rows)
-  within which.Sessions (length own.sessions + length rows)
-  within which.Batches (length own.batches + 1)
-  let sessions = map (row_session edition (length bound.names.attributes) (length own.batches + 1) columns) rows
-  within which.Bytes (text_bytes own.sessions own.records + typed_bytes sessions)
-  let batch : BatchRow = record { edition = edition; first = length own.sessions + 1; count = length rows }
-  done (record {
-    sessions = placed (length own.sessions) sessions;
-    record_row = None;
-    batch = Some batch;
-    act = act.Batched;
-    target = length own.batches;
-  })
+  batch_rows own edition (length bound.names.attributes) columns sheet.grid.rows

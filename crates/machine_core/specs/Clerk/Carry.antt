@@ -36,6 +36,7 @@ carry_row published own number version = do
   after ← certainly (bound_at published edition)
   done (carried_to session edition before after)
 
+-- the deed: the session of this number is put over the newer version
 abbrev pub carry : Published → Own → ℕ → ℕ → Checked Deed
 carry published own number version = do
   session ← carry_row published own number version

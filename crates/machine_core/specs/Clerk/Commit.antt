@@ -12,6 +12,7 @@ use Rattle.desk_words.specs.Tables.{Published}
 use Rattle.desk_valid.specs.declared.bound.Bound.{Bound}
 use Rattle.fix_engine.specs.declared.verdict.Verdict.{Verdict}
 use Rattle.fix_engine.specs.declared.verdict.Verdict.TheVariants.{Fix, Conflict}
+use Rattle.fix_model.specs.declared.kit.Kit.{Kit}
 use Rattle.fix_model.specs.declared.state.State.{State}
 use Rattle.fix_model.specs.Run.{end_of}
 use Rattle.fix_model.specs.States.{record_of, uncovered_count}
@@ -38,19 +39,30 @@ abbrev pub record_at : Bound → ℕ → State → RecordRow
 record_at bound number end =
     record { session = number; texts = record_of bound.kit end; certain = uncovered_count end == 0 }
 
--- the tests, in their order, and the record
+-- the state at the end of the first run of a fix
+abbrev pub fixed_end : Kit → State → Checked State
+fixed_end kit state = do
+  answer ← answer_for kit state
+  not_in_conflict answer.verdict
+  done (end_of kit state answer.first)
+
+-- the record of an end, where its uncovered attributes are accepted
+abbrev pub accepted_record : Bound → ℕ → Accept → State → Checked RecordRow
+accepted_record bound number accept end = do
+  accepts accept (uncovered_count end)
+  done (record_at bound number end)
+
+-- the tests, in their order, and the session after them with its record
 abbrev pub commit_rows : Published → Own → ℕ → Accept → Checked (SessionRow × RecordRow)
 commit_rows published own number accept = do
   session ← active_session own.sessions number
   bound ← bound_for published session
-  answer ← answer_for bound.kit (state_of session)
-  not_in_conflict answer.verdict
-  let end = end_of bound.kit (state_of session) answer.first
-  accepts accept (uncovered_count end)
-  let row = record_at bound number end
+  end ← fixed_end bound.kit (state_of session)
+  row ← accepted_record bound number accept end
   within which.Bytes (text_bytes own.sessions own.records + bytes_in row.texts)
   done (record session { stage = Committed }, row)
 
+-- the deed: the session of this number is committed, and its record comes behind the others
 abbrev pub commit : Published → Own → ℕ → Accept → Checked Deed
 commit published own number accept = do
   (session, row) ← commit_rows published own number accept

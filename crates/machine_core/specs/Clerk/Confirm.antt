@@ -37,6 +37,7 @@ confirm_row published own number cells = do
 abbrev pub bytes_with : Own → ℕ → SessionRow → ℕ
 bytes_with own number session = text_bytes (slice_set own.sessions (number - 1) session) own.records
 
+-- the last test, of the bytes, and the deed: the session of this number has the cells typed and confirmed
 abbrev pub confirm : Published → Own → ℕ → List (List ℕ × List ℕ) → Checked Deed
 confirm published own number cells = do
   session ← confirm_row published own number cells

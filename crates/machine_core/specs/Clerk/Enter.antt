@@ -8,7 +8,7 @@ use Rattle.desk_words.specs.declared.rows.session.SessionRow.{SessionRow}
 use Rattle.desk_words.specs.declared.rows.session.Stage.TheVariants.{Active}
 use Rattle.desk_words.specs.Tables.{Published}
 use Rattle.desk_valid.specs.Bindings.{bound_at}
-use Rattle.rule_text.specs.Binding.{flags_of}
+use Rattle.desk_base.specs.Places.{flags_of}
 use Rattle.machine_core.specs.Checked.{Checked, ◌>>=◌, ◌>>◌, done, each, some_or, certainly}
 use Rattle.machine_core.specs.Finding.{newest_edition}
 use Rattle.machine_core.specs.Limits.{within}
@@ -45,6 +45,7 @@ enter_row published own edition_name cells confirmed = do
   within which.Bytes (text_bytes own.sessions own.records + bytes_in session.typed)
   done session
 
+-- the deed: the new session comes behind the others
 abbrev pub enter : Published → Own → List ℕ → List (List ℕ × List ℕ) → List (List ℕ) → Checked Deed
 enter published own edition_name cells confirmed = do
   session ← enter_row published own edition_name cells confirmed

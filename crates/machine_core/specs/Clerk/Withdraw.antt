@@ -30,6 +30,7 @@ withdraw_row published own number names = do
   places ← each (confirmed_place bound.names.attributes session.confirmed) names
   done (record session { confirmed = cleared session.confirmed places })
 
+-- the deed: in the session of this number these attributes are confirmed no longer
 abbrev pub withdraw : Published → Own → ℕ → List (List ℕ) → Checked Deed
 withdraw published own number names = do
   session ← withdraw_row published own number names

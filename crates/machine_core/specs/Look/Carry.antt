@@ -30,6 +30,7 @@ carried_between before after = do
     changed = pairs;
   })
 
+-- the tests of Carry, the two views, and what changes between them
 abbrev pub carrying : Published → Own → ℕ → ℕ → Checked Carried
 carrying published own number version = do
   moved ← carry_row published own number version

@@ -43,6 +43,7 @@ explained_on bound session word = do
   fixed_at (end_of bound.kit (state_of session) answer.first) attribute word
   explanation_of bound (state_of session) answer.first attribute
 
+-- the session of this number, active or closed, and why the attribute is fixed in it
 abbrev pub explain : Published → Own → ℕ → List ℕ → Checked Explained
 explain published own number word = do
   session ← session_of own.sessions number

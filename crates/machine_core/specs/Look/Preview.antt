@@ -7,6 +7,7 @@ use Rattle.machine_core.specs.Clerk.Confirm.{confirm_row}
 use Rattle.machine_core.specs.Own.{Own}
 use Rattle.machine_core.specs.Views.{view_of}
 
+-- the tests of Confirm but that of the bytes, and the view of the session after them
 abbrev pub preview : Published → Own → ℕ → List (List ℕ × List ℕ) → Checked View
 preview published own number cells = do
   session ← confirm_row published own number cells

@@ -24,6 +24,7 @@ abbrev pub record_line : ℕ × RecordRow → RecordLine
 record_line numbered =
     record { number = numbered.0; session = numbered.1.session; certain = numbered.1.certain; texts = numbered.1.texts }
 
+-- the sheet of the clerk's records whose sessions are on this version of an edition, each with its number from 1
 abbrev pub records_of : Published → Own → List ℕ → ℕ → Checked RecordSheet
 records_of published own edition_name version = do
   edition ← some_or (edition_named published.editions edition_name version) (NoSuch kind.Edition)

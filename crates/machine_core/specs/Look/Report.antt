@@ -22,6 +22,7 @@ pub record Assessment : Type 0 where
   pub verdict : Verdict
   pub cells : List Cell
 
+-- a session with what the rules make of it
 abbrev pub assessment_of : Published → SessionRow → Checked Assessment
 assessment_of published session = do
   bound ← bound_for published session
@@ -32,38 +33,46 @@ assessment_of published session = do
     cells = (shown_state bound (state_of session) answer answer.verdict).cells;
   })
 
+-- the session was committed
 abbrev pub is_committed : Stage → Bool
 is_committed Active = false
 is_committed Committed = true
 is_committed Abandoned = false
 
+-- the session was abandoned
 abbrev pub is_abandoned : Stage → Bool
 is_abandoned Active = false
 is_abandoned Committed = false
 is_abandoned Abandoned = true
 
+-- a fix, and a certain one
 abbrev pub is_certain_fix : Verdict → Bool
 is_certain_fix (Fix certain dissent) = certain
 is_certain_fix Conflict = false
 
+-- two maximal runs end in different records
 abbrev pub is_conflict : Verdict → Bool
 is_conflict (Fix certain dissent) = false
 is_conflict Conflict = true
 
+-- a fix that is not certain
 abbrev pub is_partial_fix : Verdict → Bool
 is_partial_fix (Fix certain dissent) = if certain then false else true
 is_partial_fix Conflict = false
 
+-- the clerk confirmed the attribute
 abbrev pub is_confirmed_cell : Cell → Bool
 is_confirmed_cell cell.Uncovered = false
 is_confirmed_cell cell.Confirmed = true
 is_confirmed_cell (cell.Fixed step) = false
 
+-- a step fixed the attribute
 abbrev pub is_fixed_cell : Cell → Bool
 is_fixed_cell cell.Uncovered = false
 is_fixed_cell cell.Confirmed = false
 is_fixed_cell (cell.Fixed step) = true
 
+-- the attribute is neither confirmed nor fixed
 abbrev pub is_uncovered_cell : Cell → Bool
 is_uncovered_cell cell.Uncovered = true
 is_uncovered_cell cell.Confirmed = false
@@ -92,6 +101,7 @@ report_line published sessions edition = do
   all ← each (assessment_of published) (filter (λ session. session.edition == edition) sessions)
   done (line_over published edition all)
 
+-- the sheet over these sessions: a line for each edition, in their order, and how many sessions there are in all
 abbrev pub report_of : Published → Option (List ℕ) → List SessionRow → Checked ReportSheet
 report_of published clerk sessions = do
   lines ← each (report_line published sessions) (range_with_len 0 (length published.editions))

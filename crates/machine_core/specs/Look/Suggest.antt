@@ -24,6 +24,7 @@ named_suggestion bound suggestion = record {
   gains = map (λ gain. (name_at bound.names.attributes gain.0, gain.1)) suggestion.gains;
 }
 
+-- the active session of this number, and what is suggested for it by the regions of its edition
 abbrev pub suggestion_of : Published → Own → ℕ → Checked Suggested
 suggestion_of published own number = do
   session ← active_session own.sessions number

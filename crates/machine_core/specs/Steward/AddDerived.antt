@@ -20,6 +20,7 @@ region_from derivation from rows = record {
   };
 }
 
+-- the tests, in their order, and the region of the rows that are derived
 abbrev pub derived_region : Published → List ℕ → ℕ → List ℕ → List (List ℕ × List ℕ) → ℕ → Checked RegionRow
 derived_region published edition version master pairs from = do
   derivation ← derivation_of published edition version master pairs

@@ -15,7 +15,7 @@ use Rattle.desk_valid.specs.Bindings.{binding, parts_of}
 use Rattle.desk_valid.specs.Readings.{rules_at}
 use Rattle.desk_valid.specs.Rows.Edition.{AreNamedApart}
 use Rattle.fix_model.specs.Entries.{entries}
-use Rattle.rule_text.specs.Binding.{is_among}
+use Rattle.desk_base.specs.Places.{is_listed}
 use Rattle.machine_core.specs.Checked.{Checked, ◌>>=◌, ◌>>◌, done, each_behind, value_or, some_or, unless, certainly}
 use Rattle.machine_core.specs.Faults.{bind_refusal}
 use Rattle.machine_core.specs.Finding.{master_named, next_version, rulebook_named}
@@ -44,6 +44,7 @@ narrow parts folded = do
   kit ← value_or (binding parts folded) bind_refusal
   unless (nat_le (entries kit) MAX_ENTRIES) (BadText reader.Index 1 (entries kit) 0)
 
+-- the parts of the edition bind, to a kit whose index is not too wide
 abbrev pub bindable : Published → EditionRow → Checked (Unit {0})
 bindable published row = do
   parts ← certainly (parts_of published row)
@@ -51,7 +52,7 @@ bindable published row = do
 
 -- those of so many attributes that are among these, in their order
 abbrev pub in_order : List ℕ → ℕ → List ℕ
-in_order attributes width = filter (is_among attributes) (range_with_len 0 width)
+in_order attributes width = filter (is_listed attributes) (range_with_len 0 width)
 
 -- the next version of an edition's name
 abbrev pub next_edition : List EditionRow → List ℕ → ℕ → List ℕ → List ℕ → EditionRow
@@ -63,6 +64,7 @@ next_edition editions name rulebook masters folded = record {
   folded = folded;
 }
 
+-- the tests, in their order, and the row of the new edition
 abbrev pub edition_row : Published → List ℕ → List ℕ × ℕ → List (List ℕ × ℕ) → List (List ℕ) → Checked EditionRow
 edition_row published name rulebook masters folded = do
   tests.proper_name name

@@ -10,6 +10,13 @@ use Rattle.machine_core.specs.Limits.{within}
 use Rattle.desk_valid.specs.Tallies.{cell_count, master_cells}
 use Rattle.machine_core.specs.Tests as tests
 
+-- how many cells the master of a sheet has, without its header
+abbrev pub cells_of : List ℕ → Checked ℕ
+cells_of sheet = do
+  master ← value_or (read_sheet sheet) sheet_refusal
+  done (cell_count master)
+
+-- the tests, in their order, and the row of the new master
 abbrev pub master_row : List MasterRow → List ℕ → List ℕ → Checked MasterRow
 master_row masters name body = do
   tests.proper_name name

@@ -45,6 +45,7 @@ region_on regions edition attributes words rows = do
   within which.Regions (region_count regions edition + 1)
   done (record { edition = edition; region = record { attrs = places; rows = texts } })
 
+-- the tests, in their order, and the row of a region of this version of an edition
 abbrev pub region_row : Published → List ℕ → ℕ → List (List ℕ) → List (List (List ℕ)) → Checked RegionRow
 region_row published edition_name version words rows = do
   edition ← some_or (edition_named published.editions edition_name version) (NoSuch kind.Edition)

@@ -13,6 +13,7 @@ use Rattle.machine_core.specs.Finding.{next_version, schema_named}
 use Rattle.machine_core.specs.Limits.{within}
 use Rattle.machine_core.specs.Tests as tests
 
+-- the tests, in their order, and the row of the new rulebook
 abbrev pub rulebook_row : Published → List ℕ → List ℕ → ℕ → List ℕ → Checked RulebookRow
 rulebook_row published name schema_name version body = do
   tests.proper_name name

@@ -8,6 +8,7 @@ use Rattle.machine_core.specs.Faults.{schema_refusal}
 use Rattle.machine_core.specs.Finding.{next_version}
 use Rattle.machine_core.specs.Limits.{within}
 
+-- the tests, in their order, and the row of the new schema
 abbrev pub schema_row : List SchemaRow → List ℕ → Checked SchemaRow
 schema_row schemas body = do
   schema ← value_or (schema_of body) schema_refusal

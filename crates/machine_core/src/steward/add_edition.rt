@@ -6,7 +6,7 @@ ghost use Rattle.desk_base.specs.declared.limits.TheConstants.{MAX_ENTRIES};
 ghost use Rattle.desk_words.specs.declared.refusal.Reader.TheVariants as reader;
 ghost use Rattle.desk_words.specs.declared.refusal.Refusal.TheVariants.{BadText};
 ghost use Rattle.desk_words.specs.Tables.{published_of, rows_of};
-ghost use Rattle.rule_text.specs.Binding.{AreFolded, is_among};
+ghost use Rattle.rule_text.specs.Binding.{AreFolded};
 ghost use Rattle.rule_text.specs.Rulebooks.{IsRulebook};
 ghost use Rattle.schema_core.specs.Schemas.{IsSchema};
 ghost use Rattle.desk_valid.specs.Readings.{rules_at};
@@ -14,9 +14,10 @@ ghost use Rattle.desk_valid.specs.Bindings.{AreBindable};
 ghost use Rattle.desk_valid.specs.Valid.{AreValid};
 ghost use Rattle.machine_core.specs.Checked.{each_behind, unless};
 ghost use Rattle.machine_core.specs.Outcomes.{Finds};
-ghost use Rattle.machine_core.specs.Steward.AddEdition.{AreOthers, another_master, bindable, edition_row, in_order, next_edition, master_name, narrow};
+ghost use Rattle.machine_core.specs.Steward.AddEdition.{AreOthers, another_master, bindable, edition_row, in_order};
+ghost use Rattle.machine_core.specs.Steward.AddEdition.{next_edition, master_name, narrow};
 
-use crate::attributes::another_attributes;
+use crate::attributes::{another_attributes, is_among};
 use crate::faults::bind_stop;
 use crate::finding::{named, next_version};
 use crate::limits::within;
@@ -147,12 +148,6 @@ fn in_order(alloc: Global, attributes: &[u16], width: u16) -> Result<List<u16>, 
         }
     }
     Ok(made)
-}
-
-fn is_among(attributes: &[u16], attribute: u16) -> bool
-    ensures { result ≡ is_among attributes.now attribute }
-{
-    attributes.iter().any(|one| attribute == *one)
 }
 
 /// The edition binds to a kit whose index is not too wide.

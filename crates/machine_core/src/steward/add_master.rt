@@ -1,12 +1,11 @@
 //! AddMaster: the next version of a master's name.
-ghost use Rattle.std.specs.Prelude.{◌≡◌, ◌<◌, ◌^◌, length};
-ghost use Rattle.desk_valid.specs.Tallies.{cell_count, master_cells};
-ghost use Rattle.master_rows.specs.Master.{IsMaster};
+ghost use Rattle.std.specs.Prelude.{◌≡◌, ◌<◌, ◌^◌, IfOk, length};
+ghost use Rattle.desk_valid.specs.Tallies.{master_cells};
 ghost use Rattle.machine_core.specs.Outcomes.{Finds};
-ghost use Rattle.machine_core.specs.Steward.AddMaster.{master_row};
+ghost use Rattle.machine_core.specs.Steward.AddMaster.{cells_of, master_row};
 ghost use Rattle.machine_core.specs.Versions.{AreVersions};
 
-use crate::faults::read_master;
+use crate::faults::sheet_stop;
 use crate::finding::next_version;
 use crate::limits::within;
 use crate::naming::proper_name;
@@ -31,9 +30,9 @@ pub fn master_row(
     ensures { Finds result (master_row masters.now name.now body.now) }
 {
     proper_name(name)?;
-    let master = read_master(alloc, body.as_slice())?;
+    let brought = cell_count(alloc, body.as_slice())?;
     within(Which::Masters, masters.len() as u64 + 1)?;
-    within(Which::MasterCells, cells + cell_count(&master))?;
+    within(Which::MasterCells, cells + brought)?;
     let version = next_version(masters, name.as_str());
     Ok(MasterRow {
         name: Text::of(alloc, name.as_str())?,
@@ -42,11 +41,13 @@ pub fn master_row(
     })
 }
 
-/// The cells of a master, without its header.
-fn cell_count(master: &Master) -> u64
-    requires { IsMaster master.now }
-    ensures count { result ≡ cell_count master.now }
-    ensures few { result < 2 ^ 32 }
+/// How many cells the master of a sheet has, without its header.
+fn cell_count(alloc: Global, sheet: &[u8]) -> Result<u64, Stop>
+    ensures finds { Finds result (cells_of sheet.now) }
+    ensures few { IfOk result (λ count. count < 2 ^ 32) }
 {
-    master.columns.len() as u64 * u64::from(master.grid.rows())
+    match Master::outline(alloc, sheet) {
+        Ok(outline) => Ok(outline.columns.len() as u64 * u64::from(outline.rows)),
+        Err(fault) => Err(sheet_stop(fault)),
+    }
 }

@@ -35,7 +35,7 @@ pub fn region_on(
 }
 
 /// How many regions an edition has.
-pub(super) fn region_count(regions: &[RegionRow], edition: u32) -> u64
+pub fn region_count(regions: &[RegionRow], edition: u32) -> u64
     ensures count { result ≡ region_count regions.now edition }
     ensures few { result ≤ length regions.now }
 {

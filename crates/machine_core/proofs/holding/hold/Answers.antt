@@ -12,14 +12,14 @@ pub returns-then-is_some-clause-held : goal.returns-then-is_some-clause-held
 returns-then-is_some-clause-held c =
     let Good : ℕ × Shelved → Type 0 = λ pair. bound_at (published_of (rows_of c.args.tables.now)) pair.0
     ≡ Some (bound_on pair.1) in
-    rw c.bring.ensures (All-brought Good c.args.edition c.args.shelf.now c.requires.held)
+    rw c.bring.ensures.brought (All-brought Good c.args.edition c.args.shelf.now c.requires.held)
 
 pub returns-then-is_some-clause-first : goal.returns-then-is_some-clause-first
 returns-then-is_some-clause-first c =
     let Good : ℕ × Shelved → Type 0 = λ pair. bound_at (published_of (rows_of c.args.tables.now)) pair.0
     ≡ Some (bound_on pair.1) in
-    rw c.bring.ensures (IsFirst-brought Good c.args.edition c.args.shelf.now c.requires.held
-    (sym (ap is_some c.peek.ensures) ∙ is_some-lent c.peek.result ∙ sym c.is_some.ensures ∙ c.if-is_some.true))
+    rw c.bring.ensures.brought (IsFirst-brought Good c.args.edition c.args.shelf.now c.requires.held
+    (sym (ap is_some c.peek.ensures.held) ∙ is_some-lent c.peek.result ∙ sym c.is_some.ensures ∙ c.if-is_some.true))
 
 pub returns-clause-held : goal.returns-clause-held
 returns-clause-held c =

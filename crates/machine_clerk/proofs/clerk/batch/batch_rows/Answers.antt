@@ -40,7 +40,8 @@ returns-in_err-within_bytes c =
     let active = rw (c.active.ensures, c.from-2.ensures, c.rows-count.ensures.rows) at c.in_ok-within-2.ensures in
     let all = rw (c.sessions.ensures, c.from-3.ensures, c.rows-count.ensures.rows) at c.in_ok-within-3.ensures in
     let batches = rw c.batches.ensures at c.in_ok-within-4.ensures in
-    let typed = c.typed_bytes.ensures ∙ ap (λ puts. typed_bytes (map (λ put. put.1) puts)) (c.as_slice.ensures ∙ sessions)
+    let typed = c.typed_bytes.ensures ∙ ap (λ puts. typed_bytes (map (λ put. put.1) puts))
+    (c.as_slice.ensures ∙ sessions)
     ∙ ap typed_bytes (placed-sessions (length own.sessions) (map session_of c.args.grid.now.rows)) in
     let bytes = rw typed at c.in_err-within_bytes.ensures in
     rw (rows, active, all, batches) (Finds-stopped _ _ c.in_err-within_bytes.field-0.0
@@ -56,7 +57,8 @@ returns c =
     let active = rw (c.active.ensures, c.from-2.ensures, c.rows-count.ensures.rows) at c.in_ok-within-2.ensures in
     let all = rw (c.sessions.ensures, c.from-3.ensures, c.rows-count.ensures.rows) at c.in_ok-within-3.ensures in
     let batches = rw c.batches.ensures at c.in_ok-within-4.ensures in
-    let typed = c.typed_bytes.ensures ∙ ap (λ puts. typed_bytes (map (λ put. put.1) puts)) (c.as_slice.ensures ∙ sessions)
+    let typed = c.typed_bytes.ensures ∙ ap (λ puts. typed_bytes (map (λ put. put.1) puts))
+    (c.as_slice.ensures ∙ sessions)
     ∙ ap typed_bytes (placed-sessions (length own.sessions) (map session_of c.args.grid.now.rows)) in
     let bytes = rw typed at c.in_ok-within_bytes.ensures in
     rw (

@@ -1,4 +1,5 @@
-use Rattle.std.proofs.Common.{◌≡◌, ◌∙◌, ◌∷◌, ◌++◌, ◌<◌, ℕ, List, [], ap, arith, false, length, map, refl, slice_index_or, sym}
+use Rattle.std.proofs.Common.{◌≡◌, ◌∙◌, ◌∷◌, ◌++◌, ◌<◌, ℕ, List, [], ap, arith, false, length, map, refl}
+use Rattle.std.proofs.Common.{slice_index_or, sym}
 use Rattle.machine_core.specs.declared.column.Column.{Column}
 use Rattle.machine_clerk.proofs.Columns.{map-cells_more, zip-all}
 use Rattle.machine_clerk.proofs.clerk.batch.cells_of.Goals as goal

@@ -23,12 +23,12 @@ columns-preserved c =
     omega (arith, c.columns-test.true, c.columns-place-end.ensures, c.requires.columns) in
     elim c.if-is_confirmed.branch [
       | then-is_confirmed+in_ok-push w ↦ w.confirmed-is ∙ w.in_ok-push.ensures.pushed
-          ∙ filter-cells_yes columns texts whole c.columns.place column none c.cell.result.now [] within here c.cell.ensures
-          attribute_of is_confirmed c.columns.confirmed c.columns.invariant
+          ∙ filter-cells_yes columns texts whole c.columns.place column none c.cell.result.now [] within here
+          c.cell.ensures attribute_of is_confirmed c.columns.confirmed c.columns.invariant
           (sym c.is_confirmed.ensures ∙ w.if-is_confirmed.true)
       | else-is_confirmed w ↦ w.confirmed-is
-          ∙ filter-cells_no columns texts whole c.columns.place column none c.cell.result.now [] within here c.cell.ensures
-          attribute_of is_confirmed c.columns.confirmed c.columns.invariant
+          ∙ filter-cells_no columns texts whole c.columns.place column none c.cell.result.now [] within here
+          c.cell.ensures attribute_of is_confirmed c.columns.confirmed c.columns.invariant
           (sym c.is_confirmed.ensures ∙ w.if-is_confirmed.false)
     ]
 

@@ -5,5 +5,6 @@ use Rattle.machine_clerk.proofs.clerk.batch.word_of.Goals as goal
 
 pub returns-in-None : goal.returns-in-None
 unfolding lib.Utf8.encode
-returns-in-None c = IfOk-weaker c.new-in-None.result _ _ (λ made is. is ∙ word_of-plain c.args.column.now c.in-None.ensures.cases)
+returns-in-None c =
+    IfOk-weaker c.new-in-None.result _ _ (λ made is. is ∙ word_of-plain c.args.column.now c.in-None.ensures.cases)
     c.new-in-None.ensures

@@ -24,7 +24,7 @@ returns-in-Fix-clause-fits c =
     let ended : c.apply.new.state ≡ end_of c.args.book.now c.args.state c.decide.new.work.first =
     rw (c.first.ensures, c.decide.ensures.state) at c.apply.ensures in
     subst (λ (state : State). Fits c.args.book.now state) (sym ended) (Fits-run c.args.book.now c.args.state
-    c.decide.new.work.first c.requires.fits c.in-Fix.ensures.answer.0.is_first.maximal.0)
+    c.decide.new.work.first c.requires.fits c.in-Fix.ensures.answer.0.is_first.holds.0)
 
 pub returns-in-Conflict-clause-answers : goal.returns-in-Conflict-clause-answers
 returns-in-Conflict-clause-answers c = (

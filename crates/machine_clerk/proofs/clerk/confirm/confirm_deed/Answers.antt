@@ -12,7 +12,8 @@ bytes_in-gone-requires c =
     let sessions = c.args.own.now.sessions in
     let place = c.args.number - 1 in
     let old = c.index-sessions-number.result in
-    let within : place < length sessions = omega (arith, c.in_ok-session.ensures.counted, c.in_ok-session.ensures.within) in
+    let within : place < length sessions =
+    omega (arith, c.in_ok-session.ensures.counted, c.in_ok-session.ensures.within) in
     let good = own-sessions (rows_of c.args.tables.now) c.args.own.now c.requires.valid c.requires.own place
     (get_or sessions place old) (slice_get-get_or sessions place old within) in
     let is = rw c.sessions.ensures at c.index-sessions-number.is in
@@ -31,9 +32,11 @@ within_replaced-requires c =
     let sessions = c.args.own.now.sessions in
     let place = c.args.number - 1 in
     let old = c.index-sessions-number.result in
-    let within : place < length sessions = omega (arith, c.in_ok-session.ensures.counted, c.in_ok-session.ensures.within) in
+    let within : place < length sessions =
+    omega (arith, c.in_ok-session.ensures.counted, c.in_ok-session.ensures.within) in
     let is = rw c.sessions.ensures at c.index-sessions-number.is in
-    let gone = c.bytes_in-gone.ensures.bytes ∙ ap bytes_in c.as_slice.ensures ∙ ap (λ session. bytes_in session.typed) is in
+    let gone = c.bytes_in-gone.ensures.bytes ∙ ap bytes_in c.as_slice.ensures
+    ∙ ap (λ session. bytes_in session.typed) is in
     omega (arith, gone, one-session sessions c.args.own.now.records place old within)
 
 pub returns-in_err-within_replaced-clause-finds : goal.returns-in_err-within_replaced-clause-finds
@@ -41,9 +44,11 @@ returns-in_err-within_replaced-clause-finds c =
     let sessions = c.args.own.now.sessions in
     let place = c.args.number - 1 in
     let old = c.index-sessions-number.result in
-    let within : place < length sessions = omega (arith, c.in_ok-session.ensures.counted, c.in_ok-session.ensures.within) in
+    let within : place < length sessions =
+    omega (arith, c.in_ok-session.ensures.counted, c.in_ok-session.ensures.within) in
     let is = rw c.sessions.ensures at c.index-sessions-number.is in
-    let gone = c.bytes_in-gone.ensures.bytes ∙ ap bytes_in c.as_slice.ensures ∙ ap (λ session. bytes_in session.typed) is in
+    let gone = c.bytes_in-gone.ensures.bytes ∙ ap bytes_in c.as_slice.ensures
+    ∙ ap (λ session. bytes_in session.typed) is in
     let come = c.bytes_in.ensures.bytes ∙ ap bytes_in c.as_slice-2.ensures in
     let replaced = bytes-replaced sessions c.args.own.now.records place c.in_ok-session.session old within in
     let bytes = rw (gone, come, replaced) at c.in_err-within_replaced.ensures in
@@ -55,9 +60,11 @@ returns-clause-finds c =
     let sessions = c.args.own.now.sessions in
     let place = c.args.number - 1 in
     let old = c.index-sessions-number.result in
-    let within : place < length sessions = omega (arith, c.in_ok-session.ensures.counted, c.in_ok-session.ensures.within) in
+    let within : place < length sessions =
+    omega (arith, c.in_ok-session.ensures.counted, c.in_ok-session.ensures.within) in
     let is = rw c.sessions.ensures at c.index-sessions-number.is in
-    let gone = c.bytes_in-gone.ensures.bytes ∙ ap bytes_in c.as_slice.ensures ∙ ap (λ session. bytes_in session.typed) is in
+    let gone = c.bytes_in-gone.ensures.bytes ∙ ap bytes_in c.as_slice.ensures
+    ∙ ap (λ session. bytes_in session.typed) is in
     let come = c.bytes_in.ensures.bytes ∙ ap bytes_in c.as_slice-2.ensures in
     let replaced = bytes-replaced sessions c.args.own.now.records place c.in_ok-session.session old within in
     let bytes = rw (gone, come, replaced) at c.in_ok-within_replaced.ensures in

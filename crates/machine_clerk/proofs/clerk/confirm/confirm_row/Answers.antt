@@ -9,7 +9,7 @@ use Rattle.machine_clerk.proofs.clerk.confirm.confirm_row.Goals as goal
 
 pub returns-in_err-texts-clause-finds : goal.returns-in_err-texts-clause-finds
 returns-in_err-texts-clause-finds c =
-    let bound = c.shelved.ensures (published_of (rows_of c.args.tables.now)) c.in_ok-session.ensures.held in
+    let bound = c.shelved.ensures.bound (published_of (rows_of c.args.tables.now)) c.in_ok-session.ensures.held in
     let texts = rw c.as_slice-attributes.ensures at c.in_err-texts.ensures.finds in
     rw (c.in_ok-session.ensures.finds, bound) (Finds-stopped _ _ c.in_err-texts.field-0.0
     c.from_residual-in_err-texts.result c.from_residual-in_err-texts.ensures.1 texts)
@@ -17,8 +17,9 @@ returns-in_err-texts-clause-finds c =
 pub with_cells-requires-clause-typed : goal.with_cells-requires-clause-typed
 with_cells-requires-clause-typed c =
     let published = published_of (rows_of c.args.tables.now) in
-    let bound = c.shelved.ensures published c.in_ok-session.ensures.held in
-    let wide = typed-width published c.args.own.now.batches c.in_ok-session.session.now (bound_on c.shelved.result.now) bound
+    let bound = c.shelved.ensures.bound published c.in_ok-session.ensures.held in
+    let wide = typed-width published c.args.own.now.batches c.in_ok-session.session.now (bound_on c.shelved.result.now)
+    bound
     c.in_ok-session.ensures.good in
     λ place past inside. omega (
       arith,
@@ -30,8 +31,9 @@ with_cells-requires-clause-typed c =
 pub with_cells-requires-clause-confirmed : goal.with_cells-requires-clause-confirmed
 with_cells-requires-clause-confirmed c =
     let published = published_of (rows_of c.args.tables.now) in
-    let bound = c.shelved.ensures published c.in_ok-session.ensures.held in
-    let wide = confirmed-width published c.args.own.now.batches c.in_ok-session.session.now (bound_on c.shelved.result.now)
+    let bound = c.shelved.ensures.bound published c.in_ok-session.ensures.held in
+    let wide = confirmed-width published c.args.own.now.batches c.in_ok-session.session.now
+    (bound_on c.shelved.result.now)
     bound c.in_ok-session.ensures.good in
     λ place past inside. omega (
       arith,
@@ -42,14 +44,15 @@ with_cells-requires-clause-confirmed c =
 
 pub returns-clause-finds : goal.returns-clause-finds
 returns-clause-finds c =
-    let bound = c.shelved.ensures (published_of (rows_of c.args.tables.now)) c.in_ok-session.ensures.held in
+    let bound = c.shelved.ensures.bound (published_of (rows_of c.args.tables.now)) c.in_ok-session.ensures.held in
     let texts = rw c.as_slice-attributes.ensures at c.in_ok-texts.ensures.finds in
     rw (c.in_ok-session.ensures.finds, bound, texts, c.in_ok-with_cells.ensures) refl
 
 pub returns-clause-within : goal.returns-clause-within
 returns-clause-within c = omega (
   arith,
-  slice_get_within c.args.own.now.sessions (c.args.number - 1) c.in_ok-session.session.now c.in_ok-session.ensures.stands,
+  slice_get_within c.args.own.now.sessions (c.args.number - 1) c.in_ok-session.session.now
+      c.in_ok-session.ensures.stands,
   c.in_ok-session.ensures.counted,
 )
 

@@ -22,7 +22,8 @@ masters-preserved c =
     let finds = rw c.as_slice.ensures at c.in_ok-place.ensures.finds in
     let given : Gives (another_master rows.masters c.masters.places c.master-item.result) (Ok c.in_ok-place.place)
     = rw finds refl in
-    let others = another-master rows c.masters.places c.master-item.result c.in_ok-place.place c.masters.invariant.others
+    let others = another-master rows c.masters.places c.master-item.result c.in_ok-place.place
+    c.masters.invariant.others
     given in
     record {
       found = c.masters.invariant.found ∙ behind-step (another_master rows.masters) c.args.masters.now

@@ -8,5 +8,6 @@ rows-init c = rows-none c.args.attributes.now c.args.rows.now c.new-full.result 
 pub rows-preserved : goal.rows-preserved
 rows-preserved c =
     let finds = rw c.as_slice.ensures at c.in_ok-full_row.ensures in
-    c.rows.invariant ∙ rows-step c.args.attributes.now c.args.rows.now c.rows.place c.index-rows-place.result c.rows.full
+    c.rows.invariant ∙ rows-step c.args.attributes.now c.args.rows.now c.rows.place c.index-rows-place.result
+    c.rows.full
     c.push.new.self c.in_ok-full_row.field-0 c.rows-test.true c.index-rows-place.is finds c.in_ok-push.ensures.pushed

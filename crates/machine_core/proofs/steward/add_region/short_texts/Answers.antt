@@ -9,7 +9,8 @@ use Rattle.machine_core.proofs.steward.add_region.short_texts.Goals as goal
 -- the cell that is read at a place
 cell-read : (attributes texts : List (List ℕ)) (place : ℕ) (attribute text : List ℕ) → length texts ≡ length attributes
     → place < length texts → attribute ≡ get_or attributes place attribute → text ≡ get_or texts place text
-    → (place < length (zip attributes texts)) × ((attribute, text) ≡ get_or (zip attributes texts) place (attribute, text))
+    → (place < length (zip attributes texts))
+    × ((attribute, text) ≡ get_or (zip attributes texts) place (attribute, text))
 cell-read attributes texts place attribute text same within here there = (
   omega (arith, same, within, length-zip attributes texts),
   rw (get_or-zip attributes texts place (attribute, text) (omega (arith, same, within)) within)
