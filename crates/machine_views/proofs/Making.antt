@@ -1,8 +1,9 @@
 -- What the steward made, by the rows that it is about.
-use Rattle.std.proofs.Common.{◌≡◌, ℕ, ◌+◌, List, take, Some, Ok, ap}
-use Rattle.std.specs.Prelude.{slice_get}
+use Rattle.std.proofs.Common.{◌≡◌, ℕ, ◌+◌, List, take, Some, Ok, Err, ap, subst, sym}
+use Rattle.std.specs.Prelude.{IfOk, Result, slice_get}
 use Rattle.desk_words.specs.declared.made.Made.{Made}
 use Rattle.desk_words.specs.declared.made.Made.TheVariants as made
+use Rattle.desk_words.specs.declared.rows.act.Act.{Act}
 use Rattle.desk_words.specs.declared.rows.act.Act.TheVariants as act
 use Rattle.desk_words.specs.declared.rows.clerk.ClerkRow.{ClerkRow}
 use Rattle.desk_words.specs.declared.rows.edition.EditionRow.{EditionRow}
@@ -42,6 +43,15 @@ module _ (rows : Rows) (place : ℕ) (name : List ℕ) where
   pub edition-given : (row : EditionRow) → slice_get rows.editions place ≡ Some row → name ≡ row.name
       → Gives (kept_made rows act.Edition place) (Ok (made.Edition name row.version))
   edition-given row stands named = rw stands (ap (λ one. Ok (made.Edition one row.version)) named)
+
+-- what is made where its act is this one is the reply of the act
+pub kept-told : {E : Type 0} (rows : Rows) (place : ℕ) (what same : Act) (told : Made) (result : Result Made E)
+    → what ≡ same → Gives (kept_made rows same place) (Ok told) → IfOk result (λ one. one ≡ told)
+    → IfOk result (λ one. Gives (kept_made rows what place) (Ok one))
+kept-told rows place what same told (Ok made) is gives are =
+    let Told : Act → Type 0 = λ one. Gives (kept_made rows one place) (Ok made) in
+    subst Told (sym is) (subst (λ one. Gives (kept_made rows same place) (Ok one)) (sym are) gives)
+kept-told rows place what same told (Err fault) is gives are = tt
 
 -- a region that stands at its place
 pub region-kept : (rows : Rows) (place : ℕ) (row : RegionRow) (told : Made) → slice_get rows.regions place ≡ Some row

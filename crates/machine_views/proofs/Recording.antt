@@ -1,7 +1,7 @@
 -- The records of an edition, one after another.
 use Rattle.std.proofs.Common.{◌≡◌, ◌∙◌, ℕ, ◌+◌, ◌<◌, ◌≤◌, Bool, true, false, cond, List, [], ◌∷◌, ◌++◌, length}
-use Rattle.std.proofs.Common.{get_or, map, take, Option, Some, None, Ok, refl, sym, ap, subst, arith}
-use Rattle.std.specs.Prelude.{IsSomeAnd, filter, zip}
+use Rattle.std.proofs.Common.{get_or, map, take, Some, Ok, refl, sym, ap, subst, arith}
+use Rattle.std.specs.Prelude.{filter, zip}
 use Rattle.std.specs.List.{range_with_len}
 use Rattle.std.proofs.lemmas.List.{append-nil, map-append, take_all}
 use Rattle.std.proofs.lemmas.List.Elements.{filter_more}
@@ -85,11 +85,6 @@ lines-all own edition place lines past so_far =
     let whole : take place (numbered own) ≡ numbered own =
     take_all place (numbered own) (omega (arith, past, numbered-length own)) in
     so_far ∙ ap (λ items. map record_line (filter (is_on own edition) items)) whole
-
--- what is there is some value
-pub some-there : {A : Type 0} (P : A → Type 0) (found : Option A) → IsSomeAnd found P → (one : A) × (found ≡ Some one)
-some-there P None there = absurd there
-some-there P (Some one) there = (one, refl)
 
 -- the records of a clerk over an edition that is found
 pub records-given : (published : Published) (own : Own) (name : List ℕ) (version place : ℕ) (bound : Bound)

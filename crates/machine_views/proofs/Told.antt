@@ -44,19 +44,19 @@ module _ (kit : Kit) where
   pub first-run : (state : State) (first second : List Step) (verdict : Verdict)
       → IsAnswer kit state first second verdict
       → IsRun kit state first
-  first-run state first second (Fix certain dissent) is = is.0.is_first.maximal.0
-  first-run state first second Conflict is = is.is_first.maximal.0
+  first-run state first second (Fix certain dissent) is = is.0.is_first.holds.0
+  first-run state first second Conflict is = is.is_first.holds.0
 
   dissent-step : (end : State) (dissent : Option Step) → IsDissent kit end dissent → IfSome dissent (IsStepOf kit)
   dissent-step end None is = tt
-  dissent-step end (Some step) is = (is.dissents.rule_within, is.dissents.agrees.usable.row_within)
+  dissent-step end (Some step) is = (is.holds.rule_within, is.holds.agrees.usable.row_within)
 
   -- the steps that are told with a verdict are steps of the kit
   pub told-steps : (state : State) (first second : List Step) (verdict : Verdict)
       → IsAnswer kit state first second verdict
       → NamesSteps kit second verdict
   told-steps state first second (Fix certain dissent) is = dissent-step (end_of kit state first) dissent is.0.is_dissent
-  told-steps state first second Conflict is = run-steps state second is.is_second.maximal.0
+  told-steps state first second Conflict is = run-steps state second is.is_second.holds.maximal.0
 
 -- a session is shown by the answer for its state
 pub view-given : (published : Published) (number : ℕ) (session : SessionRow) (bound : Bound) (answer : Answer)

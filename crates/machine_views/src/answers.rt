@@ -20,13 +20,13 @@ use std::alloc::Global;
 
 /// The verdict on a session, and the state that is shown of it. The runs stand in the work.
 #[derive(Debug, Drop)]
-pub struct Answered {
+pub(crate) struct Answered {
     pub verdict: Verdict,
     pub shown: State,
 }
 
 /// The book for a session whose edition stands first on the shelf.
-pub fn book_for<'s>(shelf: &'s Shelf, session: &SessionRow) -> &'s Shelved
+pub(crate) fn book_for<'s>(shelf: &'s Shelf, session: &SessionRow) -> &'s Shelved
     requires { IsFirst session.now.edition shelf.now }
     ensures { (rows : Rows) → AreValid rows → AreHeld (published_of rows) shelf.now
         → IsSessionOf (published_of rows) session.now → IsBookFor (published_of rows) session.now result.now }
@@ -35,7 +35,7 @@ pub fn book_for<'s>(shelf: &'s Shelf, session: &SessionRow) -> &'s Shelved
 }
 
 /// The verdict on a session, with the state that is shown of it. The runs are left in the work.
-pub fn answer_to(
+pub(crate) fn answer_to(
     alloc: Global,
     work: &mut Work,
     shelved: &Shelved,

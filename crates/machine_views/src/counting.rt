@@ -18,7 +18,7 @@ use master_index::Shelf;
 use std::alloc::Global;
 
 /// What the rules make of a session: the verdict, and the cells that are shown. Its edition comes first on the shelf.
-pub fn assess(
+pub(crate) fn assess(
     alloc: Global,
     tables: &Tables,
     shelf: &mut Shelf,
@@ -42,7 +42,7 @@ pub fn assess(
 
 /// How many have each verdict.
 #[derive(Clone, Copy, Debug, PartialEq, Eq)]
-pub struct Verdicts {
+pub(crate) struct Verdicts {
     pub certain: u64,
     pub partial: u64,
     pub conflict: u64,

@@ -9,8 +9,6 @@ mod looks;
 mod made;
 mod views;
 
-pub use answers::{Answered, answer_to, book_for};
-pub use counting::{Verdicts, assess};
 pub use kept::{deed_reply, kept_reply};
 pub use looks::{
     carrying, clerk_report, derived_sheet, desk_report, explain, records_of, suggestion_of, view_at,

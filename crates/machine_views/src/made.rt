@@ -1,5 +1,5 @@
 //! The replies to the steward's writes: what was made, over the tables as they stand.
-ghost use Rattle.std.specs.Prelude.{◌≡◌, ◌≢◌, ◌<◌, ◌≤◌, ◌^◌, All, IfOk, length};
+ghost use Rattle.std.specs.Prelude.{◌≡◌, ◌≢◌, ◌≤◌, All, IfOk, length};
 ghost use Rattle.desk_base.specs.declared.limits.TheConstants.{MAX_REGION_ROWS};
 ghost use Rattle.desk_words.specs.Tables.{published_of, rows_of};
 ghost use Rattle.desk_valid.specs.Rows.Clerk.{HasTarget, IsStewardsAct};
@@ -11,15 +11,14 @@ ghost use Rattle.fix_model.specs.Regions.{row_state};
 ghost use Rattle.machine_core.specs.Checked.{Gives};
 ghost use Rattle.machine_core.specs.Kept.{kept_made, region_made};
 ghost use Rattle.machine_core.specs.Shelves.{AreHeld, IsFullRoom};
-ghost use Rattle.machine_core.specs.Steward.AddRegion.{region_count};
 ghost use Rattle.machine_views.specs.Counts.{AreAtMost, AreRowVerdicts};
 
 use crate::counting::Verdicts;
 use desk_base::{Duplicate, NoMemory, Steps, Text};
-use desk_words::{Act, Made, RegionRow, Tables};
+use desk_words::{Act, EditionRow, Made, MasterRow, RegionRow, RulebookRow, SchemaRow, Tables};
 use fix_engine::{Verdict, Work, decide};
 use fix_model::{Book, Region, row_state};
-use machine_core::{hold, shelved};
+use machine_core::{hold, region_count, shelved};
 use master_index::{Shelf, SortedBook};
 use std::alloc::Global;
 
@@ -45,22 +44,10 @@ pub fn kept_made(
     let place = target as usize;
     match act {
         Act::Clerk => Ok(Made::Clerk(tables.clerks.as_slice()[place].name.copy()?)),
-        Act::Schema => {
-            let row = &tables.schemas.as_slice()[place];
-            Ok(Made::Schema(row.name.copy()?, row.version))
-        }
-        Act::Master => {
-            let row = &tables.masters.as_slice()[place];
-            Ok(Made::Master(row.name.copy()?, row.version))
-        }
-        Act::Rulebook => {
-            let row = &tables.rulebooks.as_slice()[place];
-            Ok(Made::Rulebook(row.name.copy()?, row.version))
-        }
-        Act::Edition => {
-            let row = &tables.editions.as_slice()[place];
-            Ok(Made::Edition(row.name.copy()?, row.version))
-        }
+        Act::Schema => schema_made(&tables.schemas.as_slice()[place]),
+        Act::Master => master_made(&tables.masters.as_slice()[place]),
+        Act::Rulebook => rulebook_made(&tables.rulebooks.as_slice()[place]),
+        Act::Edition => edition_made(&tables.editions.as_slice()[place]),
         Act::Region => {
             let row = &tables.regions.as_slice()[place];
             region_made(alloc, tables, shelf, work, target, row)
@@ -68,6 +55,34 @@ pub fn kept_made(
         // The steward has no other acts.
         _ => unreachable!(),
     }
+}
+
+/// A version of a schema's name.
+fn schema_made(row: &SchemaRow) -> Result<Made, NoMemory>
+    ensures { IfOk result (λ made. made ≡ Made.Schema row.now.name row.now.version) }
+{
+    Ok(Made::Schema(row.name.copy()?, row.version))
+}
+
+/// A version of a master's name.
+fn master_made(row: &MasterRow) -> Result<Made, NoMemory>
+    ensures { IfOk result (λ made. made ≡ Made.Master row.now.name row.now.version) }
+{
+    Ok(Made::Master(row.name.copy()?, row.version))
+}
+
+/// A version of a rulebook's name.
+fn rulebook_made(row: &RulebookRow) -> Result<Made, NoMemory>
+    ensures { IfOk result (λ made. made ≡ Made.Rulebook row.now.name row.now.version) }
+{
+    Ok(Made::Rulebook(row.name.copy()?, row.version))
+}
+
+/// A version of an edition's name.
+fn edition_made(row: &EditionRow) -> Result<Made, NoMemory>
+    ensures { IfOk result (λ made. made ≡ Made.Edition row.now.name row.now.version) }
+{
+    Ok(Made::Edition(row.name.copy()?, row.version))
 }
 
 /// A region at a place, counted from 0, with the number of its rows of each verdict. It need not stand there yet.
@@ -93,7 +108,7 @@ pub fn region_made(
     let verdicts = row_verdicts(alloc, work, &shelved(shelf, row.edition).book, &row.region)?;
     let earlier = region_count(&tables.regions.as_slice()[..place as usize], row.edition);
     Ok(Made::Region {
-        region: earlier + 1,
+        region: earlier as u32 + 1,
         certain: verdicts.certain as u32,
         partial: verdicts.partial as u32,
         conflict: verdicts.conflict as u32,
@@ -138,13 +153,4 @@ fn row_verdict(
 {
     let mut state = row_state(alloc, Book::<()>::width(book), attributes, texts)?;
     Ok(decide(work, book, &mut state, &mut Steps::new(())))
-}
-
-/// How many of these regions an edition has.
-fn region_count(regions: &[RegionRow], edition: u32) -> u32
-    requires { length regions.now < 2 ^ 31 }
-    ensures count { result ≡ region_count regions.now edition }
-    ensures few { result ≤ length regions.now }
-{
-    regions.iter().filter(|row| row.edition == edition).count() as u32
 }

@@ -3,7 +3,8 @@ use Rattle.std.specs.Prelude.{◌≡◌, ℕ, ◌<◌, List, length, ⊤}
 use Rattle.desk_words.specs.declared.command.Command.{Command}
 use Rattle.desk_words.specs.declared.reply.Reply.{Reply}
 use Rattle.desk_words.specs.declared.reply.Reply.TheVariants.{Made, Opened, View as ViewReply, Committed, Batched}
-use Rattle.desk_words.specs.declared.reply.Reply.TheVariants.{Suggested, Report, Records, Explained, Derived, Carried, Refused}
+use Rattle.desk_words.specs.declared.reply.Reply.TheVariants.{Suggested, Report, Records, Explained, Derived}
+use Rattle.desk_words.specs.declared.reply.Reply.TheVariants.{Carried, Refused}
 use Rattle.desk_words.specs.declared.rows.session.SessionRow.{SessionRow}
 use Rattle.desk_words.specs.declared.view.View.{View}
 use Rattle.desk_words.specs.Tables.{Rows, published_of}

@@ -3,7 +3,9 @@ use Rattle.std.specs.Prelude.{⊤}
 use Rattle.desk_words.specs.declared.made.Made.{Made}
 use Rattle.desk_words.specs.declared.rows.region.RegionRow.{RegionRow}
 use Rattle.desk_words.specs.declared.steward_work.StewardWork.{StewardWork}
-use Rattle.desk_words.specs.declared.steward_work.StewardWork.TheVariants.{AddClerk, AddSchema, AddMaster, AddRulebook, AddEdition, AddRegion, AddDerived}
+use Rattle.desk_words.specs.declared.steward_work.StewardWork.TheVariants.{AddClerk, AddSchema, AddMaster}
+use Rattle.desk_words.specs.declared.steward_work.StewardWork.TheVariants.{AddRulebook, AddEdition, AddRegion}
+use Rattle.desk_words.specs.declared.steward_work.StewardWork.TheVariants.{AddDerived}
 use Rattle.desk_words.specs.Changes.{changed}
 use Rattle.desk_words.specs.Tables.{Published, Rows}
 use Rattle.machine_core.specs.Checked.{Checked, ◌>>=◌, done, never}

@@ -1,15 +1,17 @@
 //! The desk. A clause sees the rows of its tables and the shelf of its books.
-ghost use Rattle.std.specs.Prelude.{◌≡◌, ◌≢◌, ◌<◌, ◌≤◌, [], length, nat_eq, None, IfErr, IfOk, IsSome, OnErr, OnOk};
+ghost use Rattle.std.specs.Prelude.{◌≡◌, ◌≢◌, ◌<◌, ◌≤◌, [], length, nat_eq, None, Some, IfErr, IfOk, IsSome};
+ghost use Rattle.std.specs.Prelude.{OnErr, OnOk};
 ghost use Rattle.std.specs.Map.{lookup};
 ghost use Rattle.desk_words.specs.Changes.{changed_all};
 ghost use Rattle.desk_words.specs.Tables.{published_of, rows_of};
+ghost use Rattle.desk_valid.specs.Bindings.{bound_at};
 ghost use Rattle.desk_valid.specs.Valid.{AreValid};
 ghost use Rattle.keeper_core.specs.Keeping.{IfTold};
 ghost use Rattle.master_index.specs.Held.{brought_first, put_first};
 ghost use Rattle.master_index.specs.declared.shelf.Shelved.{Shelved as ShelvedBook};
 ghost use Rattle.machine_core.specs.Machine.{machine};
 ghost use Rattle.machine_core.specs.Outcomes.{Answers};
-ghost use Rattle.machine_core.specs.Shelves.{AreHeld, IsFirst};
+ghost use Rattle.machine_core.specs.Shelves.{AreHeld, IsFirst, bound_on};
 ghost use Rattle.machine_core.specs.Starting.{AreStarted, IsUnstarted, StartsAvailable};
 ghost use Rattle.machine_core.specs.Ticket.{IsNumbered, turn_of};
 ghost use Rattle.machine_core.specs.Weighing.{IsSettleable, IsWeighed, NeverUnavailable, UnavailableRises};
@@ -25,9 +27,9 @@ use desk_valid::{Bad, valid};
 use desk_words::{Change, Command, Refusal, Reply, Tables};
 use fix_engine::Work;
 use keeper_core::{KeepFail, Keeper};
-use machine_core::{Machine, SettleFail, StartFail, Stop, Weighed, hold};
+use machine_core::{Machine, SettleFail, StartFail, Stop, Weighed, hold, shelved};
 use machine_views::desk_report;
-use master_index::Shelf;
+use master_index::{Shelf, Shelved};
 use std::alloc::Global;
 use std::marker::Model;
 
@@ -83,9 +85,9 @@ impl Desk {
         self.totalled.turn()
     }
 
-    /// Has the book of an edition stand first on the shelf. Where it is held nothing is built and no memory is taken,
-    /// so it succeeds; else it is built and put in front, where four others are held in place of the one that was used
-    /// longest ago. Where there is no memory the shelf is as before.
+    /// Has the book of an edition stand first on the shelf. Where it is held it comes to the front, and the call
+    /// succeeds whatever memory there is; else it is built and put in front, where four others are held in place of the
+    /// one that was used longest ago. Where there is no memory the shelf is as before.
     pub fn book(&mut self, edition: u32) -> Result<(), NoMemory>
         requires { edition < length self.old.rows.editions }
         ensures first { OnOk result (IsFirst edition self.new.shelf) }
@@ -100,6 +102,14 @@ impl Desk {
     {
         let tables = self.totalled.tables();
         hold(self.alloc, tables, &mut self.shelf, edition)
+    }
+
+    /// The book of the edition that stands first on the shelf, with its names: that of the edition's row.
+    pub fn shelved(&self, edition: u32) -> &Shelved
+        requires { IsFirst edition self.now.shelf }
+        ensures { bound_at (published_of self.now.rows) edition ≡ Some (bound_on result.now) }
+    {
+        shelved(&self.shelf, edition)
     }
 
     /// What a request comes to: the step of the machine, or that there is no memory.

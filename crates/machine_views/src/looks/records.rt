@@ -3,59 +3,34 @@ ghost use Rattle.std.specs.Prelude.{◌≡◌, ◌==◌, ◌<◌, ◌^◌, IfOk,
 ghost use Rattle.std.specs.List.{range_with_len};
 ghost use Rattle.std.specs.Option.{option_map_or};
 ghost use Rattle.desk_words.specs.Tables.{published_of, rows_of};
-ghost use Rattle.desk_valid.specs.declared.bound.Bound.{Bound as BoundOf};
-ghost use Rattle.desk_valid.specs.Bindings.{bound_at};
 ghost use Rattle.desk_valid.specs.Valid.{AreValid};
 ghost use Rattle.machine_core.specs.Finding.{session_at};
 ghost use Rattle.machine_core.specs.Look.Records.{is_on, record_line, records_of};
 ghost use Rattle.machine_core.specs.Outcomes.{Answers};
 ghost use Rattle.machine_core.specs.Own.{IsOwn};
-ghost use Rattle.machine_core.specs.Shelves.{AreHeld};
 
-use desk_base::{Duplicate, List, NoMemory, Str, Text};
+use desk_base::{Duplicate, List, NoMemory, Str};
 use desk_words::{Kind, RecordLine, RecordRow, RecordSheet, SessionRow, Tables};
-use machine_core::{Own, Stop, hold, named, shelved};
-use master_index::Shelf;
+use machine_core::{Own, Stop, named, session_at, words_of};
 use std::alloc::Global;
 
-/// The records of a clerk whose sessions are on a version of an edition, each with its number.
+/// The records of a clerk whose sessions are on a version of an edition, each with its number. No book is asked for.
 pub fn records_of(
     alloc: Global,
     tables: &Tables,
-    shelf: &mut Shelf,
     own: &Own,
     edition: &Str,
     version: u32,
 ) -> Result<RecordSheet, Stop>
     requires valid { AreValid (rows_of tables.now) }
-    requires held { AreHeld (published_of (rows_of tables.now)) shelf.old }
     requires own { IsOwn (rows_of tables.now) own.now }
     ensures records { Answers result
         (records_of (published_of (rows_of tables.now)) own.now edition.now version) }
-    ensures held { AreHeld (published_of (rows_of tables.now)) shelf.new }
 {
     let place = named(tables.editions.as_slice(), edition, version, Kind::Edition)?;
-    let attributes = attributes_of(alloc, tables, shelf, place)?;
+    let attributes = words_of(alloc, tables, place)?;
     let lines = lines_on(alloc, own, place)?;
     Ok(RecordSheet { attributes, lines })
-}
-
-/// The words of an edition's attributes, in their order.
-fn attributes_of(
-    alloc: Global,
-    tables: &Tables,
-    shelf: &mut Shelf,
-    edition: u32,
-) -> Result<List<Text>, NoMemory>
-    requires valid { AreValid (rows_of tables.now) }
-    requires edition { edition < length tables.now.editions.items }
-    requires held { AreHeld (published_of (rows_of tables.now)) shelf.old }
-    ensures attributes { IfOk result (λ attributes. (bound : BoundOf)
-        → bound_at (published_of (rows_of tables.now)) edition ≡ Some bound → attributes ≡ bound.names.attributes) }
-    ensures held { AreHeld (published_of (rows_of tables.now)) shelf.new }
-{
-    hold(alloc, tables, shelf, edition)?;
-    shelved(shelf, edition).names.attributes.copy()
 }
 
 /// The records whose sessions are on an edition, each with its number.
@@ -78,10 +53,7 @@ fn is_on(sessions: &[SessionRow], edition: u32, row: &RecordRow) -> bool
     ensures { result ≡ option_map_or (λ session. session.edition == edition)
         (session_at sessions.now row.now.session) false }
 {
-    if row.session == 0 {
-        return false;
-    }
-    match sessions.get(row.session as usize - 1) {
+    match session_at(sessions, row.session) {
         Some(session) => session.edition == edition,
         None => false,
     }

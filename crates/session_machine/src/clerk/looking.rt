@@ -10,7 +10,7 @@ ghost use Rattle.machine_core.specs.Shelves.{AreHeld, IsFullRoom};
 ghost use Rattle.machine_views.specs.Looking.{IsSessionFirst};
 ghost use Rattle.session_machine.specs.Looked.{IsLookFirst};
 
-use desk_base::Str;
+use desk_base::{List, Str};
 use desk_words::{Look, Reply, Tables, View};
 use fix_engine::Work;
 use machine_clerk::confirm_row;
@@ -43,25 +43,20 @@ pub fn look_reply(
             Ok(Reply::View(view_at(alloc, tables, shelf, room, own, *session)?))
         }
         Look::Suggest { session } => {
-            let suggested = suggestion_of(alloc, tables, shelf, room, own, *session)?;
-            Ok(Reply::Suggested(suggested))
+            Ok(Reply::Suggested(suggestion_of(alloc, tables, shelf, room, own, *session)?))
         }
         Look::Preview { session, cells } => {
-            let cells = cells.as_slice();
             Ok(Reply::View(preview(alloc, tables, shelf, room, own, *session, cells)?))
         }
         Look::Report => Ok(Reply::Report(clerk_report(alloc, tables, shelf, room, own)?)),
         Look::Records { edition, version } => {
-            let sheet = records_of(alloc, tables, shelf, own, edition, *version)?;
-            Ok(Reply::Records(sheet))
+            Ok(Reply::Records(records_of(alloc, tables, own, edition, *version)?))
         }
         Look::Explain { session, name } => {
-            let explained = explain(alloc, tables, shelf, room, own, *session, name)?;
-            Ok(Reply::Explained(explained))
+            Ok(Reply::Explained(explain(alloc, tables, shelf, room, own, *session, name)?))
         }
         Look::Carry { session, version } => {
-            let carried = carrying(alloc, tables, shelf, room, own, *session, *version)?;
-            Ok(Reply::Carried(carried))
+            Ok(Reply::Carried(carrying(alloc, tables, shelf, room, own, *session, *version)?))
         }
     }
 }
@@ -74,7 +69,7 @@ fn preview(
     room: &mut Work,
     own: &Own,
     number: u32,
-    cells: &[(Str, Str)],
+    cells: &List<(Str, Str)>,
 ) -> Result<View, Stop>
     requires valid { AreValid (rows_of tables.now) }
     requires held { AreHeld (published_of (rows_of tables.now)) shelf.old }
@@ -85,6 +80,6 @@ fn preview(
     ensures held { AreHeld (published_of (rows_of tables.now)) shelf.new }
     ensures room { IsFullRoom room.new }
 {
-    let session = confirm_row(alloc, tables, shelf, own, number, cells)?;
+    let session = confirm_row(alloc, tables, shelf, own, number, cells.as_slice())?;
     Ok(view_of(alloc, tables, shelf, room, number, &session)?)
 }

@@ -47,14 +47,7 @@ pub fn made_by(
             rulebook,
             masters,
             folded,
-        } => add_edition(
-            alloc,
-            tables,
-            name,
-            rulebook,
-            masters.as_slice(),
-            folded.as_slice(),
-        ),
+        } => add_edition(alloc, tables, name, rulebook, masters, folded),
         StewardWork::AddRegion { .. } | StewardWork::AddDerived { .. } => {
             add_region(alloc, tables, shelf, room, work)
         }

@@ -66,10 +66,7 @@ fn row_by(
             version,
             attrs,
             rows,
-        } => {
-            let (words, texts) = (attrs.as_slice(), rows.as_slice());
-            region_row(alloc, tables, shelf, edition, *version, words, texts)
-        }
+        } => region_row(alloc, tables, shelf, edition, *version, attrs, rows),
         StewardWork::AddDerived {
             edition,
             version,
@@ -94,8 +91,8 @@ fn region_row(
     shelf: &mut Shelf,
     edition: &Str,
     version: u32,
-    words: &[Str],
-    texts: &[List<Str>],
+    words: &List<Str>,
+    texts: &List<List<Str>>,
 ) -> Result<RegionRow, Stop>
     requires valid { AreValid (rows_of tables.now) }
     requires held { AreHeld (published_of (rows_of tables.now)) shelf.old }
@@ -111,7 +108,7 @@ fn region_row(
         tables.regions.as_slice(),
         place,
         attributes,
-        words,
-        texts,
+        words.as_slice(),
+        texts.as_slice(),
     )
 }

@@ -113,13 +113,14 @@ pub fn add_edition(
     tables: &Tables,
     name: &Str,
     rulebook: &(Str, u32),
-    masters: &[(Str, u32)],
-    folded: &[Str],
+    masters: &List<(Str, u32)>,
+    folded: &List<Str>,
 ) -> Result<(Made, Making), Stop>
     requires { AreValid (rows_of tables.now) }
     ensures { Answers result (made_by (rows_of tables.now)
         (StewardWork.AddEdition name.now rulebook.now masters.now folded.now)) }
 {
+    let (masters, folded) = (masters.as_slice(), folded.as_slice());
     let row = edition_row(alloc, tables, name, rulebook, masters, folded)?;
     let made = Made::Edition(row.name.copy()?, row.version);
     let target = tables.editions.len() as u32;

@@ -4,4 +4,5 @@ use Rattle.machine_views.proofs.answers.book_for.Goals as goal
 
 pub returns : goal.returns
 returns c rows valid held is =
-    IsBookFor-bound rows c.args.session.now c.shelved.result.now (c.shelved.ensures (published_of rows) held) valid is
+    IsBookFor-bound rows c.args.session.now c.shelved.result.now
+    (c.shelved.ensures.bound (published_of rows) held) valid is

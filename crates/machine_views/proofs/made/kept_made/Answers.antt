@@ -1,15 +1,16 @@
-use Rattle.std.proofs.Common.{◌∙◌, ◌<◌, Ok, ap, length, subst, sym}
+use Rattle.std.proofs.Common.{◌∙◌, ◌<◌, Ok, ap, length, refl, subst, sym}
 use Rattle.std.proofs.lemmas.Result.{IfOk-weaker}
 use Rattle.desk_words.specs.declared.made.Made.TheVariants as made
 use Rattle.desk_words.specs.declared.rows.act.Act.{Act}
+use Rattle.desk_words.specs.declared.rows.act.Act.TheVariants as act
 use Rattle.desk_words.specs.declared.rows.clerk.ClerkRow.{ClerkRow}
 use Rattle.desk_words.specs.Tables.{published_of, rows_of}
 use Rattle.desk_valid.specs.Rows.Clerk.{HasTarget}
 use Rattle.machine_core.specs.Checked.{Gives}
 use Rattle.machine_core.specs.Kept.{kept_made, region_made}
 use Rattle.machine_views.proofs.Keeping.{stands-read}
-use Rattle.machine_views.proofs.Making.{clerk-given, edition-given, master-given, region-kept, rulebook-given}
-use Rattle.machine_views.proofs.Making.{schema-given}
+use Rattle.machine_views.proofs.Making.{clerk-given, edition-given, kept-told, master-given, region-kept}
+use Rattle.machine_views.proofs.Making.{rulebook-given, schema-given}
 use Rattle.machine_views.proofs.made.kept_made.Goals as goal
 
 pub returns-in_ok-copy-in-Clerk-clause-made : goal.returns-in_ok-copy-in-Clerk-clause-made
@@ -26,57 +27,49 @@ returns-in_ok-copy-in-Clerk-clause-made c =
     (clerk-given rows c.args.target name row stands
     (c.in_ok-copy-in-Clerk.ensures.copied ∙ ap (λ (one : ClerkRow). one.name) (sym c.index-as_slice-place.is)))
 
-pub returns-in_ok-copy-in-Schema-clause-made : goal.returns-in_ok-copy-in-Schema-clause-made
-returns-in_ok-copy-in-Schema-clause-made c =
+pub returns-in-Schema-clause-made : goal.returns-in-Schema-clause-made
+returns-in-Schema-clause-made c =
     let rows = rows_of c.args.tables.now in
     let row = c.index-as_slice-place-in-Schema.result in
-    let name = c.in_ok-copy-in-Schema.field-0 in
     let Target : Act → Type 0 = λ what. HasTarget rows 0 what c.args.target in
     let within : c.args.target < length rows.schemas = subst Target c.in-Schema.is c.requires.target in
     let stands = stands-read rows.schemas c.args.target row within
     (rw c.as_slice-in-Schema.ensures at c.index-as_slice-place-in-Schema.is) in
-    let Told : Act → Type 0 = λ what. Gives (kept_made rows what c.args.target) (Ok (made.Schema name row.version)) in
-    subst Told (sym c.in-Schema.is)
-    (schema-given rows c.args.target name row stands c.in_ok-copy-in-Schema.ensures.copied)
+    kept-told rows c.args.target c.args.act act.Schema (made.Schema row.name row.version) c.schema_made.result
+    c.in-Schema.is (schema-given rows c.args.target row.name row stands refl) c.schema_made.ensures
 
-pub returns-in_ok-copy-in-Master-clause-made : goal.returns-in_ok-copy-in-Master-clause-made
-returns-in_ok-copy-in-Master-clause-made c =
+pub returns-in-Master-clause-made : goal.returns-in-Master-clause-made
+returns-in-Master-clause-made c =
     let rows = rows_of c.args.tables.now in
     let row = c.index-as_slice-place-in-Master.result in
-    let name = c.in_ok-copy-in-Master.field-0 in
     let Target : Act → Type 0 = λ what. HasTarget rows 0 what c.args.target in
     let within : c.args.target < length rows.masters = subst Target c.in-Master.is c.requires.target in
     let stands = stands-read rows.masters c.args.target row within
     (rw c.as_slice-in-Master.ensures at c.index-as_slice-place-in-Master.is) in
-    let Told : Act → Type 0 = λ what. Gives (kept_made rows what c.args.target) (Ok (made.Master name row.version)) in
-    subst Told (sym c.in-Master.is)
-    (master-given rows c.args.target name row stands c.in_ok-copy-in-Master.ensures.copied)
+    kept-told rows c.args.target c.args.act act.Master (made.Master row.name row.version) c.master_made.result
+    c.in-Master.is (master-given rows c.args.target row.name row stands refl) c.master_made.ensures
 
-pub returns-in_ok-copy-in-Rulebook-clause-made : goal.returns-in_ok-copy-in-Rulebook-clause-made
-returns-in_ok-copy-in-Rulebook-clause-made c =
+pub returns-in-Rulebook-clause-made : goal.returns-in-Rulebook-clause-made
+returns-in-Rulebook-clause-made c =
     let rows = rows_of c.args.tables.now in
     let row = c.index-as_slice-place-in-Rulebook.result in
-    let name = c.in_ok-copy-in-Rulebook.field-0 in
     let Target : Act → Type 0 = λ what. HasTarget rows 0 what c.args.target in
     let within : c.args.target < length rows.rulebooks = subst Target c.in-Rulebook.is c.requires.target in
     let stands = stands-read rows.rulebooks c.args.target row within
     (rw c.as_slice-in-Rulebook.ensures at c.index-as_slice-place-in-Rulebook.is) in
-    let Told : Act → Type 0 = λ what. Gives (kept_made rows what c.args.target) (Ok (made.Rulebook name row.version)) in
-    subst Told (sym c.in-Rulebook.is)
-    (rulebook-given rows c.args.target name row stands c.in_ok-copy-in-Rulebook.ensures.copied)
+    kept-told rows c.args.target c.args.act act.Rulebook (made.Rulebook row.name row.version) c.rulebook_made.result
+    c.in-Rulebook.is (rulebook-given rows c.args.target row.name row stands refl) c.rulebook_made.ensures
 
-pub returns-in_ok-copy-in-Edition-clause-made : goal.returns-in_ok-copy-in-Edition-clause-made
-returns-in_ok-copy-in-Edition-clause-made c =
+pub returns-in-Edition-clause-made : goal.returns-in-Edition-clause-made
+returns-in-Edition-clause-made c =
     let rows = rows_of c.args.tables.now in
     let row = c.index-as_slice-place-in-Edition.result in
-    let name = c.in_ok-copy-in-Edition.field-0 in
     let Target : Act → Type 0 = λ what. HasTarget rows 0 what c.args.target in
     let within : c.args.target < length rows.editions = subst Target c.in-Edition.is c.requires.target in
     let stands = stands-read rows.editions c.args.target row within
     (rw c.as_slice-in-Edition.ensures at c.index-as_slice-place-in-Edition.is) in
-    let Told : Act → Type 0 = λ what. Gives (kept_made rows what c.args.target) (Ok (made.Edition name row.version)) in
-    subst Told (sym c.in-Edition.is)
-    (edition-given rows c.args.target name row stands c.in_ok-copy-in-Edition.ensures.copied)
+    kept-told rows c.args.target c.args.act act.Edition (made.Edition row.name row.version) c.edition_made.result
+    c.in-Edition.is (edition-given rows c.args.target row.name row stands refl) c.edition_made.ensures
 
 pub region_made-requires-clause-region : goal.region_made-requires-clause-region
 region_made-requires-clause-region c =

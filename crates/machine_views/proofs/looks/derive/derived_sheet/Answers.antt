@@ -8,7 +8,7 @@ use Rattle.machine_views.proofs.looks.derive.derived_sheet.Goals as goal
 pub named_attributes-requires : goal.named_attributes-requires
 named_attributes-requires c place past inside =
     let published = published_of (rows_of c.args.tables.now) in
-    let bound = c.shelved.ensures published c.in_ok-rows.ensures.held in
+    let bound = c.shelved.ensures.bound published c.in_ok-rows.ensures.held in
     let words = c.shelved.result.now.names.attributes in
     let all : All (λ attribute. attribute < length words) c.as_slice.result.now = rw c.as_slice.ensures
     (asked-within published c.args.edition.now c.args.version c.args.master.now c.args.pairs.now
@@ -29,7 +29,7 @@ returns-clause-sheet c =
     let pairs = c.args.pairs.now in
     let derivation = c.in_ok-derivation.derivation in
     let finds = c.in_ok-derivation.ensures.finds in
-    let bound = c.shelved.ensures published c.in_ok-rows.ensures.held in
+    let bound = c.shelved.ensures.bound published c.in_ok-rows.ensures.held in
     let named = rw (c.as_slice-words.ensures, c.as_slice.ensures) at c.in_ok-attributes.ensures in
     let words = named ∙ asked-named published edition c.args.version master pairs derivation finds
     (bound_on c.shelved.result.now) bound in

@@ -27,15 +27,15 @@ returns-in_err-view_at-in-View-clause-answers c =
     (λ one. done (reply.View one)) c.in_err-view_at-in-View.field-0.0 result c.from_residual.ensures.1
     c.in_err-view_at-in-View.ensures.view)
 
-pub returns-in_err-suggested-in-Suggest-clause-answers : goal.returns-in_err-suggested-in-Suggest-clause-answers
-returns-in_err-suggested-in-Suggest-clause-answers c =
+pub returns-in_err-suggestion_of-in-Suggest-clause-answers : goal.returns-in_err-suggestion_of-in-Suggest-clause-answers
+returns-in_err-suggestion_of-in-Suggest-clause-answers c =
     let published = published_of (rows_of c.args.tables.now) in
     let own = c.args.own.now in
-    let result = c.from_residual-in_err-suggested-in-Suggest.result in
+    let result = c.from_residual-in_err-suggestion_of-in-Suggest.result in
     let Shown : LookOf → Type 0 = λ look. Answers result (look_reply published own look) in
     subst Shown (sym c.in-Suggest.is) (Answers-stopped (suggestion_of published own c.in-Suggest.session)
-    (λ one. done (reply.Suggested one)) c.in_err-suggested-in-Suggest.field-0.0 result
-    c.from_residual-in_err-suggested-in-Suggest.ensures.1 c.in_err-suggested-in-Suggest.ensures.suggestion)
+    (λ one. done (reply.Suggested one)) c.in_err-suggestion_of-in-Suggest.field-0.0 result
+    c.from_residual-in_err-suggestion_of-in-Suggest.ensures.1 c.in_err-suggestion_of-in-Suggest.ensures.suggestion)
 
 pub returns-in_ok-preview-in-Preview-clause-answers : goal.returns-in_ok-preview-in-Preview-clause-answers
 returns-in_ok-preview-in-Preview-clause-answers c =
@@ -43,10 +43,9 @@ returns-in_ok-preview-in-Preview-clause-answers c =
     let own = c.args.own.now in
     let number = c.in-Preview.session in
     let found = c.in_ok-preview-in-Preview.field-0 in
-    let Typed : List (List ℕ × List ℕ) → Type 0 = λ cells. Gives (preview published own number cells) (Ok found) in
     let Shown : LookOf → Type 0 = λ look. Gives (look_reply published own look) (Ok (reply.View found)) in
     subst Shown (sym c.in-Preview.is) (reply-gives (preview published own number c.in-Preview.cells) reply.View found
-    (subst Typed c.as_slice-cells.ensures c.in_ok-preview-in-Preview.ensures.answers))
+    c.in_ok-preview-in-Preview.ensures.answers)
 
 pub returns-in_err-preview-in-Preview-clause-answers : goal.returns-in_err-preview-in-Preview-clause-answers
 returns-in_err-preview-in-Preview-clause-answers c =
@@ -55,12 +54,10 @@ returns-in_err-preview-in-Preview-clause-answers c =
     let number = c.in-Preview.session in
     let stop = c.in_err-preview-in-Preview.field-0.0 in
     let result = c.from_residual-in_err-preview-in-Preview.result in
-    let Typed : List (List ℕ × List ℕ) → Type 0 = λ cells. Answers {A = View} (Err stop) (preview published own number
-    cells) in
     let Shown : LookOf → Type 0 = λ look. Answers result (look_reply published own look) in
     subst Shown (sym c.in-Preview.is) (Answers-stopped (preview published own number c.in-Preview.cells)
     (λ one. done (reply.View one)) stop result c.from_residual-in_err-preview-in-Preview.ensures.1
-    (subst Typed c.as_slice-cells.ensures c.in_err-preview-in-Preview.ensures.answers))
+    c.in_err-preview-in-Preview.ensures.answers)
 
 pub returns-in_ok-clerk_report-in-Report-clause-answers : goal.returns-in_ok-clerk_report-in-Report-clause-answers
 returns-in_ok-clerk_report-in-Report-clause-answers c =
@@ -71,50 +68,50 @@ returns-in_ok-clerk_report-in-Report-clause-answers c =
     subst Shown (sym c.in-Report.is) (reply-gives (report_of published (Some own.row.name) own.sessions) reply.Report
     found c.in_ok-clerk_report-in-Report.ensures.report)
 
-pub returns-in_ok-sheet-in-Records-clause-answers : goal.returns-in_ok-sheet-in-Records-clause-answers
-returns-in_ok-sheet-in-Records-clause-answers c =
+pub returns-in_ok-records_of-in-Records-clause-answers : goal.returns-in_ok-records_of-in-Records-clause-answers
+returns-in_ok-records_of-in-Records-clause-answers c =
     let published = published_of (rows_of c.args.tables.now) in
     let own = c.args.own.now in
-    let found = c.in_ok-sheet-in-Records.sheet in
+    let found = c.in_ok-records_of-in-Records.field-0 in
     let Shown : LookOf → Type 0 = λ look. Gives (look_reply published own look) (Ok (reply.Records found)) in
     subst Shown (sym c.in-Records.is) (reply-gives (records_of published own c.in-Records.edition c.in-Records.version)
-    reply.Records found c.in_ok-sheet-in-Records.ensures.records)
+    reply.Records found c.in_ok-records_of-in-Records.ensures.records)
 
-pub returns-in_err-sheet-in-Records-clause-answers : goal.returns-in_err-sheet-in-Records-clause-answers
-returns-in_err-sheet-in-Records-clause-answers c =
+pub returns-in_err-records_of-in-Records-clause-answers : goal.returns-in_err-records_of-in-Records-clause-answers
+returns-in_err-records_of-in-Records-clause-answers c =
     let published = published_of (rows_of c.args.tables.now) in
     let own = c.args.own.now in
-    let result = c.from_residual-in_err-sheet-in-Records.result in
+    let result = c.from_residual-in_err-records_of-in-Records.result in
     let Shown : LookOf → Type 0 = λ look. Answers result (look_reply published own look) in
     subst Shown (sym c.in-Records.is) (Answers-stopped (records_of published own c.in-Records.edition
-    c.in-Records.version) (λ one. done (reply.Records one)) c.in_err-sheet-in-Records.field-0.0 result
-    c.from_residual-in_err-sheet-in-Records.ensures.1 c.in_err-sheet-in-Records.ensures.records)
+    c.in-Records.version) (λ one. done (reply.Records one)) c.in_err-records_of-in-Records.field-0.0 result
+    c.from_residual-in_err-records_of-in-Records.ensures.1 c.in_err-records_of-in-Records.ensures.records)
 
-pub returns-in_err-explained-in-Explain-clause-answers : goal.returns-in_err-explained-in-Explain-clause-answers
-returns-in_err-explained-in-Explain-clause-answers c =
+pub returns-in_err-explain-in-Explain-clause-answers : goal.returns-in_err-explain-in-Explain-clause-answers
+returns-in_err-explain-in-Explain-clause-answers c =
     let published = published_of (rows_of c.args.tables.now) in
     let own = c.args.own.now in
-    let result = c.from_residual-in_err-explained-in-Explain.result in
+    let result = c.from_residual-in_err-explain-in-Explain.result in
     let Shown : LookOf → Type 0 = λ look. Answers result (look_reply published own look) in
     subst Shown (sym c.in-Explain.is) (Answers-stopped (explain published own c.in-Explain.session c.in-Explain.name)
-    (λ one. done (reply.Explained one)) c.in_err-explained-in-Explain.field-0.0 result
-    c.from_residual-in_err-explained-in-Explain.ensures.1 c.in_err-explained-in-Explain.ensures.explained)
+    (λ one. done (reply.Explained one)) c.in_err-explain-in-Explain.field-0.0 result
+    c.from_residual-in_err-explain-in-Explain.ensures.1 c.in_err-explain-in-Explain.ensures.explained)
 
-pub returns-in_ok-carried-in-Carry-clause-answers : goal.returns-in_ok-carried-in-Carry-clause-answers
-returns-in_ok-carried-in-Carry-clause-answers c =
+pub returns-in_ok-carrying-in-Carry-clause-answers : goal.returns-in_ok-carrying-in-Carry-clause-answers
+returns-in_ok-carrying-in-Carry-clause-answers c =
     let published = published_of (rows_of c.args.tables.now) in
     let own = c.args.own.now in
-    let found = c.in_ok-carried-in-Carry.carried in
+    let found = c.in_ok-carrying-in-Carry.field-0 in
     let Shown : LookOf → Type 0 = λ look. Gives (look_reply published own look) (Ok (reply.Carried found)) in
     subst Shown (sym c.in-Carry.is) (reply-gives (carrying published own c.in-Carry.session c.in-Carry.version)
-    reply.Carried found c.in_ok-carried-in-Carry.ensures.carried)
+    reply.Carried found c.in_ok-carrying-in-Carry.ensures.carried)
 
-pub returns-in_err-carried-in-Carry-clause-answers : goal.returns-in_err-carried-in-Carry-clause-answers
-returns-in_err-carried-in-Carry-clause-answers c =
+pub returns-in_err-carrying-in-Carry-clause-answers : goal.returns-in_err-carrying-in-Carry-clause-answers
+returns-in_err-carrying-in-Carry-clause-answers c =
     let published = published_of (rows_of c.args.tables.now) in
     let own = c.args.own.now in
-    let result = c.from_residual-in_err-carried-in-Carry.result in
+    let result = c.from_residual-in_err-carrying-in-Carry.result in
     let Shown : LookOf → Type 0 = λ look. Answers result (look_reply published own look) in
     subst Shown (sym c.in-Carry.is) (Answers-stopped (carrying published own c.in-Carry.session c.in-Carry.version)
-    (λ one. done (reply.Carried one)) c.in_err-carried-in-Carry.field-0.0 result
-    c.from_residual-in_err-carried-in-Carry.ensures.1 c.in_err-carried-in-Carry.ensures.carried)
+    (λ one. done (reply.Carried one)) c.in_err-carrying-in-Carry.field-0.0 result
+    c.from_residual-in_err-carrying-in-Carry.ensures.1 c.in_err-carrying-in-Carry.ensures.carried)

@@ -8,20 +8,24 @@ pub view_of-requires-clause-session : goal.view_of-requires-clause-session
 view_of-requires-clause-session c =
     let rows = rows_of c.args.tables.now in
     let own = c.args.own.now in
-    confirm_row-stands (published_of rows) own c.args.number c.args.cells.now c.in_ok-session.session
-    c.in_ok-session.ensures.finds (own-rows rows own c.requires.valid c.requires.own)
+    let finds = rw c.as_slice.ensures at c.in_ok-session.ensures.finds in
+    confirm_row-stands (published_of rows) own c.args.number c.args.cells.now c.in_ok-session.session finds
+    (own-rows rows own c.requires.valid c.requires.own)
 
 pub returns-in_err-session-clause-answers : goal.returns-in_err-session-clause-answers
-returns-in_err-session-clause-answers c = preview-stopped (published_of (rows_of c.args.tables.now)) c.args.own.now
-    c.args.number c.args.cells.now c.in_err-session.field-0.0 c.from_residual.result c.from_residual.ensures.1
-    c.in_err-session.ensures.finds
+returns-in_err-session-clause-answers c =
+    let finds = rw c.as_slice.ensures at c.in_err-session.ensures.finds in
+    preview-stopped (published_of (rows_of c.args.tables.now)) c.args.own.now c.args.number c.args.cells.now
+    c.in_err-session.field-0.0 c.from_residual.result c.from_residual.ensures.1 finds
 
 pub returns-clause-answers : goal.returns-clause-answers
-returns-clause-answers c = preview-gives (published_of (rows_of c.args.tables.now)) c.args.own.now c.args.number
-    c.args.cells.now c.in_ok-session.session c.in_ok-session.ensures.finds c.in_ok-view_of.field-0
-    c.in_ok-view_of.ensures.view
+returns-clause-answers c =
+    let finds = rw c.as_slice.ensures at c.in_ok-session.ensures.finds in
+    preview-gives (published_of (rows_of c.args.tables.now)) c.args.own.now c.args.number c.args.cells.now
+    c.in_ok-session.session finds c.in_ok-view_of.field-0 c.in_ok-view_of.ensures.view
 
 pub returns-clause-first : goal.returns-clause-first
-returns-clause-first c = confirm_row-first (published_of (rows_of c.args.tables.now)) c.args.own.now c.args.number
-    c.args.cells.now c.in_ok-session.session c.view_of.new.shelf c.in_ok-session.ensures.finds
-    c.in_ok-view_of.ensures.first
+returns-clause-first c =
+    let finds = rw c.as_slice.ensures at c.in_ok-session.ensures.finds in
+    confirm_row-first (published_of (rows_of c.args.tables.now)) c.args.own.now c.args.number c.args.cells.now
+    c.in_ok-session.session c.view_of.new.shelf finds c.in_ok-view_of.ensures.first

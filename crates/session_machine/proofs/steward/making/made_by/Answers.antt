@@ -1,5 +1,3 @@
-use Rattle.std.proofs.Common.{◌∙◌, sym}
-use Rattle.desk_words.specs.declared.steward_work.StewardWork.TheVariants.{AddEdition}
 use Rattle.session_machine.proofs.MakingTold.{Answers-made}
 use Rattle.session_machine.proofs.steward.making.made_by.Goals as goal
 
@@ -21,8 +19,4 @@ returns-in-AddRulebook-clause-answers c =
 
 pub returns-in-AddEdition-clause-answers : goal.returns-in-AddEdition-clause-answers
 returns-in-AddEdition-clause-answers c =
-    let masters = sym c.as_slice.ensures in
-    let folded = sym c.as_slice-in-AddEdition.ensures in
-    let work = c.in-AddEdition.is
-    ∙ (λ i. AddEdition c.in-AddEdition.name c.in-AddEdition.rulebook (masters i) (folded i)) in
-    Answers-made c.add_edition.result c.tables-tables.ensures.tables work c.add_edition.ensures
+    Answers-made c.add_edition.result c.tables-tables.ensures.tables c.in-AddEdition.is c.add_edition.ensures

@@ -6,9 +6,8 @@ use Rattle.session_machine.proofs.steward.regions.row_by.Goals as goal
 pub returns-in-AddRegion-clause-answers : goal.returns-in-AddRegion-clause-answers
 returns-in-AddRegion-clause-answers c =
     let published = published_of (rows_of c.args.tables.now) in
-    let finds = rw (c.as_slice-words.ensures, c.as_slice-texts.ensures) at c.region_row.ensures.finds in
     rw c.in-AddRegion.is (Answers-found (region_row published c.in-AddRegion.edition c.in-AddRegion.version
-    c.in-AddRegion.attrs c.in-AddRegion.rows) c.region_row.result finds)
+    c.in-AddRegion.attrs c.in-AddRegion.rows) c.region_row.result c.region_row.ensures.finds)
 
 pub returns-in-AddDerived-clause-answers : goal.returns-in-AddDerived-clause-answers
 returns-in-AddDerived-clause-answers c =
