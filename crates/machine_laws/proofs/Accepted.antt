@@ -1,11 +1,13 @@
 -- Accepted writes keep tables valid.
-use Rattle.std.proofs.Common.{◌≡◌, ◌∙◌, ℕ, ◌<◌, ◌≤◌, List, [], length, set, take, Some, inl, inr, refl, sym, ap, subst, arith}
+use Rattle.std.proofs.Common.{◌≡◌, ◌∙◌, ℕ, ◌<◌, ◌≤◌, List, [], length, set, take, Some, inl, inr, refl, sym, ap, subst}
+use Rattle.std.proofs.Common.{arith}
 use Rattle.std.specs.Prelude.{Result, Ok, Err, option_to_list, slice_get}
 use Rattle.std.proofs.lemmas.List.{length-append, set-get_or}
 use Rattle.desk_words.specs.declared.change.Change.{Change}
 use Rattle.desk_words.specs.declared.change.Change.TheVariants as change
 use Rattle.desk_words.specs.declared.clerk_work.ClerkWork.{ClerkWork}
-use Rattle.desk_words.specs.declared.clerk_work.ClerkWork.TheVariants.{Enter, Confirm, Withdraw, Commit, Abandon, Batch, Carry}
+use Rattle.desk_words.specs.declared.clerk_work.ClerkWork.TheVariants.{Enter, Confirm, Withdraw, Commit, Abandon, Batch}
+use Rattle.desk_words.specs.declared.clerk_work.ClerkWork.TheVariants.{Carry}
 use Rattle.desk_words.specs.declared.command.Command.{Command}
 use Rattle.desk_words.specs.declared.command.Command.TheVariants.{Steward, Clerk, Look, DeskReport, DeskDerive}
 use Rattle.desk_words.specs.declared.command.Ticket.{Ticket}
@@ -15,7 +17,8 @@ use Rattle.desk_words.specs.declared.rows.act.Act.{Act}
 use Rattle.desk_words.specs.declared.rows.act.Act.TheVariants as act
 use Rattle.desk_words.specs.declared.rows.clerk.ClerkRow.{ClerkRow}
 use Rattle.desk_words.specs.declared.steward_work.StewardWork.{StewardWork}
-use Rattle.desk_words.specs.declared.steward_work.StewardWork.TheVariants.{AddClerk, AddSchema, AddMaster, AddRulebook, AddEdition, AddRegion, AddDerived}
+use Rattle.desk_words.specs.declared.steward_work.StewardWork.TheVariants.{AddClerk, AddSchema, AddMaster, AddRulebook}
+use Rattle.desk_words.specs.declared.steward_work.StewardWork.TheVariants.{AddEdition, AddRegion, AddDerived}
 use Rattle.desk_words.specs.Changes.{Fits, FitAll, changed, changed_all}
 use Rattle.desk_words.specs.Tables.{AreTables, Rows, new_clerk, published_of}
 use Rattle.desk_words.proofs.Changes.{AreTables-changed, AreTables-changed_all}
@@ -29,16 +32,19 @@ use Rattle.machine_core.specs.Ticket.{IsNumbered, ticketed}
 use Rattle.machine_core.specs.OwnRows.{AreOwnRows, HasOwnTarget, IsSoundDeed}
 use Rattle.machine_laws.proofs.Callers.{AreNoFewer, HasTarget-more, IsClerkRow-ticketed, IsDone, names_of}
 use Rattle.machine_laws.proofs.Carries.{IsSoundDeed-carry}
-use Rattle.machine_laws.proofs.Changing.{IsGoodOwn, IsSoundDeed-abandon, IsSoundDeed-commit, IsSoundDeed-confirm, IsSoundDeed-withdraw}
+use Rattle.machine_laws.proofs.Changing.{IsGoodOwn, IsSoundDeed-abandon, IsSoundDeed-commit, IsSoundDeed-confirm}
+use Rattle.machine_laws.proofs.Changing.{IsSoundDeed-withdraw}
 use Rattle.machine_laws.proofs.Deeds.{changed-caller, changed-deed, fit-deed, length-put_all, own_after}
 use Rattle.machine_laws.proofs.DerivedRegions.{IsSoundMaking-add_derived}
 use Rattle.machine_laws.proofs.Editions.{IsSoundMaking-add_edition}
 use Rattle.machine_laws.proofs.Entering.{IsSoundDeed-batch, IsSoundDeed-enter}
 use Rattle.machine_laws.proofs.Lists.{list_at-set_same, map-set_same, slice_get-read, slice_get-there}
-use Rattle.machine_laws.proofs.Makings.{IsSoundMaking, IsSoundMaking-add_clerk, IsSoundMaking-add_master, IsSoundMaking-add_rulebook, IsSoundMaking-add_schema}
+use Rattle.machine_laws.proofs.Makings.{IsSoundMaking, IsSoundMaking-add_clerk, IsSoundMaking-add_master}
+use Rattle.machine_laws.proofs.Makings.{IsSoundMaking-add_rulebook, IsSoundMaking-add_schema}
 use Rattle.machine_laws.proofs.Regions.{IsSoundMaking-add_region}
 use Rattle.machine_laws.proofs.Valid.{AreNoFewer-own, AreValid-own, own-rows, with_own}
-use Rattle.machine_laws.proofs.Writes.{clerk-written, derive-unchanged, look-unchanged, report-unchanged, steward-written}
+use Rattle.machine_laws.proofs.Writes.{clerk-written, derive-unchanged, look-unchanged, report-unchanged}
+use Rattle.machine_laws.proofs.Writes.{steward-written}
 
 -- a caller's own rows in valid tables are good, and no list is too long
 pub good-own : (rows : Rows) (place : ℕ) → AreValid rows → place < length rows.clerks
@@ -156,14 +162,16 @@ module _ (rows : Rows) (valid : AreValid rows) (place : ℕ) (within : place < l
       let changes : List Change = changes_of place own.row ticket deed in
       let fit : FitAll rows changes = fit-deed rows valid.tables place within ticket deed sound.puts_fit
       sound.records_short sound.batches_short in
-      let same : changed_all rows changes ≡ with_own rows place new = changed-deed rows valid.tables place within ticket deed in
+      let same : changed_all rows changes ≡ with_own rows place new = changed-deed rows valid.tables place within
+      ticket deed in
       let tables : AreTables (with_own rows place new) =
       subst AreTables same (AreTables-changed_all rows changes fit valid.tables) in
       let fewer : AreNoFewer rows (with_own rows place new) = AreNoFewer-own rows place new valid.tables within
       (length-put_all own.sessions deed.sessions)
       (omega (arith, length-append own.records (option_to_list deed.record_row)))
       (omega (arith, length-append own.batches (option_to_list deed.batch))) in
-      let done : IsDone (with_own rows place new) place deed.act deed.target = IsDone-own rows place (after own deed) new.row
+      let done : IsDone (with_own rows place new) place deed.act deed.target = IsDone-own rows place (after own deed)
+      new.row
       deed.act deed.target behind (omega (arith, valid.tables.sessions.each)) (omega (arith, valid.tables.records.each))
       (omega (arith, valid.tables.batches.each)) sound.target in
       (fit, subst AreValid (sym same) (ticketed-valid new deed.act deed.target refl done fewer sound.rows tables))
@@ -191,8 +199,11 @@ module _ (rows : Rows) (valid : AreValid rows) (place : ℕ) (within : place < l
         steward = done.steward;
         clerk = done.clerk;
         stands = HasTarget-more rows (with_own rows place new) fewer place what target done.stands;
-      } in
-      (fits, subst AreValid (sym same) (ticketed-valid new what target refl there fewer (own-rows rows valid place) tables))
+      } in (
+        fits,
+        subst AreValid (sym same)
+            (ticketed-valid new what target refl there fewer (own-rows rows valid place) tables),
+      )
 
 -- a new write of the steward fits, and leaves valid tables
 making-valid : (rows : Rows) (ticket : Ticket) (making : Making) → AreValid rows → 1 ≤ ticket.number
@@ -219,14 +230,17 @@ made-valid : (rows : Rows) (command : Command) (made : Reply × List Change) →
 made-valid rows (Steward ticket work) made valid numbered gives = elim (steward-written rows ticket work made gives) [
   | inl again ↦ none-valid rows made.1 valid again.unchanged
   | inr new ↦ subst (λ changes. FitAll rows changes × AreValid (changed_all rows changes)) (sym new.changed_so)
-      (making-valid rows ticket new.making valid numbered.0 numbered.1 (making-sound rows work new.making valid new.makes))
+      (making-valid rows ticket new.making valid numbered.0 numbered.1
+      (making-sound rows work new.making valid new.makes))
 ]
-made-valid rows (Clerk name ticket work) made valid numbered gives = elim (clerk-written rows name ticket work made gives) [
-  | inl again ↦ none-valid rows made.1 valid again.unchanged
-  | inr new ↦ subst (λ changes. FitAll rows changes × AreValid (changed_all rows changes)) (sym new.changed)
-      (AreValid-deed rows valid new.place new.is_place.within ticket numbered.0 numbered.1 new.deed new.is_place.behind
-      (deed-sound rows new.place work new.deed valid new.is_place.within new.does))
-]
+made-valid rows (Clerk name ticket work) made valid numbered gives =
+    elim (clerk-written rows name ticket work made gives) [
+      | inl again ↦ none-valid rows made.1 valid again.unchanged
+      | inr new ↦ subst (λ changes. FitAll rows changes × AreValid (changed_all rows changes)) (sym new.changed)
+          (AreValid-deed rows valid new.place new.is_place.within ticket numbered.0 numbered.1 new.deed
+          new.is_place.behind
+          (deed-sound rows new.place work new.deed valid new.is_place.within new.does))
+    ]
 made-valid rows (Look name look) made valid numbered gives =
     none-valid rows made.1 valid (look-unchanged rows name look made gives)
 made-valid rows DeskReport made valid numbered gives = none-valid rows made.1 valid (report-unchanged rows made gives)
@@ -241,7 +255,9 @@ outcome-valid rows command (Err refusal) valid numbered gives = (tt, valid)
 
 -- the changes of a step fit, and leave valid tables
 pub step-valid : (rows : Rows) (command : Command) (answer : Reply) (changes : List Change) → AreValid rows
-    → IsNumbered command → IsStep rows command answer changes → FitAll rows changes × AreValid (changed_all rows changes)
+    → IsNumbered command → IsStep rows command answer changes → FitAll rows changes
+    × AreValid (changed_all rows changes)
 step-valid rows command answer changes valid numbered step =
-    subst (λ made. FitAll rows made × AreValid (changed_all rows made)) (sym (ap (λ (both : Reply × List Change). both.1)
+    subst (λ made. FitAll rows made × AreValid (changed_all rows made))
+    (sym (ap (λ (both : Reply × List Change). both.1)
     step.answers)) (outcome-valid rows command step.outcome valid numbered step.gives)

@@ -1,5 +1,6 @@
 -- Each state has its need and its gains.
-use Rattle.std.proofs.Common.{◌≡◌, ◌∙◌, ◌<◌, ◌≤◌, ◌+◌, ◌-◌, ℕ, zero, suc, Bool, true, false, not, List, [], ◌∷◌, length, get_or, map, set, replicate, inl, inr, refl, sym, ap, arith}
+use Rattle.std.proofs.Common.{◌≡◌, ◌∙◌, ◌<◌, ◌≤◌, ◌+◌, ◌-◌, ℕ, zero, suc, Bool, true, false, not, List, [], ◌∷◌, length}
+use Rattle.std.proofs.Common.{get_or, map, set, replicate, inl, inr, refl, sym, ap, arith}
 use Rattle.std.specs.Prelude.{◌↔◌, All, AllPairs, Contains, count_by}
 use Rattle.std.specs.List.{range_with_len}
 use Rattle.std.proofs.lemmas.Bool.{cases_Bool, cases_eq}
@@ -17,7 +18,8 @@ use Rattle.region_suggest.specs.Gains.{AreGains, IsGain, uncovered_attributes}
 use Rattle.region_suggest.specs.Hope.{IsHopeClosed, IsHoped}
 use Rattle.region_suggest.specs.Need.{IsGivenWithout, IsNeed, IsNeeded}
 use Rattle.region_suggest.proofs.Counts.{count-covering, count-more, count-set, flag-covering}
-use Rattle.region_suggest.proofs.Lists.{Contains-at, Contains-behind, Contains-cases, Contains-first, Contains-nil, IsFlagged-cases, IsFlagged-within}
+use Rattle.fix_engine.proofs.Lists.{Contains-behind, Contains-cases, Contains-first}
+use Rattle.region_suggest.proofs.Lists.{Contains-at, Contains-nil, IsFlagged-cases, IsFlagged-within}
 use Rattle.region_suggest.proofs.Needs.{AreAllHoped-more}
 use Rattle.region_suggest.proofs.Wider.{IsCovered-within}
 use Rattle.machine_laws.proofs.Hoping.{decide_hoped, decide_needed, flags-where}

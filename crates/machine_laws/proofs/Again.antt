@@ -1,5 +1,6 @@
 -- A write that comes again.
-use Rattle.std.proofs.Common.{◌≡◌, ◌≢◌, ◌⊎◌, ◌∙◌, ℕ, ◌+◌, ◌<◌, Bool, true, false, List, [], length, None, inl, inr, refl, sym, ap, subst, arith}
+use Rattle.std.proofs.Common.{◌≡◌, ◌≢◌, ◌⊎◌, ◌∙◌, ℕ, ◌+◌, ◌<◌, Bool, true, false, List, [], length, None, inl, inr}
+use Rattle.std.proofs.Common.{refl, sym, ap, subst, arith}
 use Rattle.std.specs.Prelude.{Ok, if◌then◌else◌, nat_lt, ◌==◌}
 use Rattle.std.specs.Str.{bytes_eq}
 use Rattle.std.proofs.lemmas.Bool.Decides.{nat_tests}
@@ -24,7 +25,8 @@ use Rattle.desk_valid.specs.Rows.Clerk.{HasTarget}
 use Rattle.desk_valid.specs.Valid.{AreValid}
 use Rattle.machine_core.specs.Checked.{Checked, done, refused, ◌>>=◌, unless, Gives}
 use Rattle.machine_core.specs.Kept.{kept_made, kept_reply}
-use Rattle.machine_core.specs.Machine.{IsStep, answered, changes_if, clerk_of, clerk_write, clerk_write_at, machine, steward_write}
+use Rattle.machine_core.specs.Machine.{IsStep, answered, changes_if, clerk_of, clerk_write, clerk_write_at, machine}
+use Rattle.machine_core.specs.Machine.{steward_write}
 use Rattle.machine_core.specs.Own.{Own, after, own_of}
 use Rattle.machine_core.specs.declared.ticket.Use.{Use}
 use Rattle.machine_core.specs.declared.ticket.Use.TheVariants.{Fresh, Repeated}
@@ -37,7 +39,9 @@ use Rattle.machine_laws.proofs.Deeds.{own_after}
 use Rattle.machine_laws.proofs.Kept.{kept_made-more, kept_reply-more}
 use Rattle.machine_laws.proofs.Lists.{Begins, Begins-same, slice_get-read, slice_get-there}
 use Rattle.machine_laws.proofs.Names.{clerk_of-begins, clerk_of-same}
-use Rattle.machine_laws.proofs.Staying.{AreMore-same, IsAccepted, IsLonger, after-clerk, after-steward, by_clerk, by_steward, names-set, own_of-with_same, step-cases, step-kept, step-longer, with_making}
+use Rattle.machine_laws.proofs.Staying.{AreMore-same, IsAccepted, IsLonger, after-clerk, after-steward, by_clerk}
+use Rattle.machine_laws.proofs.Staying.{by_steward, names-set, own_of-with_same, step-cases, step-kept, step-longer}
+use Rattle.machine_laws.proofs.Staying.{with_making}
 use Rattle.machine_laws.proofs.Valid.{own-rows, with_own}
 use Rattle.machine_laws.proofs.Writes.{clerk_of-ok}
 
@@ -49,12 +53,14 @@ use_at stale gap same row ticket =
     else if same then repeat_of row ticket
     else done Fresh
 
-fresh-tests : (stale gap same : Bool) (row : ClerkRow) (ticket : Ticket) → Gives (use_at stale gap same row ticket) (Ok Fresh)
+fresh-tests : (stale gap same : Bool) (row : ClerkRow) (ticket : Ticket) → Gives (use_at stale gap same row ticket)
+    (Ok Fresh)
     → (stale ≡ false) × (gap ≡ false) × (same ≡ false)
 fresh-tests true gap same row ticket gives = absurd (cc)
 fresh-tests false true same row ticket gives = absurd (cc)
 fresh-tests false false true row ticket gives =
-    let passed = Gives-bind_ok (unless (bytes_eq row.digest.bytes ticket.digest.bytes) (Reused row.last)) (λ _. done Repeated)
+    let passed = Gives-bind_ok (unless (bytes_eq row.digest.bytes ticket.digest.bytes) (Reused row.last))
+    (λ _. done Repeated)
     Fresh gives in
     absurd (let same = done-value Repeated Fresh passed.2 in cc)
 fresh-tests false false false row ticket gives = (refl, refl, refl)
@@ -62,7 +68,8 @@ fresh-tests false false false row ticket gives = (refl, refl, refl)
 -- a new number follows the last
 pub use-fresh : (row : ClerkRow) (ticket : Ticket) → Gives (use_of row ticket) (Ok Fresh) → ticket.number ≡ row.last + 1
 use-fresh row ticket gives =
-    let told = fresh-tests (nat_lt ticket.number row.last) (nat_lt (row.last + 1) ticket.number) (ticket.number == row.last)
+    let told = fresh-tests (nat_lt ticket.number row.last) (nat_lt (row.last + 1) ticket.number)
+    (ticket.number == row.last)
     row ticket gives in
     grind (arith, nat_tests, told.0, told.1, told.2)
 
@@ -114,14 +121,17 @@ last-answer rows command answer (of_clerk name ticket work answer' place found u
     let own : Own = own_of rows place in
     let published : Published = published_of rows in
     let both : Gives (clerk_write_at published own work Repeated) (Ok (answer', None)) =
-    Gives-bind (kept_reply published own own.row.act own.row.target) (λ one. done (one, None)) answer' (Ok (answer', None))
+    Gives-bind (kept_reply published own own.row.act own.row.target) (λ one. done (one, None)) answer'
+    (Ok (answer', None))
     kept refl in
     let used_it : Gives (use_of own.row ticket) (Ok Repeated) =
     subst (λ one. Gives one (Ok Repeated)) (sym used) refl in
     let written : Gives (clerk_write published own ticket work) (Ok (answer', None)) =
     Gives-bind (use_of own.row ticket) (clerk_write_at published own work) Repeated (Ok (answer', None)) used_it both in
-    let found_it : Gives (clerk_of rows.clerks name) (Ok place) = subst (λ one. Gives one (Ok place)) (sym found) refl in
-    Gives-bind (clerk_of rows.clerks name) (λ there. clerk_write published (own_of rows there) ticket work >>= (λ one. done
+    let found_it : Gives (clerk_of rows.clerks name) (Ok place) = subst (λ one. Gives one (Ok place)) (sym found)
+    refl in
+    Gives-bind (clerk_of rows.clerks name)
+    (λ there. clerk_write published (own_of rows there) ticket work >>= (λ one. done
     (one.0, changes_if there (own_of rows there).row ticket one.1))) place (Ok (answer', [])) found_it
     (Gives-bind (clerk_write published own ticket work) (λ one. done (one.0, changes_if place own.row ticket one.1))
     (answer', None) (Ok (answer', [])) written refl)
@@ -129,13 +139,15 @@ last-answer rows command answer (of_steward ticket work made used kept) =
     let used_it : Gives (use_of (own_of rows 0).row ticket) (Ok Repeated) =
     subst (λ one. Gives one (Ok Repeated)) (sym used) refl in
     Gives-bind (use_of (own_of rows 0).row ticket) (steward_write rows ticket work) Repeated (Ok (reply.Made made, []))
-    used_it (Gives-bind (kept_made rows (own_of rows 0).row.act (own_of rows 0).row.target) (λ one. done (reply.Made one, []))
+    used_it (Gives-bind (kept_made rows (own_of rows 0).row.act (own_of rows 0).row.target)
+    (λ one. done (reply.Made one, []))
     made (Ok (reply.Made made, [])) kept refl)
 
 pub last-step : (rows : Rows) (command : Command) (answer other : Reply) (changes : List Change)
     → IsLast rows command answer → IsStep rows command other changes → (other ≡ answer) × (changes ≡ [])
 last-step rows command answer other changes last step =
-    let same = Gives-unique (machine rows command) step.outcome (Ok (answer, [])) step.gives (last-answer rows command answer
+    let same = Gives-unique (machine rows command) step.outcome (Ok (answer, [])) step.gives
+    (last-answer rows command answer
     last) in
     let pair = step.answers ∙ ap answered same in
     (ap (λ (both : Reply × List Change). both.0) pair, ap (λ (both : Reply × List Change). both.1) pair)
@@ -155,11 +167,14 @@ module _ (rows : Rows) (valid : AreValid rows) where
       let used : use_of (own_of next new.place).row ticket ≡ done Repeated =
       ap (λ (one : Own). use_of one.row ticket) same ∙ use-again own.row ticket new.deed.act new.deed.target in
       let kept : Gives (kept_reply (published_of rows) made made.row.act made.row.target) (Ok answer') =
-      subst (λ one. Gives one (Ok answer')) (sym (kept-row (published_of rows) (after own new.deed) made.row new.deed.act
+      subst (λ one. Gives one (Ok answer'))
+      (sym (kept-row (published_of rows) (after own new.deed) made.row new.deed.act
       new.deed.target)) new.kept in
-      subst (λ (one : Rows). IsLast one (Clerk name ticket work) answer') (sym (after-clerk rows valid name ticket work answer'
+      subst (λ (one : Rows). IsLast one (Clerk name ticket work) answer')
+      (sym (after-clerk rows valid name ticket work answer'
       changes' new)) (of_clerk name ticket work answer' new.place found used
-      (subst (λ (one : Own). Gives (kept_reply (published_of rows) one one.row.act one.row.target) (Ok answer')) (sym same)
+      (subst (λ (one : Own). Gives (kept_reply (published_of rows) one one.row.act one.row.target) (Ok answer'))
+      (sym same)
       kept))
   accepted-last command answer changes (by_steward ticket work answer' changes' new) =
       let sound = making-sound rows work new.making valid new.makes in
@@ -179,7 +194,8 @@ module _ (rows : Rows) (valid : AreValid rows) where
       let used : use_of (own_of last 0).row ticket ≡ done Repeated =
       ap (λ (one : ClerkRow). use_of one ticket) there ∙ use-again (own_of rows 0).row ticket new.making.act
       new.making.target in
-      subst (λ (one : Rows). IsLast one (Steward ticket work) answer') (sym (after-steward rows valid ticket work answer'
+      subst (λ (one : Rows). IsLast one (Steward ticket work) answer')
+      (sym (after-steward rows valid ticket work answer'
       changes' new)) (subst (IsLast last (Steward ticket work)) (sym new.answered) (of_steward ticket work new.made used
       (subst (λ (one : ClerkRow). Gives (kept_made last one.act one.target) (Ok new.made)) (sym there) kept)))
 
@@ -195,9 +211,11 @@ module _ (rows : Rows) (valid : AreValid rows) where
       → IsLast rows command answer → (other : Command) (reply_to : Reply) (changes : List Change)
       → IsStep rows other reply_to changes → (changes ≡ []) ⊎ (asks caller other ≡ false)
       → IsLast (changed_all rows changes) command answer
-  last-stays steward command answer asked_it (of_clerk name ticket work answer' place found used kept) other reply_to changes
+  last-stays steward command answer asked_it (of_clerk name ticket work answer' place found used kept) other reply_to
+      changes
       step not_its = absurd (cc)
-  last-stays (clerk named) command answer asked_it (of_clerk name ticket work answer' place found used kept) other reply_to
+  last-stays (clerk named) command answer asked_it (of_clerk name ticket work answer' place found used kept) other
+      reply_to
       changes step not_its =
       let next : Rows = changed_all rows changes in
       let same_name : name ≡ named = (bytes_eq-Decides name named).0 asked_it in
@@ -215,21 +233,27 @@ module _ (rows : Rows) (valid : AreValid rows) where
       subst (λ one. Gives one (Ok answer')) (sym (kept_reply-more rows valid (published_of next) longer.published own
       (own-rows rows valid place) own.row.act own.row.target)) kept in
       of_clerk name ticket work answer' place found_it (ap (λ (one : Own). use_of one.row ticket) same ∙ used)
-      (subst (λ (one : Own). Gives (kept_reply (published_of next) one one.row.act one.row.target) (Ok answer')) (sym same)
+      (subst (λ (one : Own). Gives (kept_reply (published_of next) one one.row.act one.row.target) (Ok answer'))
+      (sym same)
       kept_it)
-  last-stays (clerk named) command answer asked_it (of_steward ticket work made used kept) other reply_to changes step not_its =
+  last-stays (clerk named) command answer asked_it (of_steward ticket work made used kept) other reply_to changes step
+      not_its =
       absurd (cc)
-  last-stays steward command answer asked_it (of_steward ticket work made used kept) other reply_to changes step not_its =
+  last-stays steward command answer asked_it (of_steward ticket work made used kept) other reply_to changes step
+      not_its =
       let next : Rows = changed_all rows changes in
       let longer : IsLonger rows valid next = step-longer rows valid other reply_to changes step in
-      let same : own_of next 0 ≡ own_of rows 0 = step-kept rows valid steward 0 other reply_to changes step not_its refl in
+      let same : own_of next 0 ≡ own_of rows 0 = step-kept rows valid steward 0 other reply_to changes step not_its
+      refl in
       let row : ClerkRow = (own_of rows 0).row in
       let there = slice_get-there rows.clerks 0 valid.tables.steward in
       let is : row ≡ there.0 = slice_get-read rows.clerks 0 there.0 (new_clerk []) there.1 in
-      let has : HasTarget rows 0 row.act row.target = subst (λ (one : ClerkRow). HasTarget rows 0 one.act one.target) (sym is)
+      let has : HasTarget rows 0 row.act row.target = subst (λ (one : ClerkRow). HasTarget rows 0 one.act one.target)
+      (sym is)
       (valid.clerks 0 there.0 there.1).target in
       let kept_it : Gives (kept_made next row.act row.target) (Ok made) =
-      subst (λ one. Gives one (Ok made)) (sym (kept_made-more rows next valid longer.published longer.names row.act row.target
+      subst (λ one. Gives one (Ok made))
+      (sym (kept_made-more rows next valid longer.published longer.names row.act row.target
       has)) kept in
       of_steward ticket work made (ap (λ (one : Own). use_of one.row ticket) same ∙ used)
       (subst (λ (one : Own). Gives (kept_made next one.row.act one.row.target) (Ok made)) (sym same) kept_it)

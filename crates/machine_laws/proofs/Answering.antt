@@ -25,7 +25,7 @@ module _ (kit : Kit) (state : State) (valid : IsValid kit) (fits : Fits kit stat
       elim (finds-run kit valid Each (λ end. inl tt) state fits) [
         | inl found ↦ (
           found.0,
-          record { maximal = found.1.maximal; least = λ other maximal. found.1.least other maximal tt },
+          record { holds = found.1.maximal; least = λ other maximal. found.1.least other maximal tt },
         )
         | inr none ↦ absurd (let some = IsMaximalRun-exists kit valid state [] fits tt in none ([] ++ some.0) some.1 tt)
       ]
@@ -34,7 +34,7 @@ module _ (kit : Kit) (state : State) (valid : IsValid kit) (fits : Fits kit stat
 some-dissent : (kit : Kit) (state : State) → (dissent : Option Step) × IsDissent kit state dissent
 some-dissent kit state = elim (least_step kit (Dissents kit state) (decide_dissents kit state)
     (λ step dissents. (dissents.rule_within, dissents.agrees.usable.row_within))) [
-      | inl least ↦ (Some least.0, record { dissents = least.1.holds; least = least.1.least })
+      | inl least ↦ (Some least.0, record { holds = least.1.holds; least = least.1.least })
       | inr none ↦ (None, none)
     ]
 
@@ -51,9 +51,8 @@ answer-by kit state first dissent is_first is_dissent (inl second) = (
   record {
     is_first = is_first;
     is_second = record {
-      maximal = second.1.maximal;
-      differs = second.1.passes;
-      least = second.1.least;
+      holds = record { maximal = second.1.maximal; differs = second.1.passes };
+      least = λ other apart. second.1.least other apart.maximal apart.differs;
     };
   },
 )

@@ -1,9 +1,11 @@
 -- The replies to a clerk are those of the list without the requests of other clerks.
-use Rattle.std.proofs.Common.{◌≡◌, ◌≢◌, ◌⊎◌, ◌∙◌, ℕ, ◌+◌, ◌-◌, ◌<◌, ◌≤◌, Bool, true, false, cond, List, [], ◌∷◌, length, get_or, drop, map, Option, Some, None, inl, inr, refl, sym, ap, subst, arith}
+use Rattle.std.proofs.Common.{◌≡◌, ◌≢◌, ◌⊎◌, ◌∙◌, ℕ, ◌+◌, ◌-◌, ◌<◌, ◌≤◌, Bool, true, false, cond, List, [], ◌∷◌, length}
+use Rattle.std.proofs.Common.{get_or, drop, map, Option, Some, None, inl, inr, refl, sym, ap, subst, arith}
 use Rattle.std.specs.Prelude.{Result, Ok, Err, filter, not, option_map, position}
 use Rattle.std.specs.Str.{bytes_eq}
 use Rattle.std.proofs.lemmas.Bool.{cases_Bool, cases_lt}
-use Rattle.std.proofs.lemmas.List.{get_or-drop, get_or-map, get_or-set_other, get_or-set_same, get_or_append_left, length-drop, length-map, length-set}
+use Rattle.std.proofs.lemmas.List.{get_or-drop, get_or-map, get_or-set_other, get_or-set_same, get_or_append_left}
+use Rattle.std.proofs.lemmas.List.{length-drop, length-map, length-set}
 use Rattle.std.proofs.lemmas.Slice.Eq.{bytes_eq-Decides}
 use Rattle.desk_words.specs.declared.change.Change.{Change}
 use Rattle.desk_words.specs.declared.change.Change.TheVariants as change
@@ -35,13 +37,15 @@ use Rattle.machine_laws.proofs.Names.{clerk_of-begins, clerk_of-same, none-passe
 use Rattle.machine_laws.proofs.Staying.{after-steward, chain-done, clerk_of-named, step-kept, step-longer, with_making}
 use Rattle.machine_laws.proofs.Stewards.{AreAsToSteward, changed-names, changed-published, steward-machine}
 use Rattle.machine_laws.proofs.Unchanged.{step-unchanged}
-use Rattle.machine_laws.proofs.Writes.{IsStewardsNew, clerk_of-ok, derive-unchanged, look-unchanged, report-unchanged, steward-written}
+use Rattle.machine_laws.proofs.Writes.{IsStewardsNew, clerk_of-ok, derive-unchanged, look-unchanged, report-unchanged}
+use Rattle.machine_laws.proofs.Writes.{steward-written}
 
 -- the steward's step is a new write, or changes nothing
 steward-cases : (rows : Rows) (ticket : Ticket) (work : StewardWork) (answer : Reply) (changes : List Change)
     → IsStep rows (Steward ticket work) answer changes → (changes ≡ []) ⊎ IsStewardsNew rows ticket work answer changes
 steward-cases rows ticket work answer changes step =
-    subst (λ (both : Reply × List Change). (both.1 ≡ []) ⊎ IsStewardsNew rows ticket work both.0 both.1) (sym step.answers)
+    subst (λ (both : Reply × List Change). (both.1 ≡ []) ⊎ IsStewardsNew rows ticket work both.0 both.1)
+    (sym step.answers)
     (whole step.outcome step.gives)
   where
     whole : (outcome : Result (Reply × List Change) Refusal) → Gives (machine rows (Steward ticket work)) outcome
@@ -53,9 +57,11 @@ steward-cases rows ticket work answer changes step =
     whole (Err refusal) gives = inl refl
 
 -- a clerk who comes with the steward's step has nothing yet
-behind-new : (rows : Rows) (valid : AreValid rows) (name : List ℕ) (ticket : Ticket) (work : StewardWork) (answer : Reply)
+behind-new : (rows : Rows) (valid : AreValid rows) (name : List ℕ) (ticket : Ticket) (work : StewardWork)
+    (answer : Reply)
     (changes : List Change) (place : ℕ) → IsStep rows (Steward ticket work) answer changes → length rows.clerks ≤ place
-    → clerk_of (changed_all rows changes).clerks name ≡ done place → own_of (changed_all rows changes) place ≡ new_own name
+    → clerk_of (changed_all rows changes).clerks name ≡ done place → own_of (changed_all rows changes) place ≡ new_own
+    name
 behind-new rows valid name ticket work answer changes place step behind found =
     elim (steward-cases rows ticket work answer changes step) [
       | inl none ↦
@@ -120,9 +126,11 @@ steward-row rows valid ticket work answer changes new =
     ap (λ (one : Rows). (own_of one 0).row) (after-steward rows valid ticket work answer changes new)
     ∙ get_or-set_same (changed rows new.making.change).clerks 0 row (new_clerk []) sound.valid.tables.steward
 
-module _ (name : List ℕ) (rows other : Rows) (valid : AreValid rows) (valid_too : AreValid other) (alike : AreAs name rows other)
+module _ (name : List ℕ) (rows other : Rows) (valid : AreValid rows) (valid_too : AreValid other)
+    (alike : AreAs name rows other)
     (ticket : Ticket) (work : StewardWork) (answer answer_too : Reply) (changes others : List Change)
-    (step : IsStep rows (Steward ticket work) answer changes) (step_too : IsStep other (Steward ticket work) answer_too others)
+    (step : IsStep rows (Steward ticket work) answer changes)
+    (step_too : IsStep other (Steward ticket work) answer_too others)
   where
     -- the steward's request is answered alike, with the same changes
     same-made : ◌≡◌ {A = Reply × List Change} (answer, changes) (answer_too, others)
@@ -148,13 +156,15 @@ module _ (name : List ℕ) (rows other : Rows) (valid : AreValid rows) (valid_to
     own-before place found =
         let seen : own_by rows (clerk name) ≡ done (own_of rows place) =
         ap (λ one. one >>= (λ there. done (own_of rows there))) found in
-        let there = chain-done (place_of other (clerk name)) (own_of other) (own_of rows place) (sym alike.own ∙ seen) in
+        let there = chain-done (place_of other (clerk name)) (own_of other) (own_of rows place)
+        (sym alike.own ∙ seen) in
         let found_too : clerk_of other.clerks name ≡ done place =
         clerk_of-same rows.clerks other.clerks name (sym alike.to_steward.names) ∙ found in
         let same : there.0 ≡ place = same_place (sym there.1 ∙ found_too) in
         step-kept rows valid (clerk name) place (Steward ticket work) answer changes step (inr refl) found
         ∙ sym there.2 ∙ ap (own_of other) same
-        ∙ sym (step-kept other valid_too (clerk name) place (Steward ticket work) answer_too others step_too (inr refl) found_too)
+        ∙ sym (step-kept other valid_too (clerk name) place (Steward ticket work) answer_too others step_too (inr refl)
+        found_too)
       where
         same_place : {one another : ℕ} → done one ≡ done another → one ≡ another
         same_place is = cc
@@ -175,7 +185,8 @@ module _ (name : List ℕ) (rows other : Rows) (valid : AreValid rows) (valid_to
           | inr past_all ↦ past_all
           | inl inside ↦
               let first : get_or (names_of next.clerks) place [] ≡ get_or (names_of rows.clerks) place [] =
-              ap (λ list. get_or list place []) longer.names.1 ∙ get_or_append_left (names_of rows.clerks) longer.names.0 []
+              ap (λ list. get_or list place []) longer.names.1 ∙ get_or_append_left (names_of rows.clerks)
+              longer.names.0 []
               place (omega (arith, inside, length-map rows.clerks name_in)) in
               let here : (get_or rows.clerks place past).name ≡ name =
               sym (get_or-map name_in rows.clerks place past [] inside) ∙ sym first
@@ -210,7 +221,8 @@ module _ (name : List ℕ) (rows other : Rows) (valid : AreValid rows) (valid_to
             let before : clerk_of rows.clerks name ≡ done (first + 1) =
             ap (λ one. some_or (option_map (λ index. index + 1) one) NoClerk) is in
             let longer = step-longer rows valid (Steward ticket work) answer changes step in
-            let later = clerk_of-begins rows.clerks (changed_all rows changes).clerks name (first + 1) longer.names before in
+            let later = clerk_of-begins rows.clerks (changed_all rows changes).clerks name (first + 1) longer.names
+            before in
             let same : first + 1 ≡ place = same_place (sym later ∙ found) in
             subst (λ one. own_of (changed_all rows changes) one ≡ own_of (changed_all other others) one) same
             (own-before (first + 1) before)
@@ -238,7 +250,8 @@ module _ (name : List ℕ) (rows other : Rows) (valid : AreValid rows) (valid_to
           let put_it : (own_of (changed next (change.Clerk 0 row)) 0).row ≡ row =
           ap (λ list. get_or list 0 (new_clerk [])) (put-within next.clerks 0 row many)
           ∙ get_or-set_same next.clerks 0 row (new_clerk []) many in
-          steward-row rows valid ticket work answer changes new ∙ sym (ap (λ (one : Rows). (own_of one 0).row) made ∙ put_it)
+          steward-row rows valid ticket work answer changes new
+          ∙ sym (ap (λ (one : Rows). (own_of one 0).row) made ∙ put_it)
     ]
 
     pub steward-alike : AreAs name (changed_all rows changes) (changed_all other others)
@@ -268,7 +281,8 @@ none-alike name rows other changes others none none_too alike =
     (subst (λ made. AreAs name rows (changed_all other made)) (sym none_too) alike)
 
 -- another clerk's request leaves what is seen
-other-as : (name : List ℕ) (rows other : Rows) (command : Command) (answer : Reply) (changes : List Change) → AreValid rows
+other-as : (name : List ℕ) (rows other : Rows) (command : Command) (answer : Reply) (changes : List Change)
+    → AreValid rows
     → is_of_other name command ≡ true → IsStep rows command answer changes → AreAs name rows other
     → AreAs name (changed_all rows changes) other
 other-as name rows other (Steward ticket work) answer changes valid of_other step alike = absurd (cc)
@@ -276,10 +290,12 @@ other-as name rows other (Look named look) answer changes valid of_other step al
     none-alike name rows other changes [] (step-unchanged rows (Look named look) answer changes
     (look-unchanged rows named look) step) refl alike
 other-as name rows other DeskReport answer changes valid of_other step alike = absurd (cc)
-other-as name rows other (DeskDerive edition version master pairs) answer changes valid of_other step alike = absurd (cc)
+other-as name rows other (DeskDerive edition version master pairs) answer changes valid of_other step alike =
+    absurd (cc)
 other-as name rows other (Clerk named ticket work) answer changes valid of_other step alike =
     let seen : LookAlike name rows (changed_all rows changes) =
-    other-alike name rows named ticket work answer changes valid (λ same. different ((bytes_eq-Decides named name).1 same))
+    other-alike name rows named ticket work answer changes valid
+    (λ same. different ((bytes_eq-Decides named name).1 same))
     step in
     let row = step-kept rows valid steward 0 (Clerk named ticket work) answer changes step (inr refl) refl in
     record {
@@ -297,26 +313,33 @@ other-as name rows other (Clerk named ticket work) answer changes valid of_other
         cc
 
 -- a request that is not of another clerk is answered alike, and leaves tables that are seen alike
-own-step : (name : List ℕ) (rows other : Rows) (command : Command) (answer answer_too : Reply) (changes others : List Change)
+own-step : (name : List ℕ) (rows other : Rows) (command : Command) (answer answer_too : Reply)
+    (changes others : List Change)
     → AreValid rows → AreValid other → AreAs name rows other → is_of_other name command ≡ false
     → IsStep rows command answer changes → IsStep other command answer_too others
     → (asks (clerk name) command ≡ true → answer ≡ answer_too)
     × AreAs name (changed_all rows changes) (changed_all other others)
-own-step name rows other (Steward ticket work) answer answer_too changes others valid valid_too alike own step step_too = (
-  λ asked_it. same-reply name rows other valid valid_too alike ticket work answer answer_too changes others step step_too,
-  steward-alike name rows other valid valid_too alike ticket work answer answer_too changes others step step_too,
-)
+own-step name rows other (Steward ticket work) answer answer_too changes others valid valid_too alike own step
+    step_too = (
+      λ asked_it. same-reply name rows other valid valid_too alike ticket work answer answer_too changes others step
+          step_too,
+      steward-alike name rows other valid valid_too alike ticket work answer answer_too changes others step step_too,
+    )
 own-step name rows other DeskReport answer answer_too changes others valid valid_too alike own step step_too = (
   λ asked_it. absurd (cc),
   none-alike name rows other changes others (step-unchanged rows DeskReport answer changes
-      (report-unchanged rows) step) (step-unchanged other DeskReport answer_too others (report-unchanged other) step_too) alike,
+      (report-unchanged rows) step) (step-unchanged other DeskReport answer_too others (report-unchanged other)
+      step_too) alike,
 )
-own-step name rows other (DeskDerive edition version master pairs) answer answer_too changes others valid valid_too alike own
+own-step name rows other (DeskDerive edition version master pairs) answer answer_too changes others valid valid_too
+    alike own
     step step_too = (
       λ asked_it. absurd (cc),
-      none-alike name rows other changes others (step-unchanged rows (DeskDerive edition version master pairs) answer changes
+      none-alike name rows other changes others
+          (step-unchanged rows (DeskDerive edition version master pairs) answer changes
           (derive-unchanged rows edition version master pairs) step) (step-unchanged other
-          (DeskDerive edition version master pairs) answer_too others (derive-unchanged other edition version master pairs)
+          (DeskDerive edition version master pairs) answer_too others
+          (derive-unchanged other edition version master pairs)
           step_too) alike,
     )
 own-step name rows other (Look named look) answer answer_too changes others valid valid_too alike own step step_too =
@@ -329,14 +352,17 @@ own-step name rows other (Look named look) answer answer_too changes others vali
           (look-unchanged rows named look) step) (step-unchanged other (Look named look) answer_too others
           (look-unchanged other named look) step_too) alike,
     )
-own-step name rows other (Clerk named ticket work) answer answer_too changes others valid valid_too alike own step step_too =
+own-step name rows other (Clerk named ticket work) answer answer_too changes others valid valid_too alike own step
+    step_too =
     let same : named ≡ name = named-so named name own in
     let seen : LookAlike name rows other = record { published = alike.to_steward.published; own = alike.own } in
     let mine = subst (λ one. IsStep rows (Clerk one ticket work) answer changes) same step in
     let theirs = subst (λ one. IsStep other (Clerk one ticket work) answer_too others) same step_too in
-    let after_it = write-alike name rows other ticket work answer answer_too changes others valid valid_too seen mine theirs in
+    let after_it = write-alike name rows other ticket work answer answer_too changes others valid valid_too seen mine
+    theirs in
     let row = step-kept rows valid steward 0 (Clerk name ticket work) answer changes mine (inr refl) refl in
-    let row_too = step-kept other valid_too steward 0 (Clerk name ticket work) answer_too others theirs (inr refl) refl in (
+    let row_too = step-kept other valid_too steward 0 (Clerk name ticket work) answer_too others theirs (inr refl)
+    refl in (
       λ asked_it. same-write name rows other seen ticket work answer answer_too changes others mine theirs,
       record {
         to_steward = record {
@@ -361,7 +387,8 @@ answers-apart name rows other (event ∷ events) others valid valid_too alike st
     (step-valid rows event.command event.answer event.changes valid steps.0 steps.1).1 in
     elim (cases_Bool (is_of_other name event.command)) [
       | inl of_other ↦
-          let alike_next = other-as name rows other event.command event.answer event.changes valid of_other steps.1 alike in
+          let alike_next = other-as name rows other event.command event.answer event.changes valid of_other steps.1
+          alike in
           let fewer : commands_of others ≡ commands_of (without_others name events) = same
           ∙ ap (λ told. commands_of (cond (not told) (event ∷ without_others name events) (without_others name events)))
           of_other in
@@ -374,7 +401,8 @@ answers-apart name rows other (event ∷ events) others valid valid_too alike st
           ∙ ap (λ told. commands_of (cond (not told) (event ∷ without_others name events) (without_others name events)))
           own in
           with-own others steps_too kept (λ first rest steps_next alike_next fewer. answers-apart name next
-          (changed_all other first.changes) events rest next_valid (step-valid other first.command first.answer first.changes
+          (changed_all other first.changes) events rest next_valid
+          (step-valid other first.command first.answer first.changes
           valid_too steps_next.0 steps_next.1).1 alike_next steps.2 steps_next.2 fewer) own
     ]
   where
@@ -419,7 +447,8 @@ answers-apart name rows other (event ∷ events) others valid valid_too alike st
           | inr quiet ↦ ap theirs quiet ∙ rest_same ∙ sym (ap mine quiet)
         ]
 
-pub answers-listed : (name : List ℕ) (rows : Rows) (events others : List Event) → AreValid rows → AreAnswered rows events
+pub answers-listed : (name : List ℕ) (rows : Rows) (events others : List Event) → AreValid rows
+    → AreAnswered rows events
     → AreAnswered rows others → commands_of others ≡ commands_of (without_others name events)
     → answers_to name others ≡ answers_to name events
 answers-listed name rows events others valid steps steps_too same =

@@ -4,7 +4,8 @@ use Rattle.std.specs.Prelude.{All}
 use Rattle.std.proofs.lemmas.List.{take-map}
 use Rattle.std.proofs.lemmas.List.Elements.{All-map}
 use Rattle.desk_words.specs.declared.rows.act.Act.{Act}
-use Rattle.desk_words.specs.declared.rows.act.Act.TheVariants.{Nothing, Clerk, Schema, Master, Rulebook, Edition, Region, Opened, Changed, Committed, Batched}
+use Rattle.desk_words.specs.declared.rows.act.Act.TheVariants.{Nothing, Clerk, Schema, Master, Rulebook, Edition}
+use Rattle.desk_words.specs.declared.rows.act.Act.TheVariants.{Region, Opened, Changed, Committed, Batched}
 use Rattle.desk_words.specs.declared.rows.clerk.ClerkRow.{ClerkRow}
 use Rattle.desk_words.specs.Tables.{Rows, list_at}
 use Rattle.desk_valid.specs.Rows.Clerk.{HasTarget, IsClerkRow, IsClerksAct, IsNamedApart, IsStewardsAct}
@@ -48,7 +49,8 @@ IsNamedApart-same : (rows other : Rows) (place : ℕ) (name : List ℕ)
 IsNamedApart-same rows other place name same is =
     let Apart : List ℕ → Type 0 = λ earlier. earlier ≢ name in
     let name_in : ClerkRow → List ℕ = λ clerk. clerk.name in
-    let named : All Apart (map name_in (take place rows.clerks)) = All-map Apart name_in (take place rows.clerks) is.first in
+    let named : All Apart (map name_in (take place rows.clerks)) = All-map Apart name_in (take place rows.clerks)
+    is.first in
     let names : map name_in (take place rows.clerks) ≡ map name_in (take place other.clerks) =
     sym (take-map name_in place rows.clerks) ∙ sym same ∙ take-map name_in place other.clerks in
     record {

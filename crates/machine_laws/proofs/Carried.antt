@@ -1,5 +1,6 @@
 -- A Carry moves one session, as the look before it shows.
-use Rattle.std.proofs.Common.{◌≡◌, ◌≢◌, ◌∙◌, ℕ, ◌+◌, ◌-◌, ◌<◌, ◌≤◌, Bool, true, false, List, [], ◌∷◌, length, set, Some, inl, inr, refl, sym, ap, subst, arith}
+use Rattle.std.proofs.Common.{◌≡◌, ◌≢◌, ◌∙◌, ℕ, ◌+◌, ◌-◌, ◌<◌, ◌≤◌, Bool, true, false, List, [], ◌∷◌, length, set, Some}
+use Rattle.std.proofs.Common.{inl, inr, refl, sym, ap, subst, arith}
 use Rattle.std.specs.Prelude.{◌&&◌, ◌==◌, Ok, slice_get}
 use Rattle.std.specs.Str.{bytes_eq}
 use Rattle.std.proofs.lemmas.Bool.Decides.{nat_tests}
@@ -108,7 +109,8 @@ record IsCarryDeed (published : Published) (own : Own) (number version : ℕ) (d
   carries : Gives (carry_row published own number version) (Ok moved)
   is : deed ≡ puts (number - 1) moved act.Changed
 
-carry-deed : (rows : Rows) (name : List ℕ) (ticket : Ticket) (number version : ℕ) (answer : Reply) (changes : List Change)
+carry-deed : (rows : Rows) (name : List ℕ) (ticket : Ticket) (number version : ℕ) (answer : Reply)
+    (changes : List Change)
     → (new : IsNew rows name ticket (Carry number version) answer changes)
     → IsCarryDeed (published_of rows) (own_of rows new.place) number version new.deed
 carry-deed rows name ticket number version answer changes new =
@@ -123,7 +125,8 @@ carry-deed rows name ticket number version answer changes new =
 -- a session that was put is shown as it is
 put-shown : (published : Published) (own : Own) (number : ℕ) (moved : SessionRow) (answer : Reply) → 1 ≤ number
     → number - 1 < length own.sessions
-    → Gives (kept_reply published (after own (puts (number - 1) moved act.Changed)) act.Changed (number - 1)) (Ok answer)
+    → Gives (kept_reply published (after own (puts (number - 1) moved act.Changed)) act.Changed (number - 1))
+    (Ok answer)
     → (view : ViewOf) × Gives (view_of published number moved) (Ok view) × (answer ≡ reply.View view)
 put-shown published own number moved answer counted within gives =
     let next : Own = after own (puts (number - 1) moved act.Changed) in
@@ -144,17 +147,20 @@ put-shown published own number moved answer counted within gives =
     )
 
 -- it is shown by what the rules of its edition make of it
-record IsShownBy (published : Published) (number : ℕ) (session : SessionRow) (bound : Bound) (view : ViewOf) : Type 0 where
-  made_of_it : Answer
-  answers : IsAnswer bound.kit (state_of session) made_of_it.first made_of_it.second made_of_it.verdict
-  is : view ≡ view_with published number session bound made_of_it
+record IsShownBy (published : Published) (number : ℕ) (session : SessionRow) (bound : Bound) (view : ViewOf) : Type 0
+  where
+    made_of_it : Answer
+    answers : IsAnswer bound.kit (state_of session) made_of_it.first made_of_it.second made_of_it.verdict
+    is : view ≡ view_with published number session bound made_of_it
 
 shown-by : (published : Published) (number : ℕ) (session : SessionRow) (bound : Bound) (view : ViewOf)
     → bound_at published session.edition ≡ Some bound → Gives (view_of published number session) (Ok view)
     → IsShownBy published number session bound view
 shown-by published number session bound view binds gives =
-    let showing : Bound → Answer → Checked ViewOf = λ one answer. done (view_with published number session one answer) in
-    let found = Gives-bind_ok (bound_for published session) (λ one. answer_for one.kit (state_of session) >>= showing one)
+    let showing : Bound → Answer → Checked ViewOf = λ one answer.
+    done (view_with published number session one answer) in
+    let found = Gives-bind_ok (bound_for published session)
+    (λ one. answer_for one.kit (state_of session) >>= showing one)
     view gives in
     let same : found.0 ≡ bound =
     same_Some found.0 bound (sym (certainly-ok (bound_at published session.edition) found.0 found.1) ∙ binds) in
@@ -183,7 +189,8 @@ CarriesOne-write rows name ticket number version answer changes step accepted =
           slice_get_within own.sessions (number - 1) found.session found.is_active.stands in
           let next : Rows = changed rows (change.Session place (number - 1) deed.moved) in
           let carried = IsCarried-found (published_of rows) own number version deed.moved found in
-          let kept = subst (λ (made : Deed). Gives (kept_reply (published_of rows) (after own made) made.act made.target)
+          let kept = subst (λ (made : Deed).
+          Gives (kept_reply (published_of rows) (after own made) made.act made.target)
           (Ok answer)) deed.is new.kept in
           let shown = put-shown (published_of rows) own number deed.moved answer found.is_active.counted within kept in
           let by = shown-by (published_of rows) number deed.moved carried.behind shown.0 carried.binds_behind shown.1 in
@@ -251,7 +258,8 @@ pub carry-look : (rows : Rows) (name : List ℕ) (number version : ℕ) (carried
     → IsStep rows (Look name (CarryLook number version)) (reply.Carried carried) changes
     → IsShown rows name number version carried
 carry-look rows name number version carried changes step =
-    let told = look-told rows name (CarryLook number version) (reply.Carried carried) changes (λ refusal same. cc) step in
+    let told = look-told rows name (CarryLook number version) (reply.Carried carried) changes (λ refusal same. cc)
+    step in
     let own : Own = own_of rows told.place in
     let found = Gives-bind_ok (carrying (published_of rows) own number version) (λ one. done (reply.Carried one))
     (reply.Carried carried) told.gives in
@@ -290,12 +298,14 @@ shown-after rows name ticket number version carried answer changes look step acc
           let same_place : look.place ≡ new.place = cc in
           let own : Own = own_of rows new.place in
           let deed = carry-deed rows name ticket number version answer changes new in
-          let shows = subst (λ place. IsCarryingOf published (own_of rows place) number version carried) same_place look.is in
+          let shows = subst (λ place. IsCarryingOf published (own_of rows place) number version carried) same_place
+          look.is in
           let found = carry-found published own number version deed.moved deed.carries in
           let one = Gives-unique (carry_row published own number version) (Ok shows.moved) (Ok deed.moved) shows.carries
           deed.carries in
           let same : shows.moved ≡ deed.moved = cc in
-          let kept = subst (λ (made : Deed). Gives (kept_reply published (after own made) made.act made.target) (Ok answer))
+          let kept = subst (λ (made : Deed). Gives (kept_reply published (after own made) made.act made.target)
+          (Ok answer))
           deed.is new.kept in
           let shown = put-shown published own number deed.moved answer found.is_active.counted
           (slice_get_within own.sessions (number - 1) found.session found.is_active.stands) kept in

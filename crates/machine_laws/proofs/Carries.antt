@@ -41,7 +41,8 @@ pub record IsCarryOf (published : Published) (own : Own) (number version : ℕ) 
   pub is : moved ≡ carried_to session edition before behind
 
 module _ (published : Published) (own : Own) where
-  pub carry-found : (number version : ℕ) (moved : SessionRow) → Gives (carry_row published own number version) (Ok moved)
+  pub carry-found : (number version : ℕ) (moved : SessionRow) → Gives (carry_row published own number version)
+      (Ok moved)
       → IsCarryOf published own number version moved
   carry-found number version moved gives =
       let moving : SessionRow → ℕ → Bound → Checked SessionRow = λ session edition before.
@@ -52,7 +53,8 @@ module _ (published : Published) (own : Own) where
       unless (nat_lt (edition_at published session.edition).version version)
       (NotNewer (edition_at published session.edition).version) >> over session edition in
       let named : SessionRow → Checked SessionRow = λ session.
-      some_or (edition_named published.editions (edition_at published session.edition).name version) (NoSuch kind.Edition)
+      some_or (edition_named published.editions (edition_at published session.edition).name version)
+      (NoSuch kind.Edition)
       >>= newer session in
       let found = Gives-bind_ok (active_session own.sessions number) named moved gives in
       let pinned : EditionRow = edition_at published found.0.edition in
@@ -70,7 +72,8 @@ module _ (published : Published) (own : Own) where
         before = before.0;
         behind = behind.0;
         is_active = active_session-ok own.sessions number found.0 found.1;
-        named = some_or-ok (edition_named published.editions pinned.name version) (NoSuch kind.Edition) edition.0 edition.1;
+        named = some_or-ok (edition_named published.editions pinned.name version) (NoSuch kind.Edition) edition.0
+            edition.1;
         newer = grind (arith, nat_tests, test);
         binds = certainly-ok (bound_at published found.0.edition) before.0 before.1;
         binds_behind = certainly-ok (bound_at published edition.0) behind.0 behind.1;

@@ -1,5 +1,6 @@
 -- The deeds that change a session: Confirm, Withdraw, Abandon and Commit.
-use Rattle.std.proofs.Common.{◌≡◌, ◌∙◌, ℕ, ◌+◌, ◌-◌, ◌<◌, ◌≤◌, List, [], ◌∷◌, ◌++◌, length, map, set, Some, None, refl, sym, ap, subst, arith}
+use Rattle.std.proofs.Common.{◌≡◌, ◌∙◌, ℕ, ◌+◌, ◌-◌, ◌<◌, ◌≤◌, List, [], ◌∷◌, ◌++◌, length, map, set, Some, None, refl}
+use Rattle.std.proofs.Common.{sym, ap, subst, arith}
 use Rattle.std.specs.Prelude.{Ok}
 use Rattle.std.specs.List.{range_with_len}
 use Rattle.std.proofs.lemmas.List.{append-nil, length-append, length-map, length-set}
@@ -19,12 +20,11 @@ use Rattle.desk_valid.specs.Rows.Session.{IsSessionRow}
 use Rattle.desk_valid.specs.Tallies.{bytes_in, text_bytes}
 use Rattle.desk_valid.specs.Valid.{AreValid}
 use Rattle.fix_model.specs.declared.state.State.{State}
-use Rattle.fix_model.specs.Run.{end_of}
 use Rattle.fix_model.specs.States.{uncovered_count, value_at}
 use Rattle.machine_core.specs.Answers.{bound_for, state_of}
-use Rattle.machine_core.specs.Checked.{Answer, Checked, ◌>>=◌, ◌>>◌, answer_for, done, each, Gives}
+use Rattle.machine_core.specs.Checked.{Checked, ◌>>=◌, ◌>>◌, done, each, Gives}
 use Rattle.machine_core.specs.Clerk.Abandon.{abandon}
-use Rattle.machine_core.specs.Clerk.Commit.{accepts, commit, commit_rows, not_in_conflict, record_at}
+use Rattle.machine_core.specs.Clerk.Commit.{accepted_record, accepts, commit, commit_rows, fixed_end, record_at}
 use Rattle.machine_core.specs.Clerk.Confirm.{bytes_with, confirm, confirm_row, with_cells}
 use Rattle.machine_core.specs.Clerk.Withdraw.{cleared, confirmed_place, withdraw, withdraw_row}
 use Rattle.machine_core.specs.Limits.{within}
@@ -35,7 +35,8 @@ use Rattle.machine_core.proofs.Chains.{Gives-bind_ok, done-value}
 use Rattle.machine_core.proofs.Tested.{certainly-ok}
 use Rattle.machine_core.specs.OwnRows.{AreOwnRows, IsSoundDeed}
 use Rattle.machine_laws.proofs.Deeds.{put-within}
-use Rattle.machine_laws.proofs.Sessions.{AreOwnRows-committed, AreOwnRows-set, IsActiveAt, IsSessionRow-stays, StaysAs, active_session-ok, records-few}
+use Rattle.machine_laws.proofs.Sessions.{AreOwnRows-committed, AreOwnRows-set, IsActiveAt, IsSessionRow-stays, StaysAs}
+use Rattle.machine_laws.proofs.Sessions.{active_session-ok, records-few}
 use Rattle.machine_laws.proofs.Valid.{AreOwnRows-same}
 use Rattle.machine_core.proofs.Widths.{kit-width, length-cleared, length-confirmed_at, length-typed_over, typed-width}
 
@@ -69,10 +70,12 @@ module _ (published : Published) (own : Own) (good : IsGoodOwn published own) wh
   -- as one that stays where it was
   IsSoundDeed-changed : (number : ℕ) (old new : SessionRow) → IsActiveAt own.sessions number old → StaysAs old new
       → IsSoundDeed published own (puts (number - 1) new act.Changed)
-  IsSoundDeed-changed number old new is stays = IsSoundDeed-put number old new is (IsSessionRow-stays published own.batches
+  IsSoundDeed-changed number old new is stays = IsSoundDeed-put number old new is
+      (IsSessionRow-stays published own.batches
       old new stays (good.rows.sessions_valid (number - 1) old is.stands))
 
-  pub IsSoundDeed-abandon : (number : ℕ) (deed : Deed) → Gives (abandon own number) (Ok deed) → IsSoundDeed published own deed
+  pub IsSoundDeed-abandon : (number : ℕ) (deed : Deed) → Gives (abandon own number) (Ok deed)
+      → IsSoundDeed published own deed
   IsSoundDeed-abandon number deed gives =
       let last : SessionRow → Checked Deed = λ session. done (puts (number - 1) (record session { stage = Abandoned })
       act.Changed) in
@@ -108,14 +111,16 @@ module _ (published : Published) (own : Own) (good : IsGoodOwn published own) wh
       let last : SessionRow → Checked Deed = λ session. within which.Bytes (bytes_with own number session)
       >> done (puts (number - 1) session act.Changed) in
       let made = Gives-bind_ok (confirm_row published own number cells) last deed gives in
-      let passed = Gives-bind_ok (within which.Bytes (bytes_with own number made.0)) (λ _. done (puts (number - 1) made.0
+      let passed = Gives-bind_ok (within which.Bytes (bytes_with own number made.0))
+      (λ _. done (puts (number - 1) made.0
       act.Changed)) deed made.2 in
       let rest : SessionRow → Bound → Checked SessionRow = λ session bound.
       each (typed_cell bound.names.attributes) cells >>= (λ texts. done (with_cells session texts)) in
       let found = Gives-bind_ok (active_session own.sessions number) (λ session. bound_for published session
       >>= rest session) made.0 made.1 in
       let bound = Gives-bind_ok (bound_for published found.0) (rest found.0) made.0 found.2 in
-      let texts = Gives-bind_ok (each (typed_cell bound.0.names.attributes) cells) (λ texts. done (with_cells found.0 texts))
+      let texts = Gives-bind_ok (each (typed_cell bound.0.names.attributes) cells)
+      (λ texts. done (with_cells found.0 texts))
       made.0 bound.2 in
       let new : SessionRow = with_cells found.0 texts.0 in
       let is : made.0 ≡ new = done-value new made.0 texts.2 in
@@ -143,36 +148,31 @@ module _ (rows : Rows) (valid : AreValid rows) (own : Own) (good : IsGoodOwn (pu
       → Gives (commit_rows (published_of rows) own number accept) (Ok both) → IsCommitOf number both
   commit-found number accept both gives =
       let published : Published = published_of rows in
-      let last : SessionRow → Bound → State → Checked (SessionRow × RecordRow) = λ session bound end.
-      within which.Bytes (text_bytes own.sessions own.records + bytes_in (record_at bound number end).texts)
-      >> done (record session { stage = Committed }, record_at bound number end) in
-      let ended : SessionRow → Bound → Answer → State = λ session bound answer. end_of bound.kit (state_of session)
-      answer.first in
-      let judged : SessionRow → Bound → Answer → Checked (SessionRow × RecordRow) = λ session bound answer.
-      not_in_conflict answer.verdict >> (accepts accept (uncovered_count (ended session bound answer))
-      >> last session bound (ended session bound answer)) in
+      let last : SessionRow → RecordRow → Checked (SessionRow × RecordRow) = λ session row.
+      within which.Bytes (text_bytes own.sessions own.records + bytes_in row.texts)
+      >> done (record session { stage = Committed }, row) in
+      let ended : SessionRow → Bound → State → Checked (SessionRow × RecordRow) = λ session bound end.
+      accepted_record bound number accept end >>= last session in
       let rest : SessionRow → Bound → Checked (SessionRow × RecordRow) = λ session bound.
-      answer_for bound.kit (state_of session) >>= judged session bound in
+      fixed_end bound.kit (state_of session) >>= ended session bound in
       let found = Gives-bind_ok (active_session own.sessions number) (λ session. bound_for published session
       >>= rest session) both gives in
       let bound = Gives-bind_ok (bound_for published found.0) (rest found.0) both found.2 in
-      let answer = Gives-bind_ok (answer_for bound.0.kit (state_of found.0)) (judged found.0 bound.0) both bound.2 in
-      let end : State = ended found.0 bound.0 answer.0 in
-      let fix = Gives-bind_ok (not_in_conflict answer.0.verdict) (λ _. accepts accept (uncovered_count end)
-      >> last found.0 bound.0 end) both answer.2 in
-      let accepted = Gives-bind_ok (accepts accept (uncovered_count end)) (λ _. last found.0 bound.0 end) both fix.2 in
-      let bytes = Gives-bind_ok (within which.Bytes (text_bytes own.sessions own.records
-      + bytes_in (record_at bound.0 number end).texts)) (λ _. done (
-        record found.0 { stage = Committed },
-        record_at bound.0 number end,
-      )) both accepted.2 in
+      let end = Gives-bind_ok (fixed_end bound.0.kit (state_of found.0)) (ended found.0 bound.0) both bound.2 in
+      let row = Gives-bind_ok (accepted_record bound.0 number accept end.0) (last found.0) both end.2 in
+      let accepted = Gives-bind_ok (accepts accept (uncovered_count end.0)) (λ _. done (record_at bound.0 number end.0))
+      row.0 row.1 in
+      let bytes = Gives-bind_ok (within which.Bytes (text_bytes own.sessions own.records + bytes_in row.0.texts))
+      (λ _. done (record found.0 { stage = Committed }, row.0)) both row.2 in
+      let pair : RecordRow → SessionRow × RecordRow = λ one. (record found.0 { stage = Committed }, one) in
       record {
         session = found.0;
         bound = bound.0;
-        end = end;
+        end = end.0;
         is_active = active_session-ok own.sessions number found.0 found.1;
         binds = certainly-ok (bound_at published found.0.edition) bound.0 bound.1;
-        is = done-value (record found.0 { stage = Committed }, record_at bound.0 number end) both bytes.2;
+        is = done-value (pair row.0) both bytes.2
+            ∙ ap pair (done-value (record_at bound.0 number end.0) row.0 accepted.2);
       }
 
   -- the deed of a Commit
@@ -197,7 +197,8 @@ module _ (rows : Rows) (valid : AreValid rows) (own : Own) (good : IsGoodOwn (pu
       let new : SessionRow = record session { stage = Committed } in
       let row : RecordRow = record_at bound number end in
       let within_it : place < length own.sessions = slice_get_within own.sessions place session is.stands in
-      let same : put own.sessions place new ≡ set own.sessions place new = put-within own.sessions place new within_it in
+      let same : put own.sessions place new ≡ set own.sessions place new = put-within own.sessions place new
+      within_it in
       let stays : StaysAs session new = record { edition = refl; typed = refl; confirmed = refl; batch = refl } in
       let width : length session.typed ≡ length bound.names.attributes = typed-width published own.batches session bound
       binds (good.rows.sessions_valid place session is.stands) in
@@ -205,8 +206,10 @@ module _ (rows : Rows) (valid : AreValid rows) (own : Own) (good : IsGoodOwn (pu
       length-map (range_with_len 0 bound.kit.width) (value_at bound.kit end) ∙ length-range_with_len 0 bound.kit.width
       ∙ sym (kit-width rows session.edition bound valid binds) ∙ sym width in
       let are : AreOwnRows published (set own.sessions place new) (own.records ++ row ∷ []) own.batches =
-      AreOwnRows-committed published own.sessions own.records own.batches good.rows place session new is.stands is.is_open
-      (IsSessionRow-stays published own.batches session new stays (good.rows.sessions_valid place session is.stands)) row refl
+      AreOwnRows-committed published own.sessions own.records own.batches good.rows place session new is.stands
+      is.is_open
+      (IsSessionRow-stays published own.batches session new stays (good.rows.sessions_valid place session is.stands))
+      row refl
       is.counted refl whole in
       let few : length (own.records ++ row ∷ []) ≤ length (set own.sessions place new) =
       records-few published (set own.sessions place new) (own.records ++ row ∷ []) own.batches are in
@@ -223,7 +226,8 @@ module _ (rows : Rows) (valid : AreValid rows) (own : Own) (good : IsGoodOwn (pu
   pub IsSoundDeed-commit : (number : ℕ) (accept : Accept) (deed : Deed)
       → Gives (commit (published_of rows) own number accept) (Ok deed) → IsSoundDeed (published_of rows) own deed
   IsSoundDeed-commit number accept deed gives =
-      let both = Gives-bind_ok (commit_rows (published_of rows) own number accept) (λ both. done (committing number both))
+      let both = Gives-bind_ok (commit_rows (published_of rows) own number accept)
+      (λ both. done (committing number both))
       deed gives in
       let found = commit-found number accept both.0 both.1 in
       subst (IsSoundDeed (published_of rows) own) (sym (done-value (committing number both.0) deed both.2

@@ -1,5 +1,6 @@
 -- Which cells two views show otherwise is always told.
-use Rattle.std.proofs.Common.{◌≡◌, ◌≢◌, ◌+◌, ◌<◌, ◌≤◌, ◌∙◌, ℕ, zero, suc, List, [], ◌∷◌, ◌++◌, length, get_or, map, Option, Some, None, inl, inr, refl, sym, ap, subst, arith}
+use Rattle.std.proofs.Common.{◌≡◌, ◌≢◌, ◌+◌, ◌<◌, ◌≤◌, ◌∙◌, ℕ, zero, suc, List, [], ◌∷◌, ◌++◌, length, get_or, map}
+use Rattle.std.proofs.Common.{Option, Some, None, inl, inr, refl, sym, ap, subst, arith}
 use Rattle.std.specs.Prelude.{Ok, slice_get}
 use Rattle.std.specs.List.{range_with_len}
 use Rattle.std.proofs.lemmas.Bool.{cases_eq}
@@ -102,13 +103,15 @@ pairs-below before after apart (suc count) few =
         subst (Below sofar.0) next (ArePairs-same before after apart count sofar.0 sofar.1 cell.0 cell.1
             (λ place was stands named. elim (decide_cells was cell.0) [
               | inl same ↦ same
-              | inr differs ↦ absurd (none place (slice_get_within before place was stands) (was, stands, named, differs))
+              | inr differs ↦ absurd (none place (slice_get_within before place was stands)
+                  (was, stands, named, differs))
             ])),
       )
     ]
 
 -- what two views show otherwise, where no two cells of the first have one name
-pub some-changes : (before after : View) → AreApart before.cells → (pairs : List (ℕ × ℕ)) × AreChanged before after pairs
+pub some-changes : (before after : View) → AreApart before.cells → (pairs : List (ℕ × ℕ))
+    × AreChanged before after pairs
 some-changes before after apart =
     let all = pairs-below before.cells after.cells apart (length after.cells) (omega arith) in
     (all.0, ArePairs-whole before after (length after.cells) all.0 (omega arith) all.1)
@@ -136,7 +139,8 @@ module _ (rows : Rows) (valid : AreValid rows) where
   view-apart number session view gives =
       let shown_with : Bound → Answer → Checked View = λ bound answer.
       done (view_with (published_of rows) number session bound answer) in
-      let bound = Gives-bind_ok (bound_for (published_of rows) session) (λ bound. answer_for bound.kit (state_of session)
+      let bound = Gives-bind_ok (bound_for (published_of rows) session)
+      (λ bound. answer_for bound.kit (state_of session)
       >>= shown_with bound) view gives in
       let answer = Gives-bind_ok (answer_for bound.0.kit (state_of session)) (shown_with bound.0) view bound.2 in
       subst (λ (one : View). AreApart one.cells)

@@ -14,7 +14,8 @@ use Rattle.fix_model.specs.Hit.{SomeRowAgrees, covered_keys}
 use Rattle.fix_model.specs.Pattern.{Matches}
 use Rattle.fix_model.specs.Rules.{from_text, is_folded, master_of, master_text, rule_at, step_text}
 use Rattle.fix_model.specs.States.{IsCovered, value_at}
-use Rattle.fix_model.proofs.Deciding.{Decided, both, decide_all, decide_any, decide_below, decide_equal, decide_less, opposite}
+use Rattle.fix_model.proofs.Deciding.{Decided, both, decide_all, decide_any, decide_below, decide_equal, decide_less}
+use Rattle.fix_model.proofs.Deciding.{opposite}
 use Rattle.region_suggest.specs.Hope.{AreMatchedWhereCovered, IsOpen}
 use Rattle.region_suggest.proofs.Needs.{decide_covered}
 

@@ -5,9 +5,11 @@ use Rattle.master_rows.specs.Sheet.{read_sheet}
 use Rattle.desk_words.specs.declared.clerk_work.Accept.{Accept}
 use Rattle.desk_words.specs.declared.clerk_work.Accept.TheVariants.{Certain, Partial}
 use Rattle.desk_words.specs.declared.clerk_work.ClerkWork.{ClerkWork}
-use Rattle.desk_words.specs.declared.clerk_work.ClerkWork.TheVariants.{Enter, Confirm, Withdraw, Commit, Abandon, Batch, Carry}
+use Rattle.desk_words.specs.declared.clerk_work.ClerkWork.TheVariants.{Enter, Confirm, Withdraw, Commit, Abandon, Batch}
+use Rattle.desk_words.specs.declared.clerk_work.ClerkWork.TheVariants.{Carry}
 use Rattle.desk_words.specs.declared.look.Look.{Look as LookOf}
-use Rattle.desk_words.specs.declared.look.Look.TheVariants.{View, Suggest, Preview, Report, Records, Explain, Carry as CarryLook}
+use Rattle.desk_words.specs.declared.look.Look.TheVariants.{View, Suggest, Preview, Report, Records, Explain}
+use Rattle.desk_words.specs.declared.look.Look.TheVariants.{Carry as CarryLook}
 use Rattle.desk_words.specs.declared.refusal.Kind.TheVariants as kind
 use Rattle.desk_words.specs.declared.refusal.Refusal.TheVariants.{InConflict, NoSuch, NotFixed, NotNewer}
 use Rattle.desk_words.specs.declared.rows.edition.EditionRow.{EditionRow}
@@ -20,7 +22,7 @@ use Rattle.fix_engine.specs.declared.verdict.Verdict.{Verdict}
 use Rattle.fix_engine.specs.declared.verdict.Verdict.TheVariants.{Fix, Conflict}
 use Rattle.fix_model.specs.declared.state.State.{State}
 use Rattle.fix_model.specs.Run.{end_of}
-use Rattle.fix_model.specs.States.{cell_at, fixed_by}
+use Rattle.fix_model.specs.States.{cell_at, fixed_by, uncovered_count}
 use Rattle.machine_core.specs.Answers.{bound_for, state_of}
 use Rattle.machine_core.specs.Checked.{Checked, ◌>>=◌, done, each, some_or, Gives}
 use Rattle.machine_core.specs.Clerk.Batch.{another_column}
@@ -45,8 +47,12 @@ use Rattle.machine_core.proofs.Widths.{length-confirmed_at, length-typed_over}
 use Rattle.machine_laws.proofs.Carries.{carry-found}
 use Rattle.machine_laws.proofs.Comparing.{view_at-apart}
 use Rattle.machine_laws.proofs.Makings.{place_of-within}
-use Rattle.machine_laws.proofs.Outcomes.{HasOutcome, outcome-all, outcome-behind, outcome-bind, outcome-changes, outcome-done, outcome-refused, outcome-some_or, outcome-unless, outcome-value_or, plain_tests}
-use Rattle.machine_laws.proofs.OwnOutcomes.{outcome-bound, outcome-report, outcome-view, outcome-view_at, session-advised, session-answered, session-explained, session-of, sessions-of}
+use Rattle.machine_laws.proofs.Outcomes.{HasOutcome, outcome-all, outcome-behind, outcome-bind, outcome-changes}
+use Rattle.machine_laws.proofs.Outcomes.{outcome-done, outcome-refused, outcome-some_or, outcome-unless}
+use Rattle.machine_laws.proofs.Outcomes.{outcome-value_or, plain_tests}
+use Rattle.machine_laws.proofs.OwnOutcomes.{outcome-bound, outcome-report, outcome-view, outcome-view_at}
+use Rattle.machine_laws.proofs.OwnOutcomes.{session-advised, session-answered, session-explained, session-of}
+use Rattle.machine_laws.proofs.OwnOutcomes.{sessions-of}
 use Rattle.machine_laws.proofs.Sessions.{active_session-ok, session_at-found}
 
 -- an active session is found, or it is refused
@@ -147,7 +153,8 @@ module _ (rows : Rows) (valid : AreValid rows) where
     -- a session by its number stands
     found-of : (number : ℕ) (session : SessionRow) → Gives (session_of own.sessions number) (Ok session)
         → IsSessionOf (published_of rows) session
-    found-of number session gives = session-of rows valid own are (number - 1) session (session_at-found own.sessions number
+    found-of number session gives = session-of rows valid own are (number - 1) session
+        (session_at-found own.sessions number
         session (some_or-ok (session_at own.sessions number) (NoSuch kind.Session) session gives)).1
 
     -- a Carry of it is tested
@@ -158,12 +165,14 @@ module _ (rows : Rows) (valid : AreValid rows) where
         (λ edition found.
         outcome-bind (outcome-unless (nat_lt pinned.version version) (NotNewer pinned.version)) (λ _ _.
         outcome-bind (outcome-active_bound number session is) (λ before binds.
-        outcome-bind (outcome-bound rows valid edition (named-within pinned.name version edition found)) (λ behind binds_too.
+        outcome-bind (outcome-bound rows valid edition (named-within pinned.name version edition found))
+        (λ behind binds_too.
         outcome-done _)))))
 
     -- the session that a Carry leaves stands
     carried-of : (number version : ℕ) (session : SessionRow)
-        → Gives (carry_row (published_of rows) own number version) (Ok session) → IsSessionOf (published_of rows) session
+        → Gives (carry_row (published_of rows) own number version) (Ok session) → IsSessionOf (published_of rows)
+        session
     carried-of number version session gives =
         let found = carry-found (published_of rows) own number version session gives in
         subst (IsSessionOf (published_of rows)) (sym found.is) (carried-stands (published_of rows) found.session
@@ -187,8 +196,11 @@ module _ (rows : Rows) (valid : AreValid rows) where
     outcome-deed (Commit number accept) = outcome-bind (outcome-bind
         (outcome-active own.sessions number) (λ session is.
         outcome-bind (outcome-active_bound number session is) (λ bound binds.
-        outcome-bind (session-answered rows valid session bound (active-of number session is) binds) (λ answer ok.
-        search (plain_tests, outcome-not_in_conflict, outcome-accepts))))) (λ both ok. outcome-done _)
+        outcome-bind (session-answered rows valid session bound (active-of number session is) binds) (λ answer given.
+        outcome-bind (outcome-bind (outcome-not_in_conflict answer.verdict) (λ fix is_fix. outcome-done _))
+        (λ end ended.
+        outcome-bind (outcome-bind (outcome-accepts accept (uncovered_count end)) (λ enough is_enough. outcome-done _))
+        (λ row made. search plain_tests)))))) (λ both ok. outcome-done _)
     outcome-deed (Abandon number) = outcome-bind (outcome-active own.sessions number) (λ session is. outcome-done _)
     outcome-deed (Batch edition body) = outcome-bind
         (outcome-some_or (newest_edition rows.editions edition) (NoSuch kind.Edition)) (λ place found.

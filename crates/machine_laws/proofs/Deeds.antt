@@ -1,5 +1,6 @@
 -- What the changes of a clerk's deed leave, and that they fit.
-use Rattle.std.proofs.Common.{◌≡◌, ◌∙◌, ℕ, ◌<◌, ◌≤◌, List, [], ◌∷◌, ◌++◌, length, map, set, Option, Some, None, refl, sym, ap, subst, arith}
+use Rattle.std.proofs.Common.{◌≡◌, ◌∙◌, ℕ, ◌<◌, ◌≤◌, List, [], ◌∷◌, ◌++◌, length, map, set, Option, Some, None, refl}
+use Rattle.std.proofs.Common.{sym, ap, subst, arith}
 use Rattle.std.specs.Prelude.{option_to_list}
 use Rattle.std.proofs.lemmas.Bool.Decides.{nat_tests}
 use Rattle.std.proofs.lemmas.List.{append-nil, append_assoc, length-append, length-set, set-get_or, set-set}
@@ -34,11 +35,13 @@ pub with_clerk-within : {T : Type 0} (lists : List (List T)) (place clerks : ℕ
     → with_clerk lists place clerks ≡ lists
 with_clerk-within lists place clerks within = grind (arith, nat_tests)
 
-pub with_clerk-end : {T : Type 0} (lists : List (List T)) (clerks : ℕ) → with_clerk lists clerks clerks ≡ lists ++ [] ∷ []
+pub with_clerk-end : {T : Type 0} (lists : List (List T)) (clerks : ℕ) → with_clerk lists clerks clerks ≡ lists
+    ++ [] ∷ []
 with_clerk-end lists clerks = grind (arith, nat_tests)
 
 -- no list gets shorter
-pub length-put_all : (sessions : List SessionRow) (puts : List (ℕ × SessionRow)) → length sessions ≤ length (put_all sessions puts)
+pub length-put_all : (sessions : List SessionRow) (puts : List (ℕ × SessionRow))
+    → length sessions ≤ length (put_all sessions puts)
 length-put_all sessions [] = omega arith
 length-put_all sessions ((place, session) ∷ others) =
     let first : length sessions ≤ length (put sessions place session) =
@@ -68,7 +71,8 @@ changed-sessions rows place ((inner, row) ∷ puts) rest within =
     (ap (λ one. set (set rows.sessions place list) place (put_all one puts)) there
     ∙ set-set rows.sessions place list (put_all list puts))
 
-fit-sessions : (rows : Rows) (place : ℕ) (puts : List (ℕ × SessionRow)) (rest : List Change) → place < length rows.clerks
+fit-sessions : (rows : Rows) (place : ℕ) (puts : List (ℕ × SessionRow)) (rest : List Change)
+    → place < length rows.clerks
     → place < length rows.sessions → PutsFit (list_at rows.sessions place) puts
     → FitAll (with_sessions rows place (put_all (list_at rows.sessions place) puts)) rest
     → FitAll rows (puts_of place puts ++ rest)
@@ -79,7 +83,8 @@ fit-sessions rows place ((inner, row) ∷ puts) rest clerk within fits last =
     let next : Rows = with_sessions rows place list in
     let there : list_at next.sessions place ≡ list = list_at-set_same rows.sessions place list within in
     let more : place < length next.sessions = omega (arith, length-set rows.sessions place list) in
-    let same : set rows.sessions place (put_all list puts) ≡ set next.sessions place (put_all (list_at next.sessions place) puts) =
+    let same : set rows.sessions place (put_all list puts) ≡ set next.sessions place
+    (put_all (list_at next.sessions place) puts) =
     sym (ap (λ one. set (set rows.sessions place list) place (put_all one puts)) there
     ∙ set-set rows.sessions place list (put_all list puts)) in (
       (clerk, fits.0),
@@ -173,7 +178,8 @@ module _ (rows : Rows) (tables : AreTables rows) (place : ℕ) (within : place <
       let last : List Change = change.Clerk place row ∷ [] in
       let later : List Change = map (λ one. change.Batch place one) (option_to_list deed.batch) ++ last in
       ap (changed_all rows) (changes-parts place (own_of rows place).row ticket deed)
-      ∙ changed-sessions rows place deed.sessions (map (λ one. change.Record place one) (option_to_list deed.record_row) ++ later)
+      ∙ changed-sessions rows place deed.sessions
+      (map (λ one. change.Record place one) (option_to_list deed.record_row) ++ later)
       (omega (arith, tables.sessions.each))
       ∙ changed-record sessions place deed.record_row later
       ∙ changed-batch records place deed.batch last
@@ -193,7 +199,8 @@ module _ (rows : Rows) (tables : AreTables rows) (place : ℕ) (within : place <
       let later : List Change = map (λ one. change.Batch place one) (option_to_list deed.batch) ++ last in
       let fit_last : FitAll batches last = ((omega arith, omega (arith, tables.clerks)), tt) in
       subst (FitAll rows) (sym (changes-parts place (own_of rows place).row ticket deed))
-      (fit-sessions rows place deed.sessions (map (λ one. change.Record place one) (option_to_list deed.record_row) ++ later)
+      (fit-sessions rows place deed.sessions (map (λ one. change.Record place one) (option_to_list deed.record_row)
+      ++ later)
       within (omega (arith, tables.sessions.each)) fits
       (fit-record sessions place deed.record_row later within short_records
       (fit-batch records place deed.batch last within short_batches fit_last)))

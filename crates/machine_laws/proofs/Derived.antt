@@ -1,5 +1,6 @@
 -- Derived rows, as they are told and as they become a region.
-use Rattle.std.proofs.Common.{◌≡◌, ◌≢◌, ◌∙◌, ℕ, ◌+◌, ◌-◌, List, [], ◌∷◌, ◌++◌, length, map, drop, take, Some, inl, inr, refl, sym, ap, subst, append_assoc, arith}
+use Rattle.std.proofs.Common.{◌≡◌, ◌≢◌, ◌∙◌, ℕ, ◌+◌, ◌-◌, List, [], ◌∷◌, ◌++◌, length, map, drop, take, Some, inl, inr}
+use Rattle.std.proofs.Common.{refl, sym, ap, subst, append_assoc, arith}
 use Rattle.std.specs.Prelude.{IfSome, Ok, find, option_map}
 use Rattle.std.specs.Str.{bytes_eq}
 use Rattle.std.proofs.lemmas.List.{append-nil, length-map, length-take, map_push}
@@ -55,7 +56,8 @@ named-behind : {A B : Type 0} (find_it : List B → A → Checked B) (name : A �
 named-behind find_it name name_of named [] before found gives =
     ap (map name_of) (done-value before found gives) ∙ sym (append-nil (map name_of before))
 named-behind find_it name name_of named (item ∷ items) before found gives =
-    let here = Gives-bind_ok (find_it before item) (λ one. each_behind (before ++ one ∷ []) find_it items) found gives in
+    let here = Gives-bind_ok (find_it before item) (λ one. each_behind (before ++ one ∷ []) find_it items) found
+    gives in
     named-behind find_it name name_of named items (before ++ here.0 ∷ []) found here.2
     ∙ ap (λ list. list ++ map name items) (map_push name_of before here.0)
     ∙ append_assoc (map name_of before) (name_of here.0 ∷ []) (map name items)
@@ -64,7 +66,8 @@ named-behind find_it name name_of named (item ∷ items) before found gives =
 -- the places of pairs are under their words
 places-named : (words names : List (List ℕ)) (pairs : List (List ℕ × List ℕ)) (found : List ℕ × List ℕ)
     → Gives (places_of words names pairs) (Ok found)
-    → (map (name_at words) found.0 ≡ map (λ pair. pair.0) pairs) × (map (name_at names) found.1 ≡ map (λ pair. pair.1) pairs)
+    → (map (name_at words) found.0 ≡ map (λ pair. pair.0) pairs)
+    × (map (name_at names) found.1 ≡ map (λ pair. pair.1) pairs)
 places-named words names pairs found gives =
     let first : ℕ × ℕ → ℕ = λ place. place.0 in
     let second : ℕ × ℕ → ℕ = λ place. place.1 in
@@ -104,7 +107,8 @@ IsAskedOf-found published edition version master pairs derivation gives =
     let place = Gives-bind_ok (some_or (find is_named masters) (NoSuch kind.Master)) (λ place.
     certainly (master_at published place) >>= (λ one. done one.1)) sheet.0 sheet.1 in
     let one = Gives-bind_ok (certainly (master_at published place.0)) (λ one. done one.1) sheet.0 place.2 in
-    let there = find-Some is_named masters place.0 (some_or-ok (find is_named masters) (NoSuch kind.Master) place.0 place.1) in
+    let there = find-Some is_named masters place.0
+    (some_or-ok (find is_named masters) (NoSuch kind.Master) place.0 place.1) in
     let named = places-named bound.0.names.attributes sheet.0.columns pairs places.0 places.1 in
     subst (IsAskedOf published edition version master pairs)
     (sym (done-value (made at.0 sheet.0 places.0) derivation places.2)) (record {
@@ -115,7 +119,8 @@ IsAskedOf-found published edition version master pairs derivation gives =
       among = there.0;
       under = (bytes_eq-Decides (master_name published.masters place.0) master).0 there.1;
       sheet = sheet.0;
-      reads = ap (option_map (λ (both : List ℕ × Master). both.1)) (certainly-ok (master_at published place.0) one.0 one.1)
+      reads = ap (option_map (λ (both : List ℕ × Master). both.1))
+          (certainly-ok (master_at published place.0) one.0 one.1)
           ∙ ap Some (sym (done-value one.0.1 sheet.0 one.2));
       grid = refl;
       attributes = named.0;
@@ -144,7 +149,8 @@ module _ (rows : Rows) (valid : AreValid rows) (edition : List ℕ) (version : �
       record {
         asked = asked;
         apart = subst (λ one. IfSome one Apart) asked.binds derivable.pairs;
-        derived = subst (λ (one : Bound). AreDerived one.kit derivation.grid derivation.attributes derivation.columns found)
+        derived = subst (λ (one : Bound). AreDerived one.kit derivation.grid derivation.attributes derivation.columns
+            found)
             same (subst (AreDerived bound.0.kit derivation.grid derivation.attributes derivation.columns) (sym is)
             bound.2.1);
       }
@@ -156,8 +162,10 @@ module _ (rows : Rows) (valid : AreValid rows) (edition : List ℕ) (version : �
       let published : Published = published_of rows in
       let told : List (ℕ × List (List ℕ)) → DerivedSheet = λ found.
       record { attributes = map (λ pair. pair.0) pairs; rows = map (λ row. (row.0 + 1, row.1)) found } in
-      let all = Gives-bind_ok (derived_sheet published edition version master pairs) (λ one. done (reply.Derived one, []))
-      (reply.Derived sheet, changes) (step-told rows (DeskDerive edition version master pairs) (reply.Derived sheet) changes
+      let all = Gives-bind_ok (derived_sheet published edition version master pairs)
+      (λ one. done (reply.Derived one, []))
+      (reply.Derived sheet, changes) (step-told rows (DeskDerive edition version master pairs) (reply.Derived sheet)
+      changes
       (λ refusal same. cc) step) in
       let same : sheet ≡ all.0 = same-sheet sheet all.0 (ap (λ (both : Reply × List Change). both.0)
       (done-value (reply.Derived all.0, []) (reply.Derived sheet, changes) all.2)) in

@@ -1,5 +1,6 @@
 -- A region of derived rows is good where it is put.
-use Rattle.std.proofs.Common.{◌≡◌, ◌∙◌, ℕ, ◌+◌, ◌-◌, ◌<◌, ◌≤◌, List, [], ◌∷◌, length, drop, take, refl, sym, subst, arith}
+use Rattle.std.proofs.Common.{◌≡◌, ◌∙◌, ℕ, ◌+◌, ◌-◌, ◌<◌, ◌≤◌, List, [], ◌∷◌, length, drop, take, refl, sym, subst}
+use Rattle.std.proofs.Common.{arith}
 use Rattle.std.specs.Prelude.{All, IfSome, Ok}
 use Rattle.std.proofs.lemmas.List.{length-map, length-take, take_at}
 use Rattle.std.proofs.lemmas.List.Elements.{All-drop, All-map, All-take, All-weaker}
@@ -47,7 +48,8 @@ derived_region-found published name version master pairs from row gives =
     let derivation = Gives-bind_ok (derivation_of published name version master pairs) counted row gives in
     let few = Gives-bind_ok (within which.Regions (region_count published.regions derivation.0.edition + 1)) (λ _.
     taking derivation.0) row derivation.2 in
-    let rows = Gives-bind_ok (derived_rows published derivation.0) (λ rows. done (region_from derivation.0 from rows)) row
+    let rows = Gives-bind_ok (derived_rows published derivation.0) (λ rows. done (region_from derivation.0 from rows))
+    row
     few.2 in
     record {
       derivation = derivation.0;

@@ -1,5 +1,6 @@
 -- Which rows a grid gives for attributes and columns is always told.
-use Rattle.std.proofs.Common.{◌≡◌, ◌≢◌, ◌+◌, ◌<◌, ℕ, zero, suc, true, false, List, [], ◌∷◌, ◌++◌, length, inl, inr, subst, arith}
+use Rattle.std.proofs.Common.{◌≡◌, ◌≢◌, ◌+◌, ◌<◌, ℕ, zero, suc, true, false, List, [], ◌∷◌, ◌++◌, length, inl, inr}
+use Rattle.std.proofs.Common.{subst, arith}
 use Rattle.desk_base.specs.Grid.{GridRows}
 use Rattle.fix_model.specs.declared.kit.Kit.{Kit}
 use Rattle.fix_model.specs.declared.region.RowVerdict.TheVariants as row
@@ -14,10 +15,11 @@ use Rattle.fix_engine.specs.declared.verdict.Verdict.{Verdict}
 use Rattle.fix_engine.specs.declared.verdict.Verdict.TheVariants.{Fix, Conflict}
 use Rattle.fix_engine.specs.Verdicts.{IsAnswer}
 use Rattle.region_suggest.proofs.Pairs.{certain-only}
-use Rattle.region_suggest.proofs.Rows.{Fits-row}
+use Rattle.fix_engine.proofs.Rows.{Fits-row}
 use Rattle.region_derive.specs.Derived.{AreDerived, IsDerived, texts_in}
 use Rattle.region_derive.proofs.Firsts.{first_among}
-use Rattle.region_derive.proofs.Rows.{AreDerivedBefore, AreDerivedBefore-more, AreDerivedBefore-passed, AreDerivedBefore-whole}
+use Rattle.region_derive.proofs.Rows.{AreDerivedBefore, AreDerivedBefore-more, AreDerivedBefore-passed}
+use Rattle.region_derive.proofs.Rows.{AreDerivedBefore-whole}
 use Rattle.machine_laws.proofs.Answering.{some-answer}
 
 -- whether a state has a certain fix
@@ -36,7 +38,7 @@ decide_certain kit state valid fits =
         let same = certain-only kit state row.Conflict (
           first,
           is.is_first,
-          record { other = second; maximal = is.is_second.maximal; differs = is.is_second.differs },
+          (second, is.is_second.holds),
         ) certain in
         cc)
 
@@ -62,7 +64,8 @@ module _ (kit : Kit) (grid : GridRows) (attributes columns : List ℕ) (valid : 
       ]
 
   -- the derived rows before a row
-  rows-below : (count : ℕ) → (found : List (ℕ × List (List ℕ))) × AreDerivedBefore kit grid attributes columns count found
+  rows-below : (count : ℕ) → (found : List (ℕ × List (List ℕ))) × AreDerivedBefore kit grid attributes columns count
+      found
   rows-below zero = (
     [],
     record {

@@ -1,5 +1,6 @@
 -- Why a derivation is refused.
-use Rattle.std.proofs.Common.{◌≡◌, ◌≢◌, ◌∙◌, ℕ, zero, suc, Bool, true, false, List, [], ◌∷◌, ◌++◌, get_or, map, Option, Some, inl, inr, refl, sym, ap, subst, arith}
+use Rattle.std.proofs.Common.{◌≡◌, ◌≢◌, ◌∙◌, ℕ, zero, suc, Bool, true, false, List, [], ◌∷◌, ◌++◌, get_or, map, Option}
+use Rattle.std.proofs.Common.{Some, inl, inr, refl, sym, ap, subst, arith}
 use Rattle.std.specs.Prelude.{◌==◌, All, Contains, Ok, Err, find, not, position}
 use Rattle.std.specs.List.{list_any}
 use Rattle.std.specs.Str.{bytes_eq}
@@ -20,14 +21,16 @@ use Rattle.master_rows.specs.declared.master.Master.{Master}
 use Rattle.machine_core.specs.Causes.{AreWords, AsksMaster, Cause, IsAbout, StandsTwice}
 use Rattle.machine_core.specs.Checked.{Checked, ◌>>=◌, ◌>>◌, certainly, done, each_behind, some_or, unless, Gives}
 use Rattle.machine_core.specs.declared.derivation.Derivation.{Derivation}
-use Rattle.machine_core.specs.Deriving.{another_column, another_pair, derivation_of, derived_rows, master_of, places_of}
+use Rattle.machine_core.specs.Deriving.{another_master_column, another_pair, derivation_of, derived_rows}
+use Rattle.machine_core.specs.Deriving.{master_of, places_of}
 use Rattle.machine_core.specs.Finding.{edition_named}
 use Rattle.machine_core.specs.Named.{attributes_in, columns_in, master_in, version_in}
 use Rattle.machine_core.specs.Steward.AddEdition.{master_name}
 use Rattle.machine_core.specs.Tests.{another_attribute}
 use Rattle.machine_core.specs.Views.{edition_at}
 use Rattle.machine_core.proofs.Chains.{Gives-bind_ok, done-value}
-use Rattle.machine_core.proofs.Tested.{certainly-ok, certainly-why, chain-why, done-why, each_behind-found, each_behind-refused, some_or-ok, some_or-why, unless-why}
+use Rattle.machine_core.proofs.Tested.{certainly-ok, certainly-why, chain-why, done-why, each_behind-found}
+use Rattle.machine_core.proofs.Tested.{each_behind-refused, some_or-ok, some_or-why, unless-why}
 use Rattle.machine_laws.proofs.Lists.{find-None}
 use Rattle.machine_laws.proofs.Why.{Contains-image, none-equal, word-at}
 
@@ -93,7 +96,8 @@ twice-among find_it name place words named items earlier later item sofar is giv
             earlier = map name earlier;
             later = map name later;
             is = ap (map name) is ∙ map-append name earlier (item ∷ later);
-            twice = subst (λ one. Contains (map name earlier) one) equal (Contains-image name earlier before.0 before.1);
+            twice = subst (λ one. Contains (map name earlier) one) equal
+                (Contains-image name earlier before.0 before.1);
           }
     ]
 
@@ -103,8 +107,9 @@ pub pair-words : (words names : List (List ℕ)) (before : List (ℕ × ℕ)) (p
     → (pair.0 ≡ get_or words found.0 []) × (pair.1 ≡ get_or names found.1 [])
 pair-words words names before pair found gives =
     let attribute = Gives-bind_ok (another_attribute words (map (λ one. one.0) before) pair.0) (λ attribute.
-    another_column names (map (λ one. one.1) before) pair.1 >>= (λ column. done (attribute, column))) found gives in
-    let column = Gives-bind_ok (another_column names (map (λ one. one.1) before) pair.1) (λ column.
+    another_master_column names (map (λ one. one.1) before) pair.1 >>= (λ column. done (attribute, column))) found
+    gives in
+    let column = Gives-bind_ok (another_master_column names (map (λ one. one.1) before) pair.1) (λ column.
     done (attribute.0, column)) found attribute.2 in
     let is : found ≡ (attribute.0, column.0) = done-value (attribute.0, column.0) found column.2 in (
       another-word words (map (λ one. one.0) before) pair.0 (UnknownAttr pair.0) attribute.0 attribute.1
@@ -115,7 +120,8 @@ pair-words words names before pair found gives =
 
 -- an attribute or a column of a pair is not there, or stands twice
 pairs-why : (P : Refusal → Type 0) (words names : List (List ℕ)) (pairs : List (List ℕ × List ℕ))
-    → ((word : List ℕ) → Contains (map (λ pair. pair.0) pairs) word → All (λ one. one ≢ word) words → P (UnknownAttr word))
+    → ((word : List ℕ) → Contains (map (λ pair. pair.0) pairs) word → All (λ one. one ≢ word) words
+    → P (UnknownAttr word))
     → ((word : List ℕ) → StandsTwice (map (λ pair. pair.0) pairs) word → P (Twice word))
     → ((word : List ℕ) → Contains (map (λ pair. pair.1) pairs) word → All (λ one. one ≢ word) names → P (NoColumn word))
     → ((word : List ℕ) → StandsTwice (map (λ pair. pair.1) pairs) word → P (Twice word)) → (refusal : Refusal)
@@ -134,7 +140,7 @@ pairs-why P words names pairs unknown twice missing twice_too =
     (λ at at_word there. twice pair.0 (twice-among (another_pair words names) attribute_in (λ one. one.0) words
     (λ before item found gave. (pair-words words names before item found gave).0) pairs says.0 says.2 pair says.3 says.4
     says.5 at at_word there)))
-    (λ attribute ok. chain-why P (another_column names (map (λ one. one.1) says.3) pair.1) _
+    (λ attribute ok. chain-why P (another_master_column names (map (λ one. one.1) says.3) pair.1) _
     (another-why P names (map (λ one. one.1) says.3) pair.1 (NoColumn pair.1)
     (missing pair.1 (Contains-image column_in pairs pair listed))
     (λ at at_word there. twice_too pair.1 (twice-among (another_pair words names) column_in (λ one. one.1) names
@@ -187,7 +193,8 @@ derivation-why rows command edition version master pairs version_is master_is at
     chain-why P (some_or (edition_named rows.editions edition version) (NoSuch kind.Edition)) _
     (some_or-why P (edition_named rows.editions edition version) (NoSuch kind.Edition) (λ none.
     inr (inl ((edition, version), version_is, none))))
-    (λ at found. chain-why P (certainly (bound_at published at)) _ (certainly-why P (bound_at published at)) (λ bound is.
+    (λ at found. chain-why P (certainly (bound_at published at)) _ (certainly-why P (bound_at published at))
+    (λ bound is.
     let there = some_or-ok (edition_named rows.editions edition version) (NoSuch kind.Edition) at found in
     let about : IsAbout rows command at = inr (inl ((edition, version), version_is, there)) in
     let words : AreWords rows command bound.names.attributes = inl (record {
@@ -198,7 +205,8 @@ derivation-why rows command edition version master pairs version_is master_is at
       are = refl;
     }) in
     let row : EditionRow = edition_at published at in
-    let asks : AsksMaster rows command row master = record { place = at; about = about; is = refl; names = master_is } in
+    let asks : AsksMaster rows command row master =
+    record { place = at; about = about; is = refl; names = master_is } in
     chain-why P (master_of published row master) _ (master_of-why P published row master (λ none.
     inr (row, master, asks, none)))
     (λ sheet sheet_is. chain-why P (places_of bound.names.attributes sheet.columns pairs) _

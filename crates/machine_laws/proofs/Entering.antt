@@ -1,5 +1,6 @@
 -- The deeds that make sessions: Enter and Batch.
-use Rattle.std.proofs.Common.{◌≡◌, ◌∙◌, ℕ, zero, suc, ◌+◌, ◌<◌, ◌≤◌, ◌^◌, List, [], ◌∷◌, ◌++◌, length, get_or, map, Some, None, refl, sym, ap, subst, arith}
+use Rattle.std.proofs.Common.{◌≡◌, ◌∙◌, ℕ, zero, suc, ◌+◌, ◌<◌, ◌≤◌, ◌^◌, List, [], ◌∷◌, ◌++◌, length, get_or, map}
+use Rattle.std.proofs.Common.{Some, None, refl, sym, ap, subst, arith}
 use Rattle.std.specs.Prelude.{All, Ok, filter, slice_get, zip}
 use Rattle.std.proofs.lemmas.List.{append-nil, append_assoc, length-append, length-map}
 use Rattle.std.proofs.lemmas.List.Elements.{All-map}
@@ -19,7 +20,8 @@ use Rattle.desk_valid.specs.Bindings.{bound_at}
 use Rattle.desk_valid.specs.Rows.Batch.{IsBatchRow}
 use Rattle.desk_valid.specs.Rows.Session.{IsSessionRow}
 use Rattle.desk_valid.specs.Tallies.{active_count, bytes_in, text_bytes, typed_bytes}
-use Rattle.machine_core.specs.Checked.{Checked, ◌>>=◌, ◌>>◌, certainly, done, each, each_behind, some_or, value_or, Gives}
+use Rattle.machine_core.specs.Checked.{Checked, ◌>>=◌, ◌>>◌, certainly, done, each, each_behind, some_or, value_or}
+use Rattle.machine_core.specs.Checked.{Gives}
 use Rattle.machine_core.specs.declared.column.Column.{Column}
 use Rattle.machine_core.specs.Clerk.Batch.{another_column, enter_batch, is_confirmed, placed, row_session}
 use Rattle.machine_core.specs.Clerk.Enter.{enter, enter_row, new_session}
@@ -46,7 +48,8 @@ put_all-placed sessions [] count is = sym (append-nil sessions)
 put_all-placed sessions (session ∷ news) count is =
     let first : put sessions count session ≡ sessions ++ session ∷ [] =
     ap (λ place. put sessions place session) is ∙ put-end sessions session in
-    let longer : count + 1 ≡ length (sessions ++ session ∷ []) = omega (arith, is, length-append sessions (session ∷ [])) in
+    let longer : count + 1 ≡ length (sessions ++ session ∷ []) =
+    omega (arith, is, length-append sessions (session ∷ [])) in
     ap (λ list. put_all list (placed (count + 1) news)) first
     ∙ put_all-placed (sessions ++ session ∷ []) news (count + 1) longer ∙ append_assoc sessions (session ∷ []) news
 
@@ -60,11 +63,13 @@ PutsFit-placed sessions (session ∷ news) count is few =
     let length_is = length-append sessions (session ∷ []) in (
       (omega (arith, is), omega (arith, is, few)),
       subst (λ list. PutsFit list (placed (count + 1) news)) (sym first)
-          (PutsFit-placed (sessions ++ session ∷ []) news (count + 1) (omega (arith, is, length_is)) (omega (arith, few, length_is))),
+          (PutsFit-placed (sessions ++ session ∷ []) news (count + 1) (omega (arith, is, length_is))
+          (omega (arith, few, length_is))),
     )
 
 -- each row behind the others is one of those that came
-behind-all : {T : Type 0} (P : T → Type 0) (rows news : List T) → All P news → (place : ℕ) (row : T) → length rows ≤ place
+behind-all : {T : Type 0} (P : T → Type 0) (rows news : List T) → All P news → (place : ℕ) (row : T)
+    → length rows ≤ place
     → slice_get (rows ++ news) place ≡ Some row → P row
 behind-all P [] news all place row past stands =
     subst P (slice_get-read news place row row stands) (all place row (slice_get_within news place row stands))
@@ -100,7 +105,8 @@ module _ (published : Published) (own : Own) (good : IsGoodOwn published own) wh
       → Gives (enter published own edition cells confirmed) (Ok deed) → IsSoundDeed published own deed
   IsSoundDeed-enter name cells confirmed deed gives =
       let opening : SessionRow → Deed = λ session. puts (length own.sessions) session act.Opened in
-      let made = Gives-bind_ok (enter_row published own name cells confirmed) (λ session. done (opening session)) deed gives in
+      let made = Gives-bind_ok (enter_row published own name cells confirmed) (λ session. done (opening session)) deed
+      gives in
       let new : ℕ → Bound → List (ℕ × List ℕ) → List ℕ → SessionRow = λ edition bound texts places.
       new_session edition (length bound.names.attributes) texts places 0 in
       let bytes : SessionRow → Checked SessionRow = λ session.
@@ -116,18 +122,21 @@ module _ (published : Published) (own : Own) (good : IsGoodOwn published own) wh
       let edition = Gives-bind_ok (some_or (newest_edition published.editions name) (NoSuch kind.Edition)) (λ edition.
       certainly (bound_at published edition) >>= typing edition) made.0 made.1 in
       let bound = Gives-bind_ok (certainly (bound_at published edition.0)) (typing edition.0) made.0 edition.2 in
-      let texts = Gives-bind_ok (each (typed_cell bound.0.names.attributes) cells) (placing edition.0 bound.0) made.0 bound.2 in
+      let texts = Gives-bind_ok (each (typed_cell bound.0.names.attributes) cells) (placing edition.0 bound.0) made.0
+      bound.2 in
       let places = Gives-bind_ok (each (attribute_of bound.0.names.attributes) confirmed) (λ places.
       counting (new edition.0 bound.0 texts.0 places)) made.0 texts.2 in
       let session : SessionRow = new edition.0 bound.0 texts.0 places.0 in
       let active = Gives-bind_ok (within which.ActiveSessions (active_count own.sessions + 1)) (λ _. counted session)
       made.0 places.2 in
-      let count = Gives-bind_ok (within which.Sessions (length own.sessions + 1)) (λ _. bytes session) made.0 active.2 in
+      let count = Gives-bind_ok (within which.Sessions (length own.sessions + 1)) (λ _. bytes session) made.0
+      active.2 in
       let last = Gives-bind_ok (within which.Bytes (text_bytes own.sessions own.records + bytes_in session.typed))
       (λ _. done session) made.0 count.2 in
       subst (IsSoundDeed published own) (sym (done-value (opening made.0) deed made.2
       ∙ ap opening (done-value session made.0 last.2)))
-      (IsSoundDeed-opened edition.0 bound.0 texts.0 places.0 (certainly-ok (bound_at published edition.0) bound.0 bound.1)
+      (IsSoundDeed-opened edition.0 bound.0 texts.0 places.0
+      (certainly-ok (bound_at published edition.0) bound.0 bound.1)
       (within-ok which.Sessions (length own.sessions + 1) count.0 count.1))
 
   -- the deed of a Batch
@@ -142,7 +151,8 @@ module _ (published : Published) (own : Own) (good : IsGoodOwn published own) wh
 
   -- sessions on an edition behind the others, with their batch
   IsSoundDeed-entered : (edition : ℕ) (news : List SessionRow) → edition < length published.editions
-      → ((batches : List BatchRow) → length own.batches + 1 ≤ length batches → All (IsSessionRow published batches) news)
+      → ((batches : List BatchRow) → length own.batches + 1 ≤ length batches → All (IsSessionRow published batches)
+      news)
       → length own.sessions + length news ≤ 20000 → length own.batches + 1 < 2 ^ 31
       → IsSoundDeed published own (entering edition news)
   IsSoundDeed-entered edition news stands valid few short =
@@ -169,7 +179,8 @@ module _ (published : Published) (own : Own) (good : IsGoodOwn published own) wh
             (pushed (λ place. IsBatchRow published sessions) own.batches row good_row));
       }
 
-  pub IsSoundDeed-batch : (edition body : List ℕ) (deed : Deed) → Gives (enter_batch published own edition body) (Ok deed)
+  pub IsSoundDeed-batch : (edition body : List ℕ) (deed : Deed) → Gives (enter_batch published own edition body)
+      (Ok deed)
       → IsSoundDeed published own deed
   IsSoundDeed-batch name body deed gives =
       let news : ℕ → Bound → List Column → List (List (List ℕ)) → List SessionRow = λ edition bound columns rows.
@@ -182,7 +193,8 @@ module _ (published : Published) (own : Own) (good : IsGoodOwn published own) wh
         target = length own.batches;
       } in
       let bytes : ℕ → ℕ → List SessionRow → Checked Deed = λ edition count sessions.
-      within which.Bytes (text_bytes own.sessions own.records + typed_bytes sessions) >> done (made edition count sessions) in
+      within which.Bytes (text_bytes own.sessions own.records + typed_bytes sessions) >> done
+      (made edition count sessions) in
       let batches : ℕ → ℕ → List SessionRow → Checked Deed = λ edition count sessions.
       within which.Batches (length own.batches + 1) >> bytes edition count sessions in
       let counted : ℕ → ℕ → List SessionRow → Checked Deed = λ edition count sessions.
@@ -204,12 +216,15 @@ module _ (published : Published) (own : Own) (good : IsGoodOwn published own) wh
       (whole edition.0 bound.0 rows) deed sheet.2 in
       let sessions : List SessionRow = news edition.0 bound.0 columns.0 rows in
       let count : ℕ = length rows in
-      let few_rows = Gives-bind_ok (within which.BatchRows count) (λ _. counting edition.0 count sessions) deed columns.2 in
+      let few_rows = Gives-bind_ok (within which.BatchRows count) (λ _. counting edition.0 count sessions) deed
+      columns.2 in
       let active = Gives-bind_ok (within which.ActiveSessions (active_count own.sessions + count)) (λ _.
       counted edition.0 count sessions) deed few_rows.2 in
-      let few = Gives-bind_ok (within which.Sessions (length own.sessions + count)) (λ _. batches edition.0 count sessions)
+      let few = Gives-bind_ok (within which.Sessions (length own.sessions + count))
+      (λ _. batches edition.0 count sessions)
       deed active.2 in
-      let few_batches = Gives-bind_ok (within which.Batches (length own.batches + 1)) (λ _. bytes edition.0 count sessions)
+      let few_batches = Gives-bind_ok (within which.Batches (length own.batches + 1))
+      (λ _. bytes edition.0 count sessions)
       deed few.2 in
       let last = Gives-bind_ok (within which.Bytes (text_bytes own.sessions own.records + typed_bytes sessions)) (λ _.
       done (made edition.0 count sessions)) deed few_batches.2 in

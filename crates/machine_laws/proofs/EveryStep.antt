@@ -61,7 +61,8 @@ repeated-test false false true row ticket gives = refl
 repeated-test false false false row ticket gives = absurd (let same = done-value Fresh Repeated gives in cc)
 
 -- a repeat has the last number
-pub use-repeated : (row : ClerkRow) (ticket : Ticket) → Gives (use_of row ticket) (Ok Repeated) → ticket.number ≡ row.last
+pub use-repeated : (row : ClerkRow) (ticket : Ticket) → Gives (use_of row ticket) (Ok Repeated)
+    → ticket.number ≡ row.last
 use-repeated row ticket gives =
     let told = repeated-test (nat_lt ticket.number row.last) (nat_lt (row.last + 1) ticket.number)
     (ticket.number == row.last) row ticket gives in

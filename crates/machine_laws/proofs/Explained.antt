@@ -41,10 +41,12 @@ module _ (rows : Rows) (name : List ℕ) (number : ℕ) (word : List ℕ) where
       let state : State = state_of session in
       let words : List (List ℕ) = bound.names.attributes in
       let explaining : ℕ → Answer → Checked Explained = λ attribute answer.
-      fixed_at (end_of bound.kit state answer.first) attribute word >> explanation_of bound state answer.first attribute in
+      fixed_at (end_of bound.kit state answer.first) attribute word >> explanation_of bound state answer.first
+      attribute in
       let judged : ℕ → Answer → Checked Explained = λ attribute answer.
       not_in_conflict answer.verdict >> explaining attribute answer in
-      let attribute = Gives-bind_ok (attribute_of words word) (λ attribute. answer_for bound.kit state >>= judged attribute)
+      let attribute = Gives-bind_ok (attribute_of words word)
+      (λ attribute. answer_for bound.kit state >>= judged attribute)
       told gives in
       let answer = Gives-bind_ok (answer_for bound.kit state) (judged attribute.0) told attribute.2 in
       let fix = Gives-bind_ok (not_in_conflict answer.0.verdict) (λ _. explaining attribute.0 answer.0) told answer.2 in
@@ -90,7 +92,8 @@ module _ (rows : Rows) (name : List ℕ) (number : ℕ) (word : List ℕ) where
       subst (λ one. Gives (explain published own number word) (Ok one)) same found.1 in
       let session = Gives-bind_ok (session_of own.sessions number) (λ session. bound_for published session
       >>= (λ bound. explained_on bound session word)) told gives in
-      let bound = Gives-bind_ok (bound_for published session.0) (λ bound. explained_on bound session.0 word) told session.2 in
+      let bound = Gives-bind_ok (bound_for published session.0) (λ bound. explained_on bound session.0 word) told
+      session.2 in
       TellsReason-on is.place session.0 bound.0 told is.found
       (some_or-ok (session_at own.sessions number) (NoSuch kind.Session) session.0 session.1)
       (certainly-ok (bound_at published session.0.edition) bound.0 bound.1) bound.2

@@ -88,11 +88,12 @@ some-explanation kit state run attribute valid fits runs fixed =
 pub answer-given : (kit : Kit) (state : State) (answer : Answer) → Gives (answer_for kit state) (Ok answer)
     → IsAnswer kit state answer.first answer.second answer.verdict
 answer-given kit state answer gives =
-    subst (λ (one : Answer). IsAnswer kit state one.first one.second one.verdict) (sym (done-value gives.0 answer gives.2))
+    subst (λ (one : Answer). IsAnswer kit state one.first one.second one.verdict)
+    (sym (done-value gives.0 answer gives.2))
     gives.1
 
 -- whatever the answer is, its first run is a run
 pub answer-run : (kit : Kit) (state : State) (first second : List Step) (verdict : Verdict)
     → IsAnswer kit state first second verdict → IsRun kit state first
-answer-run kit state first second (Fix certain dissent) is = is.0.is_first.maximal.0
-answer-run kit state first second Conflict is = is.is_first.maximal.0
+answer-run kit state first second (Fix certain dissent) is = is.0.is_first.holds.0
+answer-run kit state first second Conflict is = is.is_first.holds.0

@@ -1,5 +1,6 @@
 -- What a clerk is answered is made of what was published and of the clerk's own rows.
-use Rattle.std.proofs.Common.{◌≡◌, ◌≢◌, ◌⊎◌, ◌∙◌, ℕ, ◌+◌, false, List, [], drop, Option, Some, None, inl, inr, refl, sym, ap, subst}
+use Rattle.std.proofs.Common.{◌≡◌, ◌≢◌, ◌⊎◌, ◌∙◌, ℕ, ◌+◌, false, List, [], drop, Option, Some, None, inl, inr, refl}
+use Rattle.std.proofs.Common.{sym, ap, subst}
 use Rattle.std.specs.Prelude.{Result, Ok, Err, option_map, position}
 use Rattle.std.specs.Str.{bytes_eq}
 use Rattle.std.proofs.lemmas.Bool.{cases_Bool}
@@ -18,9 +19,11 @@ use Rattle.desk_words.specs.declared.reply.Reply.TheVariants as reply
 use Rattle.desk_words.specs.Changes.{changed_all}
 use Rattle.desk_words.specs.Tables.{Published, Rows, published_of}
 use Rattle.desk_valid.specs.Valid.{AreValid}
-use Rattle.machine_core.specs.Checked.{Checked, done, refused, asked, advised, explained, derived, compared, never, ◌>>=◌, some_or, Gives}
+use Rattle.machine_core.specs.Checked.{Checked, done, refused, asked, advised, explained, derived, compared, never}
+use Rattle.machine_core.specs.Checked.{◌>>=◌, some_or, Gives}
 use Rattle.machine_core.specs.Deriving.{derived_sheet}
-use Rattle.machine_core.specs.Machine.{IsStep, answered, changes_if, clerk_of, clerk_write, clerk_write_at, deed_of, look_reply, machine}
+use Rattle.machine_core.specs.Machine.{IsStep, answered, changes_if, clerk_of, clerk_write, clerk_write_at, deed_of}
+use Rattle.machine_core.specs.Machine.{look_reply, machine}
 use Rattle.machine_core.specs.Own.{Own, after, changes_of, own_of}
 use Rattle.machine_core.specs.declared.ticket.Use.TheVariants.{Fresh}
 use Rattle.machine_core.specs.Ticket.{ticketed, use_of}
@@ -40,7 +43,8 @@ abbrev replied : {C : Type 0} → Checked (Reply × C) → Checked Reply
 replied made = made >>= (λ both. done both.0)
 
 -- the reply needs the place of the caller's row for nothing but the caller's rows
-replied-alone : {C D : Type 0} (places : Checked ℕ) (own : ℕ → Own) (write : Own → Checked (Reply × C)) (changes : ℕ → C → D)
+replied-alone : {C D : Type 0} (places : Checked ℕ) (own : ℕ → Own) (write : Own → Checked (Reply × C))
+    (changes : ℕ → C → D)
     → replied (places >>= (λ place. write (own place) >>= (λ both. done (both.0, changes place both.1))))
     ≡ ((places >>= (λ place. done (own place))) >>= (λ one. replied (write one)))
 replied-alone (done place) own write changes =
@@ -92,7 +96,8 @@ abbrev reply_result : Result (Reply × List Change) Refusal → Result Reply Ref
 reply_result (Ok made) = Ok made.0
 reply_result (Err refusal) = Err refusal
 
-replied-gives : (made : Checked (Reply × List Change)) (outcome : Result (Reply × List Change) Refusal) → Gives made outcome
+replied-gives : (made : Checked (Reply × List Change)) (outcome : Result (Reply × List Change) Refusal)
+    → Gives made outcome
     → Gives (replied made) (reply_result outcome)
 replied-gives made (Ok both) gives = Gives-bind made (λ two. done two.0) both (Ok both.0) gives refl
 replied-gives made (Err refusal) gives = Gives-bind_refused made (λ two. done two.0) refusal gives
@@ -138,7 +143,8 @@ module _ (name : List ℕ) (rows other : Rows) (alike : LookAlike name rows othe
 
   -- and so is a look
   pub same-look : (look : LookOf) (answer answer_too : Reply) (changes others : List Change)
-      → IsStep rows (Look name look) answer changes → IsStep other (Look name look) answer_too others → answer ≡ answer_too
+      → IsStep rows (Look name look) answer changes → IsStep other (Look name look) answer_too others
+      → answer ≡ answer_too
   same-look look answer answer_too changes others step step_too =
       let of_rows : (one : Rows) → replied (machine one (Look name look))
       ≡ reply_to_look (published_of one) (own_by one (clerk name)) look = λ one.
@@ -156,13 +162,15 @@ pub same-derived : (rows other : Rows) → published_of rows ≡ published_of ot
     → IsStep other (DeskDerive edition version master pairs) answer_too others → answer ≡ answer_too
 same-derived rows other same edition version master pairs answer answer_too changes others step step_too =
     let command : Command = DeskDerive edition version master pairs in
-    let of_published : Published → Checked Reply = λ published. replied (derived_sheet published edition version master pairs
+    let of_published : Published → Checked Reply = λ published.
+    replied (derived_sheet published edition version master pairs
     >>= (λ sheet. done (reply.Derived sheet, no_changes))) in
     same-answer (of_published (published_of rows)) rows other command answer answer_too changes others refl
     (ap of_published (sym same)) step step_too
 
 -- a clerk's own rows after a new write
-pub own_by-new : (rows : Rows) (name : List ℕ) (ticket : Ticket) (work : ClerkWork) (answer : Reply) (changes : List Change)
+pub own_by-new : (rows : Rows) (name : List ℕ) (ticket : Ticket) (work : ClerkWork) (answer : Reply)
+    (changes : List Change)
     → (valid : AreValid rows) → (new : IsNew rows name ticket work answer changes)
     → own_by (changed_all rows changes) (clerk name) ≡ done (own_after (own_of rows new.place) ticket new.deed)
 own_by-new rows name ticket work answer changes valid new =
@@ -191,13 +199,16 @@ new-alike name rows other ticket work answer answer_too changes others valid val
     let made : Reply × List Change = (answer, changes_of there.0 own_too.row ticket new.deed) in
     let Used : Own → Type 0 = λ one. Gives (use_of one.row ticket) (Ok Fresh) in
     let Does : Published → Own → Type 0 = λ published one. Gives (deed_of published one work) (Ok new.deed) in
-    let Keeps : Published → Own → Type 0 = λ published one. Gives (kept_reply published (after one new.deed) new.deed.act
+    let Keeps : Published → Own → Type 0 = λ published one.
+    Gives (kept_reply published (after one new.deed) new.deed.act
     new.deed.target) (Ok answer) in
     let used : Used own_too = subst Used (sym there.2) new.use_made in
     let does : Does (published_of other) own_too =
-    subst (λ published. Does published own_too) alike.published (subst (Does (published_of rows)) (sym there.2) new.does) in
+    subst (λ published. Does published own_too) alike.published
+    (subst (Does (published_of rows)) (sym there.2) new.does) in
     let kept : Keeps (published_of other) own_too =
-    subst (λ published. Keeps published own_too) alike.published (subst (Keeps (published_of rows)) (sym there.2) new.kept) in
+    subst (λ published. Keeps published own_too) alike.published
+    (subst (Keeps (published_of rows)) (sym there.2) new.kept) in
     let at_turn : Gives (clerk_write_at (published_of other) own_too work Fresh) (Ok (answer, Some new.deed)) =
     Gives-bind (deed_of (published_of other) own_too work) (λ deed. kept_reply (published_of other) (after own_too deed)
     deed.act deed.target >>= (λ one. done (one, Some deed))) new.deed (Ok (answer, Some new.deed)) does
@@ -231,14 +242,16 @@ new-alike name rows other ticket work answer answer_too changes others valid val
     ∙ sym (own_by-new rows name ticket work answer changes valid new)
 
 -- what was published stays where a clerk writes
-pub published-new : (rows : Rows) (name : List ℕ) (ticket : Ticket) (work : ClerkWork) (answer : Reply) (changes : List Change)
+pub published-new : (rows : Rows) (name : List ℕ) (ticket : Ticket) (work : ClerkWork) (answer : Reply)
+    (changes : List Change)
     → (valid : AreValid rows) → IsNew rows name ticket work answer changes
     → published_of (changed_all rows changes) ≡ published_of rows
 published-new rows name ticket work answer changes valid new =
     ap published_of (after-clerk rows valid name ticket work answer changes new)
 
 -- a clerk's write that is accepted is a new one
-pub write-cases : (rows : Rows) (name : List ℕ) (ticket : Ticket) (work : ClerkWork) (answer : Reply) (changes : List Change)
+pub write-cases : (rows : Rows) (name : List ℕ) (ticket : Ticket) (work : ClerkWork) (answer : Reply)
+    (changes : List Change)
     → IsStep rows (Clerk name ticket work) answer changes → (changes ≡ []) ⊎ IsNew rows name ticket work answer changes
 write-cases rows name ticket work answer changes step =
     subst (λ (both : Reply × List Change). (both.1 ≡ []) ⊎ IsNew rows name ticket work both.0 both.1) (sym step.answers)
@@ -272,7 +285,8 @@ write-alike name rows other ticket work answer answer_too changes others valid v
       | inr new ↦ record {
         published = published-new rows name ticket work answer changes valid new ∙ alike.published
             ∙ sym (published-either (write-cases other name ticket work answer_too others step_too));
-        own = sym (new-alike name rows other ticket work answer answer_too changes others valid valid_too alike new step_too);
+        own = sym (new-alike name rows other ticket work answer answer_too changes others valid valid_too alike new
+            step_too);
       }
     ]
   where
@@ -288,7 +302,8 @@ write-alike name rows other ticket work answer answer_too changes others valid v
 
 -- a clerk's own rows are those of the place that is found
 own_by-places : (found : Option ℕ) (one other : ℕ → Own) → ((place : ℕ) → found ≡ Some place → one place ≡ other place)
-    → (some_or found NoClerk >>= (λ place. done (one place))) ≡ (some_or found NoClerk >>= (λ place. done (other place)))
+    → (some_or found NoClerk >>= (λ place. done (one place)))
+    ≡ (some_or found NoClerk >>= (λ place. done (other place)))
 own_by-places None one other same = refl
 own_by-places (Some place) one other same = ap (λ own. done own) (same place refl)
 
@@ -297,20 +312,23 @@ pub own_by-same : (name : List ℕ) (rows other : Rows) → names_of other.clerk
     → ((place : ℕ) → clerk_of rows.clerks name ≡ done place → own_of rows place ≡ own_of other place)
     → own_by rows (clerk name) ≡ own_by other (clerk name)
 own_by-same name rows other names same =
-    let found : Option ℕ = option_map (λ place. place + 1) (position (λ row. bytes_eq row.name name) (drop 1 rows.clerks)) in
+    let found : Option ℕ = option_map (λ place. place + 1)
+    (position (λ row. bytes_eq row.name name) (drop 1 rows.clerks)) in
     own_by-places found (own_of rows) (own_of other) (λ place is. same place (ap (λ one. some_or one NoClerk) is))
     ∙ ap (λ one. one >>= (λ place. done (own_of other place))) (sym (clerk_of-same rows.clerks other.clerks name names))
 
 -- a clerk's write leaves the names, and the steward's row
-pub clerk-names : (rows : Rows) (name : List ℕ) (ticket : Ticket) (work : ClerkWork) (answer : Reply) (changes : List Change)
+pub clerk-names : (rows : Rows) (name : List ℕ) (ticket : Ticket) (work : ClerkWork) (answer : Reply)
+    (changes : List Change)
     → AreValid rows → IsStep rows (Clerk name ticket work) answer changes
     → names_of (changed_all rows changes).clerks ≡ names_of rows.clerks
-clerk-names rows name ticket work answer changes valid step = elim (write-cases rows name ticket work answer changes step) [
-  | inl none ↦ ap (λ made. names_of (changed_all rows made).clerks) none
-  | inr new ↦ ap (λ (one : Rows). names_of one.clerks) (after-clerk rows valid name ticket work answer changes new)
-      ∙ names-set rows new.place (ticketed (own_of rows new.place).row ticket new.deed.act new.deed.target)
-      new.is_place.within refl
-]
+clerk-names rows name ticket work answer changes valid step =
+    elim (write-cases rows name ticket work answer changes step) [
+      | inl none ↦ ap (λ made. names_of (changed_all rows made).clerks) none
+      | inr new ↦ ap (λ (one : Rows). names_of one.clerks) (after-clerk rows valid name ticket work answer changes new)
+          ∙ names-set rows new.place (ticketed (own_of rows new.place).row ticket new.deed.act new.deed.target)
+          new.is_place.within refl
+    ]
 
 pub clerk-published : (rows : Rows) (name : List ℕ) (ticket : Ticket) (work : ClerkWork) (answer : Reply)
     (changes : List Change) → AreValid rows → IsStep rows (Clerk name ticket work) answer changes

@@ -1,5 +1,6 @@
 -- The kept reply stays where more is published.
-use Rattle.std.proofs.Common.{◌≡◌, ◌∙◌, ℕ, ◌+◌, ◌-◌, ◌<◌, ◌≤◌, List, [], ◌∷◌, length, get_or, take, drop, Option, Some, None, refl, sym, ap, arith}
+use Rattle.std.proofs.Common.{◌≡◌, ◌∙◌, ℕ, ◌+◌, ◌-◌, ◌<◌, ◌≤◌, List, [], ◌∷◌, length, get_or, take, drop, Option, Some}
+use Rattle.std.proofs.Common.{None, refl, sym, ap, arith}
 use Rattle.std.specs.Prelude.{All, option_and_then, option_map, slice_get}
 use Rattle.std.proofs.lemmas.List.{length-map}
 use Rattle.std.proofs.lemmas.List.Elements.{All-drop, All-head, All-tail, All-take}
@@ -38,7 +39,8 @@ use Rattle.machine_laws.proofs.Sessions.{session_at-found}
 
 module _ (rows : Rows) (valid : AreValid rows) (other : Published) (more : AreMore (published_of rows) other) where
   -- the kit of an edition
-  pub bound_at-more : (place : ℕ) → place < length rows.editions → bound_at other place ≡ bound_at (published_of rows) place
+  pub bound_at-more : (place : ℕ) → place < length rows.editions → bound_at other place ≡ bound_at (published_of rows)
+      place
   bound_at-more place within =
       let here = slice_get-there rows.editions place within in
       let good : IsEditionRow (published_of rows) place here.0 = valid.editions place here.0 here.1 in
@@ -50,12 +52,14 @@ module _ (rows : Rows) (valid : AreValid rows) (other : Published) (more : AreMo
       ∙ sym (ap (option_and_then (bound_in (published_of rows))) here.1)
 
   -- its name
-  pub edition_at-more : (place : ℕ) → place < length rows.editions → edition_at other place ≡ edition_at (published_of rows) place
+  pub edition_at-more : (place : ℕ) → place < length rows.editions → edition_at other place ≡ edition_at
+      (published_of rows) place
   edition_at-more place within =
       let here = slice_get-there rows.editions place within in
       let there : slice_get other.editions place ≡ Some here.0 =
       slice_get-begins rows.editions other.editions more.editions place within ∙ here.1 in
-      slice_get-read other.editions place here.0 no_edition there ∙ sym (slice_get-read rows.editions place here.0 no_edition
+      slice_get-read other.editions place here.0 no_edition there
+      ∙ sym (slice_get-read rows.editions place here.0 no_edition
       here.1)
     where
       no_edition : EditionRow
@@ -67,9 +71,11 @@ module _ (rows : Rows) (valid : AreValid rows) (other : Published) (more : AreMo
   view_of-more number session within =
       let bound = bound_at-more session.edition within in
       let edition = edition_at-more session.edition within in
-      let shown : EditionRow → Bound → Answer → _ = λ row bound answer. record (view_with (published_of rows) number session
+      let shown : EditionRow → Bound → Answer → _ = λ row bound answer.
+      record (view_with (published_of rows) number session
       bound answer) { edition = row.name; version = row.version } in
-      λ i. certainly (bound i) >>= (λ kit. answer_for kit.kit (state_of session) >>= (λ answer. done (shown (edition i) kit
+      λ i. certainly (bound i) >>= (λ kit. answer_for kit.kit (state_of session) >>=
+      (λ answer. done (shown (edition i) kit
       answer)))
 
   -- what the rules make of a session
@@ -90,7 +96,8 @@ module _ (rows : Rows) (valid : AreValid rows) (other : Published) (more : AreMo
   module _ (own : Own) (are : AreOwnRows (published_of rows) own.sessions own.records own.batches) where
     within-editions : All (λ session. session.edition < length rows.editions) own.sessions
     within-editions index past inside =
-        (are.sessions_valid index (get_or own.sessions index past) (slice_get-get_or own.sessions index past inside)).edition
+        (are.sessions_valid index (get_or own.sessions index past)
+        (slice_get-get_or own.sessions index past inside)).edition
 
     pub view_at-more : (number : ℕ) → view_at other own number ≡ view_at (published_of rows) own number
     view_at-more number = found (session_at own.sessions number) (λ session is.
@@ -117,7 +124,8 @@ module _ (rows : Rows) (valid : AreValid rows) (other : Published) (more : AreMo
         found None = refl
         found (Some row) = rw (each-more (take row.count (drop (row.first - 1) own.sessions))
             (All-take (λ session. session.edition < length rows.editions) row.count (drop (row.first - 1) own.sessions)
-            (All-drop (λ session. session.edition < length rows.editions) (row.first - 1) own.sessions within-editions))) refl
+            (All-drop (λ session. session.edition < length rows.editions) (row.first - 1) own.sessions
+            within-editions))) refl
     kept_reply-more act.Nothing target = refl
     kept_reply-more act.Clerk target = refl
     kept_reply-more act.Schema target = refl
@@ -149,7 +157,8 @@ module _ (rows other : Rows) (valid : AreValid rows) (more : AreMore (published_
   kept_made-more act.Clerk target has =
       let name_in : ClerkRow → List ℕ = λ row. row.name in
       let within : target < length (names_of rows.clerks) = omega (arith, has.1, length-map rows.clerks name_in) in
-      let same : option_map name_in (slice_get other.clerks target) ≡ option_map name_in (slice_get rows.clerks target) =
+      let same : option_map name_in (slice_get other.clerks target) ≡ option_map name_in (slice_get rows.clerks target)
+      =
       sym (slice_get-map name_in other.clerks target)
       ∙ slice_get-begins (names_of rows.clerks) (names_of other.clerks) names target within
       ∙ slice_get-map name_in rows.clerks target in

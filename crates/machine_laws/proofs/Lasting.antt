@@ -1,5 +1,6 @@
 -- What a look at a Carry is told holds until the clerk's next accepted write.
-use Rattle.std.proofs.Common.{◌≡◌, ◌⊎◌, ◌∙◌, ℕ, ◌<◌, true, false, List, [], ◌∷◌, ◌++◌, length, Some, inl, refl, sym, ap, subst, arith}
+use Rattle.std.proofs.Common.{◌≡◌, ◌⊎◌, ◌∙◌, ℕ, ◌<◌, true, false, List, [], ◌∷◌, ◌++◌, length, Some, inl, refl, sym, ap}
+use Rattle.std.proofs.Common.{subst, arith}
 use Rattle.std.specs.Prelude.{◌==◌, ◌&&◌, All, Ok}
 use Rattle.std.specs.Str.{bytes_eq}
 use Rattle.std.proofs.lemmas.Bool.Decides.{nat_tests}
@@ -89,7 +90,8 @@ module _ (rows : Rows) (valid : AreValid rows) (other : Published) (more : AreMo
         record {
           moved = is.moved;
           carries = carry_row-more is.moved is.carries;
-          before = subst (λ one. Gives one (Ok carried.before)) (sym (view_at-more rows valid other more own are number))
+          before = subst (λ one. Gives one (Ok carried.before))
+              (sym (view_at-more rows valid other more own are number))
               is.before;
           behind = subst (λ one. Gives one (Ok carried.after))
               (sym (view_of-more rows valid other more number is.moved within)) is.behind;

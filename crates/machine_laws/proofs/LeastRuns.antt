@@ -1,5 +1,6 @@
 -- The least step, and the least maximal run whose end passes a test: they are found, or there is none.
-use Rattle.std.proofs.Common.{◌≡◌, ◌⊎◌, ◌<◌, ◌≤◌, ℕ, zero, suc, List, [], ◌∷◌, length, inl, inr, refl, sym, subst, arith}
+use Rattle.std.proofs.Common.{◌≡◌, ◌⊎◌, ◌<◌, ◌≤◌, ℕ, zero, suc, List, [], ◌∷◌, length, inl, inr, refl, sym, subst}
+use Rattle.std.proofs.Common.{arith}
 use Rattle.fix_model.specs.declared.kit.Kit.{Kit}
 use Rattle.fix_model.specs.declared.state.State.{State}
 use Rattle.fix_model.specs.declared.state.Step.{Step}

@@ -1,8 +1,10 @@
 -- Lists of rows: what stands at a place, what each row is, and lists that begin alike.
-use Rattle.std.proofs.Common.{◌≡◌, ◌≢◌, ◌∙◌, ℕ, zero, suc, ◌<◌, ◌≤◌, Bool, true, false, cond, List, [], ◌∷◌, ◌++◌, length, get_or, map, set, take, Some, None, inl, inr, refl, sym, ap, subst, arith}
+use Rattle.std.proofs.Common.{◌≡◌, ◌≢◌, ◌∙◌, ℕ, zero, suc, ◌<◌, ◌≤◌, Bool, true, false, cond, List, [], ◌∷◌, ◌++◌}
+use Rattle.std.proofs.Common.{length, get_or, map, set, take, Some, None, inl, inr, refl, sym, ap, subst, arith}
 use Rattle.std.specs.Prelude.{All, Contains, find, slice_get}
 use Rattle.std.proofs.lemmas.Bool.{cases_Bool, cases_eq, cases_lt}
-use Rattle.std.proofs.lemmas.List.{append-nil, get_or-map, get_or-set_other, get_or-set_same, get_or_at, get_or_past, get_or_append_left, length-append, length-map, length-set, take-append-le}
+use Rattle.std.proofs.lemmas.List.{append-nil, get_or-map, get_or-set_other, get_or-set_same, get_or_at, get_or_past}
+use Rattle.std.proofs.lemmas.List.{get_or_append_left, length-append, length-map, length-set, take-append-le}
 use Rattle.std.proofs.lemmas.List.Elements.{All-cons, All-nil}
 use Rattle.std.proofs.lemmas.Option.{same_Some, slice_get_within}
 use Rattle.desk_words.specs.Tables.{list_at}
@@ -95,7 +97,8 @@ pub EachAt-begins : {T : Type 0} (P Q : ℕ → T → Type 0) (rows others : Lis
     → ((place : ℕ) (row : T) → length rows ≤ place → slice_get others place ≡ Some row → Q place row)
     → EachAt others Q
 EachAt-begins P Q rows others begins each more behind place row stands = elim (cases_lt place (length rows)) [
-  | inl within ↦ more place row within (each place row (sym (slice_get-begins rows others begins place within) ∙ stands))
+  | inl within ↦ more place row within
+      (each place row (sym (slice_get-begins rows others begins place within) ∙ stands))
   | inr past ↦ behind place row past stands
 ]
 
@@ -134,7 +137,8 @@ pub list_at-set_other : {T : Type 0} (lists : List (List T)) (clerk other : ℕ)
 list_at-set_other lists clerk other list apart = get_or-set_other lists clerk other list [] apart
 
 -- an empty list more changes no clerk's list
-pub list_at-push : {T : Type 0} (lists : List (List T)) (clerk : ℕ) → list_at (lists ++ [] ∷ []) clerk ≡ list_at lists clerk
+pub list_at-push : {T : Type 0} (lists : List (List T)) (clerk : ℕ) → list_at (lists ++ [] ∷ []) clerk ≡ list_at lists
+    clerk
 list_at-push lists clerk = elim (cases_lt clerk (length lists)) [
   | inl within ↦ get_or_append_left lists ([] ∷ []) [] clerk within
   | inr past ↦ elim (cases_eq clerk (length lists)) [

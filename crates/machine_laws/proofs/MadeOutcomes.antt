@@ -1,12 +1,13 @@
 -- What the steward publishes comes to a result over valid tables, and is told.
-use Rattle.std.proofs.Common.{◌≡◌, ◌∙◌, ℕ, ◌+◌, ◌<◌, List, [], ◌∷◌, length, map, Option, Some, None, refl, sym, ap, subst, arith}
+use Rattle.std.proofs.Common.{◌≡◌, ◌∙◌, ℕ, ◌+◌, ◌<◌, List, [], ◌∷◌, length, map, Option, Some, None, refl, sym, ap}
+use Rattle.std.proofs.Common.{subst, arith}
 use Rattle.std.specs.Prelude.{◌==◌, All, Ok, find, option_and_then, option_map, slice_get, zip}
 use Rattle.std.specs.Str.{bytes_eq}
 use Rattle.std.proofs.lemmas.List.Elements.{All-cons, All-nil}
 use Rattle.master_rows.specs.declared.master.Master.{Master}
 use Rattle.fix_model.specs.Regions.{row_state}
-use Rattle.region_suggest.proofs.Lists.{All-Contains}
-use Rattle.region_suggest.proofs.Rows.{Fits-row}
+use Rattle.fix_engine.proofs.Lists.{All-Contains}
+use Rattle.fix_engine.proofs.Rows.{Fits-row}
 use Rattle.desk_words.specs.declared.limit.Which.TheVariants as which
 use Rattle.desk_words.specs.declared.refusal.Kind.TheVariants as kind
 use Rattle.desk_words.specs.declared.refusal.Refusal.TheVariants.{NoSuch, RowWidth}
@@ -16,7 +17,8 @@ use Rattle.desk_words.specs.declared.rows.edition.EditionRow.{EditionRow}
 use Rattle.desk_words.specs.declared.rows.master.MasterRow.{MasterRow}
 use Rattle.desk_words.specs.declared.rows.region.RegionRow.{RegionRow}
 use Rattle.desk_words.specs.declared.steward_work.StewardWork.{StewardWork}
-use Rattle.desk_words.specs.declared.steward_work.StewardWork.TheVariants.{AddClerk, AddSchema, AddMaster, AddRulebook, AddEdition, AddRegion, AddDerived}
+use Rattle.desk_words.specs.declared.steward_work.StewardWork.TheVariants.{AddClerk, AddSchema, AddMaster, AddRulebook}
+use Rattle.desk_words.specs.declared.steward_work.StewardWork.TheVariants.{AddEdition, AddRegion, AddDerived}
 use Rattle.desk_words.specs.Tables.{Rows, published_of}
 use Rattle.desk_valid.specs.declared.bound.Bound.{Bound}
 use Rattle.desk_valid.specs.declared.parts.Parts.{Parts}
@@ -27,11 +29,13 @@ use Rattle.desk_valid.specs.Valid.{AreValid}
 use Rattle.desk_valid.proofs.Kits.{masters-read, rules-read}
 use Rattle.machine_core.specs.Checked.{certainly, each_behind, Gives}
 use Rattle.machine_core.specs.declared.derivation.Derivation.{Derivation}
-use Rattle.machine_core.specs.Deriving.{another_column, another_pair, derivation_of, derived_rows, derived_sheet, master_of}
+use Rattle.machine_core.specs.Deriving.{another_master_column, another_pair, derivation_of, derived_rows}
+use Rattle.machine_core.specs.Deriving.{derived_sheet, master_of}
 use Rattle.machine_core.specs.Finding.{edition_named, rulebook_named, schema_named}
 use Rattle.machine_core.specs.Kept.{kept_made, region_made}
 use Rattle.machine_core.specs.Machine.{making_of}
-use Rattle.machine_core.specs.Steward.AddEdition.{AreOthers, another_master, bindable, in_order, master_name, narrow, next_edition}
+use Rattle.machine_core.specs.Steward.AddEdition.{AreOthers, another_master, bindable, in_order, master_name, narrow}
+use Rattle.machine_core.specs.Steward.AddEdition.{next_edition}
 use Rattle.machine_core.specs.Steward.AddRegion.{full_row, full_rows, region_count, short_text}
 use Rattle.machine_core.specs.Tests.{another_attribute, proper_name}
 use Rattle.machine_core.specs.Views.{edition_at}
@@ -43,7 +47,9 @@ use Rattle.machine_laws.proofs.Callers.{IsDone}
 use Rattle.machine_laws.proofs.DeedOutcomes.{named-within}
 use Rattle.machine_laws.proofs.Lists.{find-Some, slice_get-read, slice_get-there}
 use Rattle.machine_laws.proofs.Makings.{place_of-within}
-use Rattle.machine_laws.proofs.Outcomes.{HasOutcome, outcome-all, outcome-answer, outcome-behind, outcome-bind, outcome-certainly, outcome-done, outcome-rows, outcome-some_or, outcome-unless, outcome-within, plain_tests}
+use Rattle.machine_laws.proofs.Outcomes.{HasOutcome, outcome-all, outcome-answer, outcome-behind, outcome-bind}
+use Rattle.machine_laws.proofs.Outcomes.{outcome-certainly, outcome-done, outcome-rows, outcome-some_or, outcome-unless}
+use Rattle.machine_laws.proofs.Outcomes.{outcome-within, plain_tests}
 use Rattle.machine_laws.proofs.OwnOutcomes.{outcome-bound}
 
 -- a name is tested
@@ -56,7 +62,8 @@ outcome-another : (words : List (List ℕ)) (before : List ℕ) (word : List ℕ
 outcome-another words before word = search plain_tests
 
 -- a column that none before it is
-outcome-column : (names : List (List ℕ)) (before : List ℕ) (word : List ℕ) → HasOutcome (another_column names before word)
+outcome-column : (names : List (List ℕ)) (before : List ℕ) (word : List ℕ)
+    → HasOutcome (another_master_column names before word)
 outcome-column names before word = search plain_tests
 
 -- a master under another name
@@ -100,7 +107,8 @@ module _ (rows : Rows) (valid : AreValid rows) where
       (ap (option_and_then schema_in) row.1 ∙ good.reads)
 
   -- and so does a master
-  master-there : (place : ℕ) → place < length rows.masters → HasOutcome (certainly (master_at (published_of rows) place))
+  master-there : (place : ℕ) → place < length rows.masters
+      → HasOutcome (certainly (master_at (published_of rows) place))
   master-there place within =
       let Within : ℕ → Type 0 = λ one. one < length rows.masters in
       let one = masters-read rows valid (place ∷ []) (All-cons Within place [] within (All-nil Within)) in
@@ -167,9 +175,11 @@ module _ (rows : Rows) (valid : AreValid rows) where
       outcome-bind (outcome-some_or (find (λ place. bytes_eq (master_name rows.masters place) name) row.masters)
       (NoSuch kind.Master)) (λ place found.
       let listed = find-Some (λ place. bytes_eq (master_name rows.masters place) name) row.masters place
-      (some_or-ok (find (λ place. bytes_eq (master_name rows.masters place) name) row.masters) (NoSuch kind.Master) place
+      (some_or-ok (find (λ place. bytes_eq (master_name rows.masters place) name) row.masters) (NoSuch kind.Master)
+      place
       found) in
-      outcome-bind (master-there place (All-Contains (λ one. one < length rows.masters) row.masters place stand listed.0))
+      outcome-bind (master-there place
+      (All-Contains (λ one. one < length rows.masters) row.masters place stand listed.0))
       (λ sheet reads. outcome-done _))
 
   -- what a derivation is asked of
@@ -177,8 +187,10 @@ module _ (rows : Rows) (valid : AreValid rows) where
       → HasOutcome (derivation_of (published_of rows) edition version master pairs)
   outcome-derivation edition version master pairs = outcome-bind
       (outcome-some_or (edition_named rows.editions edition version) (NoSuch kind.Edition)) (λ place found.
-      outcome-bind (outcome-bound rows valid place (named-within rows valid edition version place found)) (λ bound binds.
-      outcome-bind (outcome-master_of place bound master (certainly-ok (bound_at (published_of rows) place) bound binds))
+      outcome-bind (outcome-bound rows valid place (named-within rows valid edition version place found))
+      (λ bound binds.
+      outcome-bind (outcome-master_of place bound master
+      (certainly-ok (bound_at (published_of rows) place) bound binds))
       (λ sheet ok.
       outcome-bind (outcome-bind (outcome-behind [] _ pairs (outcome-pair bound.names.attributes sheet.columns))
       (λ places all_ok. outcome-done _)) (λ places all_ok. outcome-done _))))
@@ -186,7 +198,8 @@ module _ (rows : Rows) (valid : AreValid rows) where
   -- and its rows
   outcome-derived : (derivation : Derivation) (edition : derivation.edition < length rows.editions)
       → HasOutcome (derived_rows (published_of rows) derivation)
-  outcome-derived derivation edition = outcome-bind (outcome-bound rows valid derivation.edition edition) (λ bound binds.
+  outcome-derived derivation edition = outcome-bind (outcome-bound rows valid derivation.edition edition)
+      (λ bound binds.
       outcome-rows bound.kit derivation.grid derivation.attributes derivation.columns
       (named-kit rows derivation.edition bound valid
       (certainly-ok (bound_at (published_of rows) derivation.edition) bound binds)).valid)
@@ -195,7 +208,8 @@ module _ (rows : Rows) (valid : AreValid rows) where
   pub outcome-sheet : (edition : List ℕ) (version : ℕ) (master : List ℕ) (pairs : List (List ℕ × List ℕ))
       → HasOutcome (derived_sheet (published_of rows) edition version master pairs)
   outcome-sheet edition version master pairs = outcome-bind (outcome-derivation edition version master pairs)
-      (λ derivation found. outcome-bind (outcome-derived derivation (derivation-derivable rows edition version master pairs
+      (λ derivation found. outcome-bind
+      (outcome-derived derivation (derivation-derivable rows edition version master pairs
       derivation valid found).edition) (λ all ok. outcome-done _))
 
   -- what was published is told

@@ -1,5 +1,6 @@
 -- What the steward makes is good where it is put: schemas, masters, rulebooks and clerks.
-use Rattle.std.proofs.Common.{◌≡◌, ◌≢◌, ◌∙◌, ℕ, ◌+◌, ◌<◌, ◌≤◌, Bool, List, [], ◌∷◌, ◌++◌, length, get_or, Some, refl, sym, ap, subst, arith}
+use Rattle.std.proofs.Common.{◌≡◌, ◌≢◌, ◌∙◌, ℕ, ◌+◌, ◌<◌, ◌≤◌, Bool, List, [], ◌∷◌, ◌++◌, length, get_or, Some, refl}
+use Rattle.std.proofs.Common.{sym, ap, subst, arith}
 use Rattle.std.specs.Prelude.{◌&&◌, ◌==◌, All, IfSome, IsSome, IsTrue, Ok, count_by, not, slice_get}
 use Rattle.std.specs.List.{list_any}
 use Rattle.std.specs.Str.{bytes_eq}
@@ -70,7 +71,8 @@ pub record IsSoundMaking (rows : Rows) (making : Making) : Type 0 where
   pub is_done : IsDone (changed rows making.change) 0 making.act making.target
 
 -- a row behind the others has the next version of its name
-pub IsVersion-next : {T : Type 0} (name_of : T → List ℕ) (rows : List T) (row : T) (name : List ℕ) → IsTrue (is_name name)
+pub IsVersion-next : {T : Type 0} (name_of : T → List ℕ) (rows : List T) (row : T) (name : List ℕ)
+    → IsTrue (is_name name)
     → IsVersion name_of (rows ++ row ∷ []) (length rows) name (next_version name_of rows name)
 IsVersion-next name_of rows row name named = record {
   named = named;
@@ -169,7 +171,8 @@ module _ (rows : Rows) (valid : AreValid rows) where
       let row = Gives-bind_ok (schema_row rows.schemas body) (λ row. done (made_of row)) making gives in
       let schema = Gives-bind_ok (value_or (schema_of body) schema_refusal) (λ schema. within which.Schemas
       (length rows.schemas + 1) >> done (row_of schema)) row.0 row.1 in
-      let few = Gives-bind_ok (within which.Schemas (length rows.schemas + 1)) (λ _. done (row_of schema.0)) row.0 schema.2 in
+      let few = Gives-bind_ok (within which.Schemas (length rows.schemas + 1)) (λ _. done (row_of schema.0)) row.0
+      schema.2 in
       let reads = value_or-ok (schema_of body) schema_refusal schema.0 schema.1 in
       subst (IsSoundMaking rows) (sym (done-value (made_of row.0) making row.2
       ∙ ap made_of (done-value (row_of schema.0) row.0 few.2)))
@@ -226,13 +229,15 @@ module _ (rows : Rows) (valid : AreValid rows) where
       let counting : Master → Checked MasterRow = λ master.
       within which.Masters (length rows.masters + 1) >> counted master in
       let row = Gives-bind_ok (master_row rows.masters name body) (λ row. done (made_of row)) making gives in
-      let named = Gives-bind_ok (tests.proper_name name) (λ _. value_or (read_sheet body) sheet_refusal >>= counting) row.0
+      let named = Gives-bind_ok (tests.proper_name name) (λ _. value_or (read_sheet body) sheet_refusal >>= counting)
+      row.0
       row.1 in
       let master = Gives-bind_ok (value_or (read_sheet body) sheet_refusal) counting row.0 named.2 in
       let few = Gives-bind_ok (within which.Masters (length rows.masters + 1)) (λ _. counted master.0) row.0 master.2 in
       let last = Gives-bind_ok (within which.MasterCells (cells master.0)) (λ _. done new) row.0 few.2 in
       let reads = value_or-ok (read_sheet body) sheet_refusal master.0 master.1 in
-      subst (IsSoundMaking rows) (sym (done-value (made_of row.0) making row.2 ∙ ap made_of (done-value new row.0 last.2)))
+      subst (IsSoundMaking rows) (sym
+      (done-value (made_of row.0) making row.2 ∙ ap made_of (done-value new row.0 last.2)))
       (IsSoundMaking-master new (within-ok which.Masters (length rows.masters + 1) few.0 few.1) (record {
         version = IsVersion-next (λ row. row.name) rows.masters new name (name-ok name named.0 named.1);
         reads = rw reads refl;
@@ -240,7 +245,8 @@ module _ (rows : Rows) (valid : AreValid rows) where
 
   -- a new rulebook
   IsSoundMaking-rulebook : (row : RulebookRow) → length rows.rulebooks + 1 ≤ 128
-      → IsRulebookRow (record (published_of rows) { rulebooks = rows.rulebooks ++ row ∷ [] }) (length rows.rulebooks) row
+      → IsRulebookRow (record (published_of rows) { rulebooks = rows.rulebooks ++ row ∷ [] }) (length rows.rulebooks)
+      row
       → IsSoundMaking rows (record { change = change.Rulebook row; act = act.Rulebook; target = length rows.rulebooks })
   IsSoundMaking-rulebook row few good =
       let published : Published = record (published_of rows) { rulebooks = rows.rulebooks ++ row ∷ [] } in
@@ -288,23 +294,28 @@ module _ (rows : Rows) (valid : AreValid rows) where
       value_or (read_rules body schema) rules_refusal >>= (λ rulebook. counted place) in
       let over : ℕ → Checked RulebookRow = λ place.
       certainly (schema_at (published_of rows) place) >>= reading place in
-      let row = Gives-bind_ok (rulebook_row (published_of rows) name schema_name version body) (λ row. done (made_of row))
+      let row = Gives-bind_ok (rulebook_row (published_of rows) name schema_name version body)
+      (λ row. done (made_of row))
       making gives in
       let named = Gives-bind_ok (tests.proper_name name) (λ _. some_or (schema_named rows.schemas schema_name version)
       (NoSuch kind.Schema) >>= over) row.0 row.1 in
-      let place = Gives-bind_ok (some_or (schema_named rows.schemas schema_name version) (NoSuch kind.Schema)) over row.0
+      let place = Gives-bind_ok (some_or (schema_named rows.schemas schema_name version) (NoSuch kind.Schema)) over
+      row.0
       named.2 in
       let schema = Gives-bind_ok (certainly (schema_at (published_of rows) place.0)) (reading place.0) row.0 place.2 in
-      let rulebook = Gives-bind_ok (value_or (read_rules body schema.0) rules_refusal) (λ rulebook. counted place.0) row.0
+      let rulebook = Gives-bind_ok (value_or (read_rules body schema.0) rules_refusal) (λ rulebook. counted place.0)
+      row.0
       schema.2 in
-      let few = Gives-bind_ok (within which.Rulebooks (length rows.rulebooks + 1)) (λ _. done (new place.0)) row.0 rulebook.2 in
+      let few = Gives-bind_ok (within which.Rulebooks (length rows.rulebooks + 1)) (λ _. done (new place.0)) row.0
+      rulebook.2 in
       let found = some_or-ok (schema_named rows.schemas schema_name version) (NoSuch kind.Schema) place.0 place.1 in
       let is = certainly-ok (schema_at (published_of rows) place.0) schema.0 schema.1 in
       let reads : IsSome (rules_over body schema.0) =
       rw (value_or-ok (read_rules body schema.0) rules_refusal rulebook.0 rulebook.1) refl in
       subst (IsSoundMaking rows) (sym (done-value (made_of row.0) making row.2
       ∙ ap made_of (done-value (new place.0) row.0 few.2)))
-      (IsSoundMaking-rulebook (new place.0) (within-ok which.Rulebooks (length rows.rulebooks + 1) few.0 few.1) (record {
+      (IsSoundMaking-rulebook (new place.0) (within-ok which.Rulebooks (length rows.rulebooks + 1) few.0 few.1)
+      (record {
         version = IsVersion-next (λ row. row.name) rows.rulebooks (new place.0) name (name-ok name named.0 named.1);
         schema = place_of-within (λ row. row.name) (λ row. row.version) rows.schemas schema_name version place.0
             (record { name = []; version = 0; body = [] }) found;
@@ -380,10 +391,12 @@ module _ (rows : Rows) (valid : AreValid rows) where
       let row = Gives-bind_ok (clerk_row rows.clerks name) (λ row. done (made_of row)) making gives in
       let named = Gives-bind_ok (tests.proper_name name) (λ _. unless (not (list_any is_named rows.clerks)) (Taken name)
       >> counted) row.0 row.1 in
-      let free = Gives-bind_ok (unless (not (list_any is_named rows.clerks)) (Taken name)) (λ _. counted) row.0 named.2 in
+      let free = Gives-bind_ok (unless (not (list_any is_named rows.clerks)) (Taken name)) (λ _. counted) row.0
+      named.2 in
       let few = Gives-bind_ok (within which.Clerks (length rows.clerks)) (λ _. done (new_clerk name)) row.0 free.2 in
       subst (IsSoundMaking rows) (sym (done-value (made_of row.0) making row.2
       ∙ ap made_of (done-value (new_clerk name) row.0 few.2)))
       (IsSoundMaking-clerk name (within-ok which.Clerks (length rows.clerks) few.0 few.1) (name-ok name named.0 named.1)
-      (λ index past inside same. not-any is_named rows.clerks (unless-ok (not (list_any is_named rows.clerks)) (Taken name)
+      (λ index past inside same. not-any is_named rows.clerks
+      (unless-ok (not (list_any is_named rows.clerks)) (Taken name)
       free.0 free.1) index past inside ((bytes_eq-Decides (get_or rows.clerks index past).name name).1 same)))

@@ -1,5 +1,6 @@
 -- What was published before stays as it was where more is published.
-use Rattle.std.proofs.Common.{◌≡◌, ◌∙◌, ℕ, ◌<◌, ◌≤◌, List, [], ◌∷◌, length, get_or, map, Option, Some, refl, sym, ap, subst, arith}
+use Rattle.std.proofs.Common.{◌≡◌, ◌∙◌, ℕ, ◌<◌, ◌≤◌, List, [], ◌∷◌, length, get_or, map, Option, Some, refl, sym, ap}
+use Rattle.std.proofs.Common.{subst, arith}
 use Rattle.std.specs.Prelude.{◌+◌, ◌==◌, All, IfSome, IsSome, count_by, option_and_then, option_map, slice_get}
 use Rattle.std.specs.Str.{bytes_eq}
 use Rattle.std.proofs.lemmas.List.Elements.{All-get_or, All-head, All-tail, All-weaker}
@@ -13,7 +14,8 @@ use Rattle.desk_words.specs.declared.rows.schema.SchemaRow.{SchemaRow}
 use Rattle.desk_words.specs.declared.rows.session.SessionRow.{SessionRow}
 use Rattle.desk_words.specs.Tables.{Published, Rows, published_of}
 use Rattle.desk_valid.specs.Bindings.{parts_of}
-use Rattle.desk_valid.specs.Readings.{master_at, master_in, rules_at, rules_in, rules_over, schema_at, schema_in, width_at}
+use Rattle.desk_valid.specs.Readings.{master_at, master_in, rules_at, rules_in, rules_over, schema_at, schema_in}
+use Rattle.desk_valid.specs.Readings.{width_at}
 use Rattle.desk_valid.specs.Rows.Batch.{IsBatchRow}
 use Rattle.desk_valid.specs.Rows.Edition.{AreNamedApart, IsBinding, IsEditionRow}
 use Rattle.desk_valid.specs.Rows.Master.{IsMasterRow}
@@ -46,12 +48,14 @@ IsVersion-more name_of rows others begins place name version within is = record 
 
 module _ (rows : Rows) (valid : AreValid rows) (other : Published) (more : AreMore (published_of rows) other) where
   -- a schema
-  pub schema_at-more : (place : ℕ) → place < length rows.schemas → schema_at other place ≡ schema_at (published_of rows) place
+  pub schema_at-more : (place : ℕ) → place < length rows.schemas → schema_at other place ≡ schema_at
+      (published_of rows) place
   schema_at-more place within =
       ap (option_and_then schema_in) (slice_get-begins rows.schemas other.schemas more.schemas place within)
 
   -- a master
-  pub master_at-more : (place : ℕ) → place < length rows.masters → master_at other place ≡ master_at (published_of rows) place
+  pub master_at-more : (place : ℕ) → place < length rows.masters → master_at other place ≡ master_at
+      (published_of rows) place
   master_at-more place within =
       ap (option_and_then master_in) (slice_get-begins rows.masters other.masters more.masters place within)
 
@@ -65,7 +69,8 @@ module _ (rows : Rows) (valid : AreValid rows) (other : Published) (more : AreMo
       λ i. first i ∷ rest i
 
   -- a rulebook
-  pub rules_at-more : (place : ℕ) → place < length rows.rulebooks → rules_at other place ≡ rules_at (published_of rows) place
+  pub rules_at-more : (place : ℕ) → place < length rows.rulebooks → rules_at other place ≡ rules_at (published_of rows)
+      place
   rules_at-more place within =
       let here = slice_get-there rows.rulebooks place within in
       let good : IsRulebookRow (published_of rows) place here.0 = valid.rulebooks place here.0 here.1 in
@@ -78,10 +83,12 @@ module _ (rows : Rows) (valid : AreValid rows) (other : Published) (more : AreMo
   -- the parts of an edition
   pub parts_of-more : (row : EditionRow) → row.rulebook < length rows.rulebooks
       → All (λ place. place < length rows.masters) row.masters → parts_of other row ≡ parts_of (published_of rows) row
-  parts_of-more row rulebook masters = rw (masters_at-more row.masters masters, rules_at-more row.rulebook rulebook) refl
+  parts_of-more row rulebook masters = rw (masters_at-more row.masters masters, rules_at-more row.rulebook rulebook)
+      refl
 
   -- how many attributes an edition has
-  pub width_at-more : (place : ℕ) → place < length rows.editions → width_at other place ≡ width_at (published_of rows) place
+  pub width_at-more : (place : ℕ) → place < length rows.editions → width_at other place ≡ width_at (published_of rows)
+      place
   width_at-more place within =
       let here = slice_get-there rows.editions place within in
       let good : IsEditionRow (published_of rows) place here.0 = valid.editions place here.0 here.1 in
@@ -138,7 +145,8 @@ module _ (rows : Rows) (valid : AreValid rows) (other : Published) (more : AreMo
     rulebook = omega (arith, is.rulebook, length-begins rows.rulebooks other.rulebooks more.rulebooks);
     few_masters = is.few_masters;
     masters = All-weaker (λ master. master < length rows.masters) (λ master. master < length other.masters)
-        (λ master inside. omega (arith, inside, length-begins rows.masters other.masters more.masters)) row.masters is.masters;
+        (λ master inside. omega (arith, inside, length-begins rows.masters other.masters more.masters)) row.masters
+        is.masters;
     named_apart = AreNamedApart-more row.masters is.masters is.named_apart;
     folded = is.folded;
     binds = subst (λ found. IfSome found (λ parts. IsBinding parts row.folded))

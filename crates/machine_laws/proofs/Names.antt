@@ -1,5 +1,6 @@
 -- Clerks are found by their names alone.
-use Rattle.std.proofs.Common.{◌≡◌, ◌∙◌, ℕ, zero, suc, ◌+◌, ◌<◌, ◌≤◌, Bool, true, false, cond, List, [], ◌∷◌, ◌++◌, length, get_or, drop, map, Option, Some, None, eqb, refl, sym, ap, arith}
+use Rattle.std.proofs.Common.{◌≡◌, ◌∙◌, ℕ, zero, suc, ◌+◌, ◌<◌, ◌≤◌, Bool, true, false, cond, List, [], ◌∷◌, ◌++◌}
+use Rattle.std.proofs.Common.{length, get_or, drop, map, Option, Some, None, eqb, refl, sym, ap, arith}
 use Rattle.std.specs.Prelude.{nat_lt, not, option_map, position}
 use Rattle.std.specs.List.{position_or_len, prefix_len}
 use Rattle.std.specs.Str.{bytes_eq}
@@ -30,7 +31,8 @@ position-map test image items =
     λ i. cond (nat_lt (first i) (long i)) (Some (first i)) None
 
 -- the first that passes is the first of a longer list
-pub position-append : {A : Type 0} (test : A → Bool) (items others : List A) (place : ℕ) → position test items ≡ Some place
+pub position-append : {A : Type 0} (test : A → Bool) (items others : List A) (place : ℕ) → position test items ≡ Some
+    place
     → position test (items ++ others) ≡ Some place
 position-append test items others place is =
     let first : ℕ = position_or_len test items in
@@ -46,7 +48,8 @@ position-append test items others place is =
     here ∙ ap (λ told. cond told (Some first) None) longer ∙ ap Some both.1
 
 -- where all from the front on pass, each does
-all-pass : {A : Type 0} (test : A → Bool) (items : List A) → length items ≤ prefix_len test items → (index : ℕ) (past : A)
+all-pass : {A : Type 0} (test : A → Bool) (items : List A) → length items ≤ prefix_len test items
+    → (index : ℕ) (past : A)
     → index < length items → test (get_or items index past) ≡ true
 all-pass test [] all index past within = absurd (omega arith)
 all-pass test (item ∷ items) all index past within =

@@ -1,5 +1,6 @@
 -- The numbers of a caller's accepted writes, and those that are used.
-use Rattle.std.proofs.Common.{◌≡◌, ◌≢◌, ◌⊎◌, ◌∙◌, ℕ, ◌+◌, ◌<◌, ◌≤◌, Bool, true, false, List, [], ◌∷◌, inl, inr, refl, sym, ap, subst, arith}
+use Rattle.std.proofs.Common.{◌≡◌, ◌≢◌, ◌⊎◌, ◌∙◌, ℕ, ◌+◌, ◌<◌, ◌≤◌, Bool, true, false, List, [], ◌∷◌, inl, inr, refl}
+use Rattle.std.proofs.Common.{sym, ap, subst, arith}
 use Rattle.std.specs.Prelude.{◌&&◌, Ok, Err}
 use Rattle.std.proofs.lemmas.Bool.{cases_Bool}
 use Rattle.std.proofs.lemmas.Slice.Eq.{bytes_eq-Decides}
@@ -14,7 +15,8 @@ use Rattle.desk_words.specs.Changes.{changed_all}
 use Rattle.desk_words.specs.Tables.{Rows, published_of}
 use Rattle.desk_valid.specs.Valid.{AreValid}
 use Rattle.machine_core.specs.Checked.{done, ◌>>=◌, Gives}
-use Rattle.machine_core.specs.Machine.{IsStep, answered, changes_if, clerk_of, clerk_write, clerk_write_at, machine, steward_write}
+use Rattle.machine_core.specs.Machine.{IsStep, answered, changes_if, clerk_of, clerk_write, clerk_write_at, machine}
+use Rattle.machine_core.specs.Machine.{steward_write}
 use Rattle.machine_core.specs.Own.{Own, own_of}
 use Rattle.machine_core.specs.Ticket.{use_of}
 use Rattle.machine_core.proofs.Chains.{Gives-bind, Gives-bind_refused, Gives-unique}
@@ -78,7 +80,8 @@ module _ (rows : Rows) (valid : AreValid rows) (command : Command) (answer : Rep
       let number = use-fresh (own_of rows is.place).row is.ticket is.use_made in
       let last = ap (λ (row : ClerkRow). row.last) is.row in
       subst (λ one. (number_of command ≡ (own_of rows one).row.last + 1)
-      × ((own_of (changed_all rows changes) one).row.last ≡ number_of command)) same (is.number ∙ number, last ∙ sym is.number)
+      × ((own_of (changed_all rows changes) one).row.last ≡ number_of command)) same
+      (is.number ∙ number, last ∙ sym is.number)
     where
       same_place : {one other : ℕ} → done one ≡ done other → one ≡ other
       same_place is = cc
@@ -89,7 +92,8 @@ module _ (rows : Rows) (valid : AreValid rows) (command : Command) (answer : Rep
   used-accepted caller some asked_it =
       let is : IsTicketed rows valid caller command changes =
       step-ticketed rows valid caller command answer changes step some asked_it in
-      let longer : IsLonger rows valid (changed_all rows changes) = step-longer rows valid command answer changes step in
+      let longer : IsLonger rows valid (changed_all rows changes) = step-longer rows valid command answer changes
+      step in
       record {
         place = is.place;
         found = place_of-begins rows (changed_all rows changes) caller is.place longer.names is.found;
@@ -97,9 +101,11 @@ module _ (rows : Rows) (valid : AreValid rows) (command : Command) (answer : Rep
       }
 
   -- what is used stays used
-  pub used-stays : (caller : Caller) (number : ℕ) → HasUsed rows caller number → HasUsed (changed_all rows changes) caller number
+  pub used-stays : (caller : Caller) (number : ℕ) → HasUsed rows caller number → HasUsed (changed_all rows changes)
+      caller number
   used-stays caller number has =
-      let longer : IsLonger rows valid (changed_all rows changes) = step-longer rows valid command answer changes step in
+      let longer : IsLonger rows valid (changed_all rows changes) = step-longer rows valid command answer changes
+      step in
       record {
         place = has.place;
         found = place_of-begins rows (changed_all rows changes) caller has.place longer.names has.found;
@@ -123,7 +129,8 @@ module _ (rows : Rows) (valid : AreValid rows) (command : Command) (answer : Rep
   pub used-passed : (caller : Caller) (number : ℕ) → HasUsed rows caller number → changes ≢ []
       → asks caller command ≡ true → HasUsed (changed_all rows changes) caller (number + 1)
   used-passed caller number has some asked_it =
-      let longer : IsLonger rows valid (changed_all rows changes) = step-longer rows valid command answer changes step in
+      let longer : IsLonger rows valid (changed_all rows changes) = step-longer rows valid command answer changes
+      step in
       let next = number-next caller has.place some asked_it has.found in
       record {
         place = has.place;
@@ -137,7 +144,8 @@ stale-result : (rows : Rows) (caller : Caller) (command : Command) (place : ℕ)
     → Gives (machine rows command) (Err (Stale (own_of rows place).row.last))
 stale-result rows steward (Steward ticket work) place asked_it found less some =
     let first : place ≡ 0 = cc in
-    let Refused : ℕ → Type 0 = λ one. Gives (use_of (own_of rows one).row ticket) (Err (Stale (own_of rows one).row.last)) in
+    let Refused : ℕ → Type 0 = λ one. Gives (use_of (own_of rows one).row ticket)
+    (Err (Stale (own_of rows one).row.last)) in
     let stale : Refused place = subst (λ one. Gives one (Err (Stale (own_of rows place).row.last)))
     (sym (use-stale (own_of rows place).row ticket less)) refl in
     subst (λ one. Gives (machine rows (Steward ticket work)) (Err (Stale (own_of rows one).row.last))) (sym first)
@@ -156,9 +164,11 @@ stale-result rows (clerk named) (Clerk name ticket work) place asked_it found le
     let stale : Gives (use_of own.row ticket) (Err (Stale own.row.last)) =
     subst (λ one. Gives one (Err (Stale own.row.last))) (sym (use-stale own.row ticket less)) refl in
     let refused_it : Gives (clerk_write (published_of rows) own ticket work) (Err (Stale own.row.last)) =
-    Gives-bind_refused (use_of own.row ticket) (clerk_write_at (published_of rows) own work) (Stale own.row.last) stale in
+    Gives-bind_refused (use_of own.row ticket) (clerk_write_at (published_of rows) own work) (Stale own.row.last)
+    stale in
     Gives-bind (clerk_of rows.clerks name) (λ one. clerk_write (published_of rows) (own_of rows one) ticket work
-    >>= (λ both. done (both.0, changes_if one (own_of rows one).row ticket both.1))) place (Err (Stale own.row.last)) there
+    >>= (λ both. done (both.0, changes_if one (own_of rows one).row ticket both.1))) place (Err (Stale own.row.last))
+    there
     (Gives-bind_refused (clerk_write (published_of rows) own ticket work) (λ both. done (
       both.0,
       changes_if place own.row

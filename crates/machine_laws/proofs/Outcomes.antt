@@ -16,7 +16,9 @@ use Rattle.desk_words.specs.declared.refusal.Refusal.{Refusal}
 use Rattle.desk_words.specs.declared.refusal.Refusal.TheVariants.{Limit}
 use Rattle.desk_words.specs.declared.view.View.{View}
 use Rattle.desk_carry.specs.Changes.{AreApart}
-use Rattle.machine_core.specs.Checked.{Checked, done, ◌>>=◌, advice_for, answer_for, certainly, changes_for, each, each_behind, explanation_for, refused, rows_for, some_or, unless, value_or, Gives}
+use Rattle.machine_core.specs.Checked.{Checked, done, ◌>>=◌, advice_for, answer_for, certainly, changes_for, each}
+use Rattle.machine_core.specs.Checked.{each_behind, explanation_for, refused, rows_for, some_or, unless, value_or}
+use Rattle.machine_core.specs.Checked.{Gives}
 use Rattle.machine_core.specs.Limits.{limit_of, within}
 use Rattle.machine_core.proofs.Chains.{Gives-bind, Gives-bind_refused}
 use Rattle.machine_core.proofs.Tested.{certainly-some}

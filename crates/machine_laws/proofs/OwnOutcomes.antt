@@ -1,5 +1,6 @@
 -- What a clerk asks over valid tables comes to a result.
-use Rattle.std.proofs.Common.{◌≡◌, ◌∙◌, ℕ, ◌+◌, ◌-◌, ◌<◌, Bool, List, length, Option, get_or, take, drop, Some, refl, sym, subst}
+use Rattle.std.proofs.Common.{◌≡◌, ◌∙◌, ℕ, ◌+◌, ◌-◌, ◌<◌, Bool, List, length, Option, get_or, take, drop, Some, refl}
+use Rattle.std.proofs.Common.{sym, subst}
 use Rattle.std.specs.Prelude.{◌==◌, All, IfSome, Ok, filter, slice_get}
 use Rattle.std.specs.List.{range_with_len}
 use Rattle.std.proofs.lemmas.List.Elements.{All-drop, All-filter, All-take}
@@ -34,7 +35,9 @@ use Rattle.machine_core.proofs.Tested.{certainly-ok, some_or-ok}
 use Rattle.machine_core.proofs.Widths.{kit-width, named-kit, width-bound}
 use Rattle.machine_laws.proofs.Explanations.{answer-given, answer-run}
 use Rattle.machine_laws.proofs.Lists.{slice_get-there}
-use Rattle.machine_laws.proofs.Outcomes.{HasOutcome, outcome-advice, outcome-answer, outcome-bind, outcome-certainly, outcome-done, outcome-each, outcome-all, outcome-explanation, outcome-some_or, there-and}
+use Rattle.machine_laws.proofs.Outcomes.{HasOutcome, outcome-advice, outcome-answer, outcome-bind, outcome-certainly}
+use Rattle.machine_laws.proofs.Outcomes.{outcome-done, outcome-each, outcome-all, outcome-explanation, outcome-some_or}
+use Rattle.machine_laws.proofs.Outcomes.{there-and}
 use Rattle.machine_laws.proofs.Sessions.{session_at-found}
 
 module _ (rows : Rows) (valid : AreValid rows) where
@@ -85,7 +88,8 @@ module _ (rows : Rows) (valid : AreValid rows) where
       → Gives (answer_for bound.kit (state_of session)) (Ok answer)
       → IsFixed (end_of bound.kit (state_of session) answer.first) attribute
       → HasOutcome (explanation_for bound.kit (state_of session) answer.first attribute)
-  session-explained session bound answer attribute is gives given fixed = outcome-explanation bound.kit (state_of session)
+  session-explained session bound answer attribute is gives given fixed = outcome-explanation bound.kit
+      (state_of session)
       answer.first attribute (session-kit session bound gives) (session-fits session bound is gives)
       (answer-run bound.kit (state_of session) answer.first answer.second answer.verdict
       (answer-given bound.kit (state_of session) answer given)) fixed

@@ -1,6 +1,8 @@
 -- Each refusal of the machine has its cause.
-use Rattle.std.proofs.Common.{◌≡◌, ◌≢◌, ◌∙◌, ℕ, ◌+◌, ◌-◌, ◌<◌, Bool, true, false, List, [], length, get_or, drop, take, Option, Some, None, inl, inr, refl, sym, ap, subst, arith}
-use Rattle.std.specs.Prelude.{◌==◌, All, Result, Ok, Err, ⊤, filter, flat_map, if◌then◌else◌, nat_lt, option_map, position, slice_get}
+use Rattle.std.proofs.Common.{◌≡◌, ◌≢◌, ◌∙◌, ℕ, ◌+◌, ◌-◌, ◌<◌, Bool, true, false, List, [], length, get_or, drop, take}
+use Rattle.std.proofs.Common.{Option, Some, None, inl, inr, refl, sym, ap, subst, arith}
+use Rattle.std.specs.Prelude.{◌==◌, All, Result, Ok, Err, ⊤, filter, flat_map, if◌then◌else◌, nat_lt, option_map}
+use Rattle.std.specs.Prelude.{position, slice_get}
 use Rattle.std.specs.List.{range_with_len}
 use Rattle.std.specs.Str.{bytes_eq}
 use Rattle.std.proofs.lemmas.Bool.Decides.{nat_tests}
@@ -11,7 +13,8 @@ use Rattle.desk_words.specs.declared.command.Command.{Command}
 use Rattle.desk_words.specs.declared.command.Command.TheVariants.{Steward, Clerk, Look, DeskReport, DeskDerive}
 use Rattle.desk_words.specs.declared.command.Ticket.{Ticket}
 use Rattle.desk_words.specs.declared.look.Look.{Look as LookOf}
-use Rattle.desk_words.specs.declared.look.Look.TheVariants.{View, Suggest, Preview, Report, Records, Explain, Carry as CarryLook}
+use Rattle.desk_words.specs.declared.look.Look.TheVariants.{View, Suggest, Preview, Report, Records, Explain}
+use Rattle.desk_words.specs.declared.look.Look.TheVariants.{Carry as CarryLook}
 use Rattle.desk_words.specs.declared.refusal.Kind.TheVariants as kind
 use Rattle.desk_words.specs.declared.refusal.Refusal.{Refusal}
 use Rattle.desk_words.specs.declared.refusal.Refusal.TheVariants.{Gap, NoClerk, NoSuch, Reused, Stale}
@@ -30,7 +33,8 @@ use Rattle.desk_valid.specs.Valid.{AreValid}
 use Rattle.fix_model.specs.Regions.{row_state}
 use Rattle.machine_core.specs.Answers.{bound_for}
 use Rattle.machine_core.specs.Causes.{AsksWith, Cause, WritesWith}
-use Rattle.machine_core.specs.Checked.{Answer, Checked, ◌>>=◌, answer_for, certainly, done, each, some_or, unless, Gives}
+use Rattle.machine_core.specs.Checked.{Answer, Checked, ◌>>=◌, answer_for, certainly, done, each, some_or, unless}
+use Rattle.machine_core.specs.Checked.{Gives}
 use Rattle.machine_core.specs.Clerk.Carry.{carry_row}
 use Rattle.machine_core.specs.Clerk.Confirm.{confirm_row}
 use Rattle.machine_core.specs.Deriving.{derivation_of, derived_rows, derived_sheet}
@@ -43,7 +47,8 @@ use Rattle.machine_core.specs.Look.Records.{records_of}
 use Rattle.machine_core.specs.Look.Report.{assessment_of, line_over, report_line, report_of}
 use Rattle.machine_core.specs.Look.Suggest.{suggestion_of}
 use Rattle.machine_core.specs.Look.View.{view_at}
-use Rattle.machine_core.specs.Machine.{IsStep, answered, clerk_of, clerk_write, clerk_write_at, deed_of, look_reply, machine, making_of, steward_write}
+use Rattle.machine_core.specs.Machine.{IsStep, answered, clerk_of, clerk_write, clerk_write_at, deed_of, look_reply}
+use Rattle.machine_core.specs.Machine.{machine, making_of, steward_write}
 use Rattle.machine_core.specs.Own.{Own, after, own_of}
 use Rattle.machine_core.specs.Tests.{active_session, session_of}
 use Rattle.machine_core.specs.Views.{view_of}
@@ -82,12 +87,14 @@ report-why P published clerk sessions = chain-why P (each (report_line published
     (λ lines ok. done-why P _)
 
 -- a session whose place is within the list is there
-session-there : (sessions : List SessionRow) (place : ℕ) → place < length sessions → session_at sessions (place + 1) ≢ None
+session-there : (sessions : List SessionRow) (place : ℕ) → place < length sessions → session_at sessions (place + 1) ≢
+    None
 session-there sessions place within none =
     let there = slice_get-there sessions place within in
     let found : slice_get sessions (place + 1 - 1) ≡ Some there.0 = ap (slice_get sessions) (omega arith) ∙ there.1 in
     let apart : (place + 1 == 0) ≡ false = grind (arith, nat_tests) in
-    let both : Some there.0 ≡ None = sym found ∙ sym (ap (λ told. if told then None else slice_get sessions (place + 1 - 1))
+    let both : Some there.0 ≡ None = sym found
+    ∙ sym (ap (λ told. if told then None else slice_get sessions (place + 1 - 1))
     apart) ∙ none in
     cc
 
@@ -136,12 +143,14 @@ session-target rows place act.Batched target has = tt
 view_at-why : (P : Refusal → Type 0) (published : Published) (own : Own) (target : ℕ) → target < length own.sessions
     → (refusal : Refusal) → Gives (view_at published own (target + 1)) (Err refusal) → P refusal
 view_at-why P published own target within = chain-why P (session_of own.sessions (target + 1)) _
-    (some_or-why P (session_at own.sessions (target + 1)) (NoSuch kind.Session) (λ none. absurd (session-there own.sessions
+    (some_or-why P (session_at own.sessions (target + 1)) (NoSuch kind.Session)
+    (λ none. absurd (session-there own.sessions
     target within none))) (λ session is. view-why P published (target + 1) session)
 
 -- a kept reply is given
 pub kept-why : (P : Refusal → Type 0) (published : Published) (own : Own) (what : Act) (target : ℕ)
-    → HasSession own what target → (refusal : Refusal) → Gives (kept_reply published own what target) (Err refusal) → P refusal
+    → HasSession own what target → (refusal : Refusal) → Gives (kept_reply published own what target) (Err refusal)
+    → P refusal
 kept-why P published own act.Opened target has = chain-why P (view_at published own (target + 1)) _
     (view_at-why P published own target has) (λ view ok. done-why P _)
 kept-why P published own act.Changed target has = chain-why P (view_at published own (target + 1)) _
@@ -180,7 +189,8 @@ made-why P rows act.Region target = chain-why P (certainly (slice_get rows.regio
     (certainly-why P (bound_at (published_of rows) row.edition)) (λ bound binds.
     let asking : List (List ℕ) → Checked Answer = λ texts.
     answer_for bound.kit (row_state bound.kit.width row.region.attrs texts) in
-    chain-why P (each asking row.region.rows) _ (each-why P asking row.region.rows (λ texts there. answer-why P bound.kit
+    chain-why P (each asking row.region.rows) _
+    (each-why P asking row.region.rows (λ texts there. answer-why P bound.kit
     (row_state bound.kit.width row.region.attrs texts))) (λ answers ok. done-why P _)))
 made-why P rows act.Nothing target = λ refusal gives. absurd gives
 made-why P rows act.Opened target = λ refusal gives. absurd gives
@@ -197,11 +207,14 @@ number-why P row ticket stale gap reused = tests (nat_lt ticket.number row.last)
     (ticket.number == row.last) refl refl refl
   where
     tests : (one two three : Bool) → nat_lt ticket.number row.last ≡ one → nat_lt (row.last + 1) ticket.number ≡ two
-        → (ticket.number == row.last) ≡ three → (refusal : Refusal) → Gives (use_at one two three row ticket) (Err refusal)
+        → (ticket.number == row.last) ≡ three → (refusal : Refusal) → Gives (use_at one two three row ticket)
+        (Err refusal)
         → P refusal
-    tests true two three is is_too is_last refusal gives = subst P (sym (refused-refusal (Stale row.last) refusal gives))
+    tests true two three is is_too is_last refusal gives =
+        subst P (sym (refused-refusal (Stale row.last) refusal gives))
         (stale (grind (arith, nat_tests, is)))
-    tests false true three is is_too is_last refusal gives = subst P (sym (refused-refusal (Gap row.last) refusal gives))
+    tests false true three is is_too is_last refusal gives =
+        subst P (sym (refused-refusal (Gap row.last) refusal gives))
         (gap (grind (arith, nat_tests, is_too)))
     tests false false true is is_too is_last refusal gives =
         chain-why P (unless (bytes_eq row.digest.bytes ticket.digest.bytes) (Reused row.last)) (λ _. done Repeated)
@@ -240,7 +253,8 @@ module _ (rows : Rows) (valid : AreValid rows) where
       let own : Own = own_of rows place in
       let there = clerk_of-ok rows.clerks name place is in
       let writes : WritesWith rows command own.row ticket = (place, there.found, refl, refl) in
-      let at_turn : (turn : Use) (refusal : Refusal) → Gives (clerk_write_at (published_of rows) own work turn) (Err refusal)
+      let at_turn : (turn : Use) (refusal : Refusal) → Gives (clerk_write_at (published_of rows) own work turn)
+      (Err refusal)
       → P refusal = λ turn. elim turn as (λ one. (refusal : Refusal)
       → Gives (clerk_write_at (published_of rows) own work one) (Err refusal) → P refusal) [
         | Repeated ↦ chain-why P (kept_reply (published_of rows) own own.row.act own.row.target) _
@@ -256,7 +270,8 @@ module _ (rows : Rows) (valid : AreValid rows) where
       chain-why P (clerk_write (published_of rows) own ticket work) _ (chain-why P (use_of own.row ticket) _
       (number-why P own.row ticket (λ less. (own.row, ticket, writes, refl, less))
       (λ more. (own.row, ticket, writes, refl, more))
-      (λ same other. (own.row, ticket, writes, refl, same, other))) (λ turn ok. at_turn turn)) (λ both ok. done-why P _))
+      (λ same other. (own.row, ticket, writes, refl, same, other))) (λ turn ok. at_turn turn))
+      (λ both ok. done-why P _))
     where
       own-target : (place : ℕ) → place < length rows.clerks → HasSession (own_of rows place) (own_of rows place).row.act
           (own_of rows place).row.target
@@ -264,7 +279,8 @@ module _ (rows : Rows) (valid : AreValid rows) where
           let row = slice_get-there rows.clerks place within in
           let is : (own_of rows place).row ≡ row.0 = slice_get-read rows.clerks place row.0 (new_clerk []) row.1 in
           session-target rows place (own_of rows place).row.act (own_of rows place).row.target
-          (subst (λ (one : ClerkRow). HasTarget rows place one.act one.target) (sym is) (valid.clerks place row.0 row.1).target)
+          (subst (λ (one : ClerkRow). HasTarget rows place one.act one.target) (sym is)
+          (valid.clerks place row.0 row.1).target)
 
   -- a write of the steward
   steward-why : (ticket : Ticket) (work : StewardWork) (refusal : Refusal)
@@ -273,8 +289,10 @@ module _ (rows : Rows) (valid : AreValid rows) where
       let command : Command = Steward ticket work in
       let P : Refusal → Type 0 = Cause rows command in
       let row : ClerkRow = (own_of rows 0).row in
-      let at_turn : (turn : Use) (refusal : Refusal) → Gives (steward_write rows ticket work turn) (Err refusal) → P refusal =
-      λ turn. elim turn as (λ one. (refusal : Refusal) → Gives (steward_write rows ticket work one) (Err refusal) → P refusal) [
+      let at_turn : (turn : Use) (refusal : Refusal) → Gives (steward_write rows ticket work turn) (Err refusal)
+      → P refusal =
+      λ turn. elim turn as (λ one. (refusal : Refusal) → Gives (steward_write rows ticket work one) (Err refusal)
+      → P refusal) [
         | Repeated ↦ chain-why P (kept_made rows row.act row.target) _ (made-why P rows row.act row.target)
             (λ made ok. done-why P _)
         | Fresh ↦ chain-why P (making_of rows work) _ (making-why rows ticket work) (λ making ok.
@@ -302,26 +320,31 @@ module _ (rows : Rows) (valid : AreValid rows) where
       })) (λ answer ok. done-why P _))
     where
       at_look : (one : LookOf) (place : ℕ) → AsksWith rows (Look name one) (own_of rows place) → (refusal : Refusal)
-          → Gives (look_reply (published_of rows) (own_of rows place) one) (Err refusal) → Cause rows (Look name one) refusal
+          → Gives (look_reply (published_of rows) (own_of rows place) one) (Err refusal) → Cause rows (Look name one)
+          refusal
       at_look (View number) place asks =
           let P : Refusal → Type 0 = Cause rows (Look name (View number)) in
           let own : Own = own_of rows place in
           chain-why P (view_at (published_of rows) own number) _ (chain-why P (session_of own.sessions number) _
-          (some_or-why P (session_at own.sessions number) (NoSuch kind.Session) (λ none. (own, number, asks, refl, none)))
+          (some_or-why P (session_at own.sessions number) (NoSuch kind.Session)
+          (λ none. (own, number, asks, refl, none)))
           (λ session ok. view-why P (published_of rows) number session)) (λ view ok. done-why P _)
       at_look (Suggest number) place asks =
           let P : Refusal → Type 0 = Cause rows (Look name (Suggest number)) in
           let own : Own = own_of rows place in
-          chain-why P (suggestion_of (published_of rows) own number) _ (chain-why P (active_session own.sessions number) _
+          chain-why P (suggestion_of (published_of rows) own number) _
+          (chain-why P (active_session own.sessions number) _
           (active-why rows (Look name (Suggest number)) own number asks refl) (λ session ok.
-          chain-why P (bound_for (published_of rows) session) _ (certainly-why P (bound_at (published_of rows) session.edition))
+          chain-why P (bound_for (published_of rows) session) _
+          (certainly-why P (bound_at (published_of rows) session.edition))
           (λ bound binds refusal gives. done-why P _ refusal gives.2))) (λ suggested ok. done-why P _)
       at_look (Preview number cells) place asks =
           let P : Refusal → Type 0 = Cause rows (Look name (Preview number cells)) in
           let own : Own = own_of rows place in
           chain-why P (preview (published_of rows) own number cells) _
           (chain-why P (confirm_row (published_of rows) own number cells) _
-          (confirm-why rows (Look name (Preview number cells)) own number cells asks refl refl (λ word text there. there))
+          (confirm-why rows (Look name (Preview number cells)) own number cells asks refl refl
+          (λ word text there. there))
           (λ session ok. view-why P (published_of rows) number session)) (λ view ok. done-why P _)
       at_look Report place asks =
           let P : Refusal → Type 0 = Cause rows (Look name Report) in
@@ -348,7 +371,8 @@ module _ (rows : Rows) (valid : AreValid rows) where
           (chain-why P (carry_row (published_of rows) own number version) _
           (carry_row-why rows command own number version asks refl refl) (λ moved moved_ok.
           chain-why P (view_at (published_of rows) own number) _ (chain-why P (session_of own.sessions number) _
-          (some_or-why P (session_at own.sessions number) (NoSuch kind.Session) (λ none. (own, number, asks, refl, none)))
+          (some_or-why P (session_at own.sessions number) (NoSuch kind.Session)
+          (λ none. (own, number, asks, refl, none)))
           (λ session ok. view-why P (published_of rows) number session)) (λ before before_ok.
           chain-why P (view_of (published_of rows) number moved) _ (view-why P (published_of rows) number moved)
           (λ behind behind_ok refusal gives. done-why P _ refusal gives.2)))) (λ carried ok. done-why P _)
@@ -410,17 +434,22 @@ made-not_refused rows (Steward ticket work) made refusal gives is = elim (stewar
   | inl again ↦ (let same = sym again.answered ∙ is in cc)
   | inr new ↦ (let same = sym new.answered ∙ is in cc)
 ]
-made-not_refused rows (Clerk name ticket work) made refusal gives is = elim (clerk-written rows name ticket work made gives) [
-  | inl again ↦ kept-not_refused (published_of rows) (own_of rows again.place) (own_of rows again.place).row.act
-      (own_of rows again.place).row.target refusal (subst (λ one. Gives (kept_reply (published_of rows)
-      (own_of rows again.place) (own_of rows again.place).row.act (own_of rows again.place).row.target) (Ok one)) is again.kept)
-  | inr new ↦ kept-not_refused (published_of rows) (after (own_of rows new.place) new.deed) new.deed.act new.deed.target
-      refusal (subst (λ one. Gives (kept_reply (published_of rows) (after (own_of rows new.place) new.deed) new.deed.act
-      new.deed.target) (Ok one)) is new.kept)
-]
+made-not_refused rows (Clerk name ticket work) made refusal gives is =
+    elim (clerk-written rows name ticket work made gives) [
+      | inl again ↦ kept-not_refused (published_of rows) (own_of rows again.place) (own_of rows again.place).row.act
+          (own_of rows again.place).row.target refusal (subst (λ one. Gives (kept_reply (published_of rows)
+          (own_of rows again.place) (own_of rows again.place).row.act (own_of rows again.place).row.target) (Ok one)) is
+          again.kept)
+      | inr new ↦ kept-not_refused (published_of rows) (after (own_of rows new.place) new.deed) new.deed.act
+          new.deed.target
+          refusal (subst (λ one. Gives (kept_reply (published_of rows) (after (own_of rows new.place) new.deed)
+          new.deed.act
+          new.deed.target) (Ok one)) is new.kept)
+    ]
 made-not_refused rows (Look name look) made refusal gives is =
     let last : Reply → Checked (Reply × List Change) = λ answer. done (answer, []) in
-    let place = Gives-bind_ok (clerk_of rows.clerks name) (λ place. look_reply (published_of rows) (own_of rows place) look
+    let place = Gives-bind_ok (clerk_of rows.clerks name)
+    (λ place. look_reply (published_of rows) (own_of rows place) look
     >>= last) made gives in
     let answer = Gives-bind_ok (look_reply (published_of rows) (own_of rows place.0) look) last made place.2 in
     let same : answer.0 ≡ reply.Refused refusal =
@@ -428,14 +457,17 @@ made-not_refused rows (Look name look) made refusal gives is =
     look-not_refused (published_of rows) (own_of rows place.0) look refusal
     (subst (λ one. Gives (look_reply (published_of rows) (own_of rows place.0) look) (Ok one)) same answer.1)
 made-not_refused rows DeskReport made refusal gives is =
-    let sheet = Gives-bind_ok (report_of (published_of rows) None (flat_map (λ sessions. sessions) rows.sessions)) (λ sheet.
+    let sheet = Gives-bind_ok (report_of (published_of rows) None (flat_map (λ sessions. sessions) rows.sessions))
+    (λ sheet.
     done (reply.Report sheet, [])) made gives in
-    let same = sym (ap (λ (one : Reply × List Change). one.0) (done-value (reply.Report sheet.0, []) made sheet.2)) ∙ is in
+    let same = sym (ap (λ (one : Reply × List Change). one.0) (done-value (reply.Report sheet.0, []) made sheet.2))
+    ∙ is in
     cc
 made-not_refused rows (DeskDerive edition version master pairs) made refusal gives is =
     let sheet = Gives-bind_ok (derived_sheet (published_of rows) edition version master pairs) (λ sheet.
     done (reply.Derived sheet, [])) made gives in
-    let same = sym (ap (λ (one : Reply × List Change). one.0) (done-value (reply.Derived sheet.0, []) made sheet.2)) ∙ is in
+    let same = sym (ap (λ (one : Reply × List Change). one.0) (done-value (reply.Derived sheet.0, []) made sheet.2))
+    ∙ is in
     cc
 
 -- a request that is answered by a refusal has its cause

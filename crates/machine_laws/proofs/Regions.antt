@@ -1,5 +1,6 @@
 -- A new region is good where it is put.
-use Rattle.std.proofs.Common.{◌≡◌, ◌∙◌, ℕ, ◌+◌, ◌<◌, ◌≤◌, ◌*◌, ◌^◌, Bool, true, cond, List, [], ◌∷◌, ◌++◌, length, get_or, map, take, suc, inl, inr, refl, sym, ap, subst, arith}
+use Rattle.std.proofs.Common.{◌≡◌, ◌∙◌, ℕ, ◌+◌, ◌<◌, ◌≤◌, ◌*◌, ◌^◌, Bool, true, cond, List, [], ◌∷◌, ◌++◌, length}
+use Rattle.std.proofs.Common.{get_or, map, take, suc, inl, inr, refl, sym, ap, subst, arith}
 use Rattle.std.specs.Prelude.{◌==◌, All, IfSome, Ok, count_by, zip}
 use Rattle.std.specs.List.{range_with_len}
 use Rattle.std.proofs.lemmas.Bool.{cases_lt}
@@ -32,7 +33,8 @@ use Rattle.machine_core.specs.Steward.AddRegion.{full_row, full_rows, region_cou
 use Rattle.machine_core.specs.Tests.{another_attribute}
 use Rattle.machine_core.proofs.Chains.{Gives-bind_ok, done-value}
 use Rattle.machine_core.proofs.Distinct.{AreDistinct, another-place, no-places}
-use Rattle.machine_core.proofs.Tested.{certainly-ok, each-length, each_behind-all, each_behind-length, unless-ok, within-ok}
+use Rattle.machine_core.proofs.Tested.{certainly-ok, each-length, each_behind-all, each_behind-length, unless-ok}
+use Rattle.machine_core.proofs.Tested.{within-ok}
 use Rattle.machine_laws.proofs.Callers.{names_of}
 use Rattle.machine_laws.proofs.Lists.{Begins-push, Begins-same, pushed, slice_get-read, slice_get-there}
 use Rattle.machine_laws.proofs.Makings.{IsSoundMaking, stays}
@@ -124,13 +126,18 @@ module _ (rows : Rows) (valid : AreValid rows) where
   abbrev earlier_count : ℕ → ℕ
   earlier_count place = region_count (take place rows.regions) (edition_in place)
 
-  region-good : (place : ℕ) → place < length rows.regions → (edition_in place < length rows.editions) × (earlier_count place ≤ 7)
+  region-good : (place : ℕ) → place < length rows.regions → (edition_in place < length rows.editions)
+      × (earlier_count place ≤ 7)
   region-good place within =
       let row = slice_get-there rows.regions place within in
       let good : IsRegionRow (published_of rows) place row.0 = valid.regions place row.0 row.1 in
       let is : get_or rows.regions place no_region ≡ row.0 = slice_get-read rows.regions place row.0 no_region row.1 in (
         omega (arith, good.edition, ap (λ (one : RegionRow). one.edition) is),
-        omega (arith, subst (λ (one : RegionRow). region_count (take place rows.regions) one.edition < 8) (sym is) good.few),
+        omega (
+          arith,
+          subst (λ (one : RegionRow). region_count (take place rows.regions) one.edition < 8) (sym is)
+              good.few,
+        ),
       )
 
   -- of two regions of an edition the later one has more before it
@@ -164,9 +171,11 @@ module _ (rows : Rows) (valid : AreValid rows) where
         distinct-below (map number places) 512
             (λ i j past before last same.
             let within : j < length rows.regions = omega (arith, last, long) in
-            let one : get_or (map number places) i past ≡ number i = get_or-map-range_with_len number 0 (length rows.regions) i i
+            let one : get_or (map number places) i past ≡ number i = get_or-map-range_with_len number 0
+            (length rows.regions) i i
             past (omega arith) (omega arith) in
-            let other : get_or (map number places) j past ≡ number j = get_or-map-range_with_len number 0 (length rows.regions) j j
+            let other : get_or (map number places) j past ≡ number j = get_or-map-range_with_len number 0
+            (length rows.regions) j j
             past within (omega arith) in
             apart i j before within (sym one ∙ same ∙ other))
             (λ index past inside.
@@ -203,16 +212,22 @@ module _ (rows : Rows) (valid : AreValid rows) where
       let placing : ℕ → Bound → Checked RegionRow = λ edition bound.
       each_behind [] (another_attribute bound.names.attributes) attributes >>= fewer edition in
       let over : ℕ → Checked RegionRow = λ edition. certainly (bound_at published edition) >>= placing edition in
-      let row = Gives-bind_ok (region_row published name version attributes texts) (λ row. done (made_of row)) making gives in
-      let edition = Gives-bind_ok (some_or (edition_named rows.editions name version) (NoSuch kind.Edition)) over row.0 row.1 in
+      let row = Gives-bind_ok (region_row published name version attributes texts) (λ row. done (made_of row)) making
+      gives in
+      let edition = Gives-bind_ok (some_or (edition_named rows.editions name version) (NoSuch kind.Edition)) over row.0
+      row.1 in
       let bound = Gives-bind_ok (certainly (bound_at published edition.0)) (placing edition.0) row.0 edition.2 in
       let words : List (List ℕ) = bound.0.names.attributes in
-      let places = Gives-bind_ok (each_behind [] (another_attribute words) attributes) (fewer edition.0) row.0 bound.2 in
-      let few_rows = Gives-bind_ok (within which.RegionRows (length texts)) (λ _. filling edition.0 places.0) row.0 places.2 in
-      let full = Gives-bind_ok (full_rows attributes 1 texts) (λ full. counted edition.0 (new edition.0 places.0 full)) row.0
+      let places = Gives-bind_ok (each_behind [] (another_attribute words) attributes) (fewer edition.0) row.0
+      bound.2 in
+      let few_rows = Gives-bind_ok (within which.RegionRows (length texts)) (λ _. filling edition.0 places.0) row.0
+      places.2 in
+      let full = Gives-bind_ok (full_rows attributes 1 texts) (λ full. counted edition.0 (new edition.0 places.0 full))
+      row.0
       few_rows.2 in
       let made : RegionRow = new edition.0 places.0 full.0 in
-      let few = Gives-bind_ok (within which.Regions (region_count rows.regions edition.0 + 1)) (λ _. done made) row.0 full.2 in
+      let few = Gives-bind_ok (within which.Regions (region_count rows.regions edition.0 + 1)) (λ _. done made) row.0
+      full.2 in
       let binds = certainly-ok (bound_at published edition.0) bound.0 bound.1 in
       let distinct : AreDistinct (length words) places.0 = each_behind-all (AreDistinct (length words))
       (another_attribute words) attributes [] places.0 (λ before word place are found. another-place words before word
@@ -221,7 +236,8 @@ module _ (rows : Rows) (valid : AreValid rows) where
       omega (arith, each_behind-length (another_attribute words) attributes [] places.0 places.1) in
       let whole = full_rows-ok attributes 1 texts full.0 full.1 in
       let few_it = within-ok which.Regions (region_count rows.regions edition.0 + 1) few.0 few.1 in
-      subst (IsSoundMaking rows) (sym (done-value (made_of row.0) making row.2 ∙ ap made_of (done-value made row.0 few.2)))
+      subst (IsSoundMaking rows) (sym
+      (done-value (made_of row.0) making row.2 ∙ ap made_of (done-value made row.0 few.2)))
       (IsSoundMaking-region made (omega (arith, regions-few)) (record {
         edition = edition-stands published edition.0 bound.0 binds;
         few = subst (λ before. region_count before edition.0 < 8)

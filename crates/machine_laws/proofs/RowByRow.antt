@@ -1,5 +1,6 @@
 -- A batch leaves the sessions that an Enter of each row leaves.
-use Rattle.std.proofs.Common.{◌≡◌, ◌≢◌, ◌∙◌, ℕ, ◌+◌, ◌≤◌, Bool, true, false, cond, List, [], ◌∷◌, ◌++◌, length, map, Option, Some, None, inl, inr, refl, sym, ap, subst, arith}
+use Rattle.std.proofs.Common.{◌≡◌, ◌≢◌, ◌∙◌, ℕ, ◌+◌, ◌≤◌, Bool, true, false, cond, List, [], ◌∷◌, ◌++◌, length, map}
+use Rattle.std.proofs.Common.{Option, Some, None, inl, inr, refl, sym, ap, subst, arith}
 use Rattle.std.specs.Prelude.{◌==◌, ◌&&◌, All, Result, Ok, Err, filter, nat_le, nat_lt, not, position, zip}
 use Rattle.std.specs.List.{AllZip, list_any}
 use Rattle.std.specs.Str.{bytes_eq}
@@ -32,9 +33,11 @@ use Rattle.desk_valid.specs.declared.bound.Bound.{Bound}
 use Rattle.desk_valid.specs.Bindings.{bound_at}
 use Rattle.desk_valid.specs.Tallies.{active_count, bytes_in, is_active, record_bytes, text_bytes, typed_bytes}
 use Rattle.desk_valid.specs.Valid.{AreValid}
-use Rattle.machine_core.specs.Checked.{Checked, done, ◌>>=◌, ◌>>◌, certainly, each, each_behind, some_or, unless, value_or, Gives}
+use Rattle.machine_core.specs.Checked.{Checked, done, ◌>>=◌, ◌>>◌, certainly, each, each_behind, some_or, unless}
+use Rattle.machine_core.specs.Checked.{value_or, Gives}
 use Rattle.machine_core.specs.declared.column.Column.{Column}
-use Rattle.machine_core.specs.Clerk.Batch.{another_column, enter_batch, is_confirmed, is_starred, placed, row_session, word_of}
+use Rattle.machine_core.specs.Clerk.Batch.{another_column, enter_batch, is_confirmed, is_starred, placed, row_session}
+use Rattle.machine_core.specs.Clerk.Batch.{word_of}
 use Rattle.machine_core.specs.Clerk.Enter.{enter, new_session}
 use Rattle.machine_core.specs.Faults.{sheet_refusal}
 use Rattle.machine_core.specs.Finding.{newest_edition}
@@ -84,12 +87,15 @@ columns-found : (words : List (List ℕ)) (names : List (List ℕ)) (before colu
     → (more : List Column) × (columns ≡ before ++ more) × AllZip (IsColumnOf words) names more
 columns-found words [] before columns gives = ([], done-value before columns gives ∙ sym (append-nil before), tt)
 columns-found words (name ∷ names) before columns gives =
-    let here = Gives-bind_ok (another_column words before name) (λ one. each_behind (before ++ one ∷ []) (another_column words)
+    let here = Gives-bind_ok (another_column words before name)
+    (λ one. each_behind (before ++ one ∷ []) (another_column words)
     names) columns gives in
-    let at = Gives-bind_ok (attribute_of words (word_of name)) (λ at. unless (not (list_any (λ earlier. earlier.attribute == at)
+    let at = Gives-bind_ok (attribute_of words (word_of name))
+    (λ at. unless (not (list_any (λ earlier. earlier.attribute == at)
     before)) (Twice (word_of name)) >> done (record { attribute = at; confirms = is_starred name })) here.0 here.1 in
     let made : Column = record { attribute = at.0; confirms = is_starred name } in
-    let free = Gives-bind_ok (unless (not (list_any (λ earlier. earlier.attribute == at.0) before)) (Twice (word_of name)))
+    let free = Gives-bind_ok (unless (not (list_any (λ earlier. earlier.attribute == at.0) before))
+    (Twice (word_of name)))
     (λ _. done made) here.0 at.2 in
     let is : here.0 ≡ made = done-value made here.0 free.2 in
     let rest = columns-found words names (before ++ here.0 ∷ []) columns here.2 in (
@@ -111,7 +117,8 @@ attribute-done : (words : List (List ℕ)) (word : List ℕ) (place : ℕ) → p
 attribute-done words word place is = ap (λ found. some_or found (UnknownAttr word)) is
 
 -- the cells of a row are typed as the batch types them
-typed-row : (words names : List (List ℕ)) (columns : List Column) (row : List (List ℕ)) → AllZip (IsColumnOf words) names columns
+typed-row : (words names : List (List ℕ)) (columns : List Column) (row : List (List ℕ)) → AllZip (IsColumnOf words)
+    names columns
     → All IsCell row
     → each (typed_cell words) (cells_of names row) ≡ done (map (λ cell. (cell.0.attribute, cell.1)) (zip columns row))
 typed-row words [] [] row are cells = refl
@@ -123,7 +130,8 @@ typed-row words (name ∷ names) (column ∷ columns) (text ∷ row) are cells =
     let short : nat_le (length text) 200 ≡ true = grind (arith, nat_tests, first.short) in
     let rest = typed-row words names columns row are.1 (All-tail IsCell text row cells) in
     let here : typed_cell words (word_of name, text) ≡ done (column.attribute, text) =
-    ap (λ found. found >>= (λ place. unless (nat_le (length text) 200) (ValueLong (word_of name)) >> done (place, text)))
+    ap (λ found. found >>= (λ place. unless (nat_le (length text) 200) (ValueLong (word_of name)) >> done
+    (place, text)))
     (attribute-done words (word_of name) column.attribute are.0.found)
     ∙ ap (λ told. unless told (ValueLong (word_of name)) >> done (column.attribute, text)) short in
     λ i. here i >>= (λ one. rest i >>= (λ more. done (one ∷ more)))
@@ -141,7 +149,8 @@ vouched-row words (name ∷ names) (column ∷ columns) (text ∷ row) are =
     let rest = vouched-row words names columns row are.1 in
     let same : is_confirmed (column, text) ≡ is_vouched (name, text) =
     ap (λ told. told && not (length text == 0)) are.0.confirms in
-    let mine : Bool → Checked (List ℕ) = λ told. each (attribute_of words) (map (λ (cell : List ℕ × List ℕ). word_of cell.0)
+    let mine : Bool → Checked (List ℕ) = λ told. each (attribute_of words)
+    (map (λ (cell : List ℕ × List ℕ). word_of cell.0)
     (cond told ((name, text) ∷ filter is_vouched (zip names row)) (filter is_vouched (zip names row)))) in
     let theirs : Bool → Checked (List ℕ) = λ told. done (map (λ (cell : Column × List ℕ). cell.0.attribute)
     (cond told ((column, text) ∷ filter is_confirmed (zip columns row)) (filter is_confirmed (zip columns row)))) in
@@ -153,7 +162,8 @@ vouched-row words (name ∷ names) (column ∷ columns) (text ∷ row) are =
     either (is_vouched (name, text)) ∙ ap theirs (sym same)
 
 -- an Enter that passes all its tests
-enter-done : (published : Published) (own : Own) (edition : List ℕ) (cells : List (List ℕ × List ℕ)) (confirmed : List (List ℕ))
+enter-done : (published : Published) (own : Own) (edition : List ℕ) (cells : List (List ℕ × List ℕ))
+    (confirmed : List (List ℕ))
     (at : ℕ) (bound : Bound) (texts : List (ℕ × List ℕ)) (places : List ℕ)
     → newest_edition published.editions edition ≡ Some at → bound_at published at ≡ Some bound
     → each (typed_cell bound.names.attributes) cells ≡ done texts
@@ -210,7 +220,8 @@ fresh-new rows name ticket work answer changes place deed valid is_place used do
         let sound = deed-sound rows place work deed valid is_place.within
         (subst (λ one. Gives one (Ok deed)) (sym does) refl) in
         absurd (chain-why P (kept >>= some) last (chain-why P kept some (kept-why P (published_of rows) (after own deed)
-        deed.act deed.target (session-own (after own deed) deed.act deed.target sound.target)) (λ told ok. done-why P _))
+        deed.act deed.target (session-own (after own deed) deed.act deed.target sound.target))
+        (λ told ok. done-why P _))
         (λ both ok. done-why P _) refusal gives)
     whole (Ok made) gives answers =
         let both = Gives-bind_ok (kept >>= some) last made gives in
@@ -231,7 +242,8 @@ fresh-new rows name ticket work answer changes place deed valid is_place used do
         }
 
 -- and what it leaves
-fresh-leaves : (rows : Rows) (name : List ℕ) (ticket : Ticket) (work : ClerkWork) (answer : Reply) (changes : List Change)
+fresh-leaves : (rows : Rows) (name : List ℕ) (ticket : Ticket) (work : ClerkWork) (answer : Reply)
+    (changes : List Change)
     (own : Own) (deed : Deed) → AreValid rows → own_by rows (clerk name) ≡ done own → use_of own.row ticket ≡ done Fresh
     → deed_of (published_of rows) own work ≡ done deed → IsStep rows (Clerk name ticket work) answer changes
     → (own_by (changed_all rows changes) (clerk name) ≡ done (own_after own ticket deed))
@@ -250,7 +262,8 @@ fresh-leaves rows name ticket work answer changes own deed valid seen used does 
     let same_own : own_of rows new.place ≡ own = ap (own_of rows) same_place ∙ there.2 in
     let same_deed : new.deed ≡ deed = done-value deed new.deed (subst (λ (one : Checked Deed). Gives one (Ok new.deed))
     (ap (λ one. deed_of (published_of rows) one work) same_own ∙ does) new.does) in (
-      own_by-new rows name ticket work answer changes valid new ∙ (λ i. done (own_after (same_own i) ticket (same_deed i))),
+      own_by-new rows name ticket work answer changes valid new
+          ∙ (λ i. done (own_after (same_own i) ticket (same_deed i))),
       published-new rows name ticket work answer changes valid new,
     )
   where
@@ -357,7 +370,8 @@ batched published own name body deed gives =
       target = length own.batches;
     } in
     let bytes : ℕ → ℕ → List SessionRow → Checked Deed = λ edition count sessions.
-    within which.Bytes (text_bytes own.sessions own.records + typed_bytes sessions) >> done (made edition count sessions) in
+    within which.Bytes (text_bytes own.sessions own.records + typed_bytes sessions) >> done
+    (made edition count sessions) in
     let batches : ℕ → ℕ → List SessionRow → Checked Deed = λ edition count sessions.
     within which.Batches (length own.batches + 1) >> bytes edition count sessions in
     let counted : ℕ → ℕ → List SessionRow → Checked Deed = λ edition count sessions.
@@ -380,12 +394,15 @@ batched published own name body deed gives =
     let found = columns-found bound.0.names.attributes sheet.0.columns [] columns.0 columns.1 in
     let sessions : List SessionRow = news edition.0 bound.0 columns.0 rows in
     let count : ℕ = length rows in
-    let few_rows = Gives-bind_ok (within which.BatchRows count) (λ _. counting edition.0 count sessions) deed columns.2 in
+    let few_rows = Gives-bind_ok (within which.BatchRows count) (λ _. counting edition.0 count sessions) deed
+    columns.2 in
     let active = Gives-bind_ok (within which.ActiveSessions (active_count own.sessions + count)) (λ _.
     counted edition.0 count sessions) deed few_rows.2 in
-    let few = Gives-bind_ok (within which.Sessions (length own.sessions + count)) (λ _. batches edition.0 count sessions)
+    let few = Gives-bind_ok (within which.Sessions (length own.sessions + count))
+    (λ _. batches edition.0 count sessions)
     deed active.2 in
-    let few_batches = Gives-bind_ok (within which.Batches (length own.batches + 1)) (λ _. bytes edition.0 count sessions)
+    let few_batches = Gives-bind_ok (within which.Batches (length own.batches + 1))
+    (λ _. bytes edition.0 count sessions)
     deed few.2 in
     let last = Gives-bind_ok (within which.Bytes (text_bytes own.sessions own.records + typed_bytes sessions)) (λ _.
     done (made edition.0 count sessions)) deed few_batches.2 in
@@ -423,7 +440,8 @@ IsOneByOne-batch rows name ticket edition body sheet answer changes events valid
           let news : List SessionRow = map (row_session all.at (length all.bound.names.attributes)
           (length own.batches + 1) all.columns) all.sheet.grid.rows in
           let all_entered = entered name edition all.sheet.columns (length own.batches + 1) all.at all.bound all.columns
-          (published_of rows) all.newest all.binds all.are all.sheet.grid.rows events rows own ticket.number valid seen refl
+          (published_of rows) all.newest all.binds all.are all.sheet.grid.rows events rows own ticket.number valid seen
+          refl
           (sym (use-fresh own.row ticket new.use_made)) good.rows all.active all.few all.bytes
           (subst (λ (one : Master). EnterAll name edition one.columns ticket.number one.grid.rows events) same enters)
           answers in

@@ -1,8 +1,10 @@
 -- A clerk's sessions: one is replaced, or others come behind.
-use Rattle.std.proofs.Common.{◌≡◌, ◌≢◌, ◌∙◌, ℕ, ◌-◌, ◌<◌, ◌≤◌, Bool, true, false, List, [], ◌∷◌, ◌++◌, length, get_or, map, set, take, Option, Some, None, refl, sym, ap, subst, eqb, eqb-true, arith}
+use Rattle.std.proofs.Common.{◌≡◌, ◌≢◌, ◌∙◌, ℕ, ◌-◌, ◌<◌, ◌≤◌, Bool, true, false, List, [], ◌∷◌, ◌++◌, length, get_or}
+use Rattle.std.proofs.Common.{map, set, take, Option, Some, None, refl, sym, ap, subst, eqb, eqb-true, arith}
 use Rattle.std.specs.Prelude.{◌==◌, All, AllPairs, IfSome, Ok, slice_get, if◌then◌else◌}
 use Rattle.std.proofs.lemmas.Bool.Decides.{Decides-eqb, nat_tests}
-use Rattle.std.proofs.lemmas.List.{get_or-map, get_or-take, length-take, length-append, length-map, length-set, take-append-le, take_at}
+use Rattle.std.proofs.lemmas.List.{get_or-map, get_or-take, length-take, length-append, length-map, length-set}
+use Rattle.std.proofs.lemmas.List.{take-append-le, take_at}
 use Rattle.std.proofs.lemmas.List.Elements.{All-map}
 use Rattle.std.proofs.lemmas.List.Folds.{Any-from_list_any}
 use Rattle.std.proofs.lemmas.Map.Made.{IsDistinct-from_AllPairs}
@@ -27,7 +29,8 @@ use Rattle.machine_core.specs.Tests.{active, active_session, session_of}
 use Rattle.machine_core.proofs.Chains.{Gives-bind_ok, done-value}
 use Rattle.machine_core.proofs.Tested.{some_or-ok, unless-ok}
 use Rattle.machine_core.specs.OwnRows.{AreOwnRows}
-use Rattle.machine_laws.proofs.Lists.{EachAt-begins, EachAt-set, Begins-push, pushed, slice_get-append, slice_get-read, slice_get-set_other, slice_get-set_same, slice_get-there}
+use Rattle.machine_laws.proofs.Lists.{EachAt-begins, EachAt-set, Begins-push, pushed, slice_get-append, slice_get-read}
+use Rattle.machine_laws.proofs.Lists.{slice_get-set_other, slice_get-set_same, slice_get-there}
 
 -- distinct numbers below a number are no more than it
 pub distinct-below : (numbers : List ℕ) (most : ℕ) → AllPairs (λ one other. one ≢ other) numbers
@@ -69,7 +72,8 @@ active_session-ok sessions number session gives =
     let same : session ≡ found.0 = done-value found.0 session rest.2 in
     let stands = session_at-found sessions number found.0
     (some_or-ok (session_at sessions number) (NoSuch kind.Session) found.0 found.1) in
-    let stage = is_active-stage found.0.stage (unless-ok (is_active found.0.stage) (Closed found.0.stage) rest.0 rest.1) in
+    let stage = is_active-stage found.0.stage
+    (unless-ok (is_active found.0.stage) (Closed found.0.stage) rest.0 rest.1) in
     subst (IsActiveAt sessions number) (sym same) (record { counted = stands.0; stands = stands.1; is_open = stage })
 
 -- a session that stays on its edition, in its batch and as wide as it was
@@ -84,7 +88,8 @@ pub IsSessionRow-stays : (published : Published) (batches : List BatchRow) (old 
     → IsSessionRow published batches old → IsSessionRow published batches new
 IsSessionRow-stays published batches old new stays is = record {
   edition = omega (arith, stays.edition, is.edition);
-  typed = wide (λ width. length old.typed ≡ width) (λ width. length new.typed ≡ width) (λ width same. stays.typed ∙ same)
+  typed = wide (λ width. length old.typed ≡ width) (λ width. length new.typed ≡ width)
+      (λ width same. stays.typed ∙ same)
       is.typed;
   confirmed = wide (λ width. length old.confirmed ≡ width) (λ width. length new.confirmed ≡ width)
       (λ width same. stays.confirmed ∙ same) is.confirmed;
@@ -103,11 +108,13 @@ IsSessionRow-stays published batches old new stays is = record {
 module _ (published : Published) (sessions : List SessionRow) (records : List RecordRow) (batches : List BatchRow)
     (are : AreOwnRows published sessions records batches) where
   -- an active session is replaced: a record names none, for its session is committed
-  module _ (place : ℕ) (old new : SessionRow) (stands : slice_get sessions place ≡ Some old) (is_open : old.stage ≡ Active)
+  module _ (place : ℕ) (old new : SessionRow) (stands : slice_get sessions place ≡ Some old)
+      (is_open : old.stage ≡ Active)
       (good : IsSessionRow published batches new) where
     not-named : (index : ℕ) (row : RecordRow) → IsRecordRow sessions records index row → row.session - 1 ≢ place
     not-named index row is same =
-        let there : slice_get sessions place ≡ Some is.session = subst (λ one. slice_get sessions one ≡ Some is.session) same
+        let there : slice_get sessions place ≡ Some is.session =
+        subst (λ one. slice_get sessions one ≡ Some is.session) same
         is.stands in
         let one : old ≡ is.session = same_Some old is.session (sym stands ∙ there) in
         let stage : Active ≡ Committed = sym is_open ∙ ap (λ row. row.stage) one ∙ is.committed in
@@ -124,7 +131,8 @@ module _ (published : Published) (sessions : List SessionRow) (records : List Re
       whole = is.whole;
     }
 
-    IsBatchRow-set : (row : BatchRow) → IsBatchRow published sessions row → IsBatchRow published (set sessions place new) row
+    IsBatchRow-set : (row : BatchRow) → IsBatchRow published sessions row
+        → IsBatchRow published (set sessions place new) row
     IsBatchRow-set row is = record {
       edition = is.edition;
       counted = is.counted;
@@ -133,7 +141,8 @@ module _ (published : Published) (sessions : List SessionRow) (records : List Re
 
     pub AreOwnRows-set : AreOwnRows published (set sessions place new) records batches
     AreOwnRows-set = record {
-      sessions_valid = EachAt-set (λ index. IsSessionRow published batches) (λ index. IsSessionRow published batches) sessions
+      sessions_valid = EachAt-set (λ index. IsSessionRow published batches) (λ index. IsSessionRow published batches)
+          sessions
           place new are.sessions_valid (λ index row apart is. is) good;
       records_valid = λ index row there. IsRecordRow-set index row (are.records_valid index row there);
       batches_valid = λ index row there. IsBatchRow-set row (are.batches_valid index row there);
@@ -141,7 +150,8 @@ module _ (published : Published) (sessions : List SessionRow) (records : List Re
 
     -- and where it is committed, its record comes behind the others
     pub AreOwnRows-committed : (row : RecordRow) → new.stage ≡ Committed → 1 ≤ row.session → row.session - 1 ≡ place
-        → length row.texts ≡ length new.typed → AreOwnRows published (set sessions place new) (records ++ row ∷ []) batches
+        → length row.texts ≡ length new.typed → AreOwnRows published (set sessions place new) (records ++ row ∷ [])
+        batches
     AreOwnRows-committed row stage counted names whole =
         let within : place < length sessions = slice_get_within sessions place old stands in
         record {
@@ -170,7 +180,8 @@ module _ (published : Published) (sessions : List SessionRow) (records : List Re
           batches_valid = AreOwnRows-set.batches_valid;
         }
       where
-        others-named : (one : RecordRow) → one.session - 1 ≡ place → All (λ earlier. earlier.session ≢ one.session) records
+        others-named : (one : RecordRow) → one.session - 1 ≡ place → All (λ earlier. earlier.session ≢ one.session)
+            records
         others-named one names_it index past inside same =
             let here = slice_get-there records index inside in
             let is : get_or records index past ≡ here.0 = slice_get-read records index here.0 past here.1 in
@@ -183,7 +194,8 @@ module _ (published : Published) (sessions : List SessionRow) (records : List Re
       → IsSessionRow published (batches ++ more) row)
       (good_batch : (place : ℕ) (row : BatchRow) → length batches ≤ place → slice_get (batches ++ more) place ≡ Some row
       → IsBatchRow published (sessions ++ news) row) where
-    IsBatchRow-append : (row : BatchRow) → IsBatchRow published sessions row → IsBatchRow published (sessions ++ news) row
+    IsBatchRow-append : (row : BatchRow) → IsBatchRow published sessions row → IsBatchRow published (sessions ++ news)
+        row
     IsBatchRow-append row is = record {
       edition = is.edition;
       counted = is.counted;
@@ -192,7 +204,8 @@ module _ (published : Published) (sessions : List SessionRow) (records : List Re
 
     pub AreOwnRows-append : AreOwnRows published (sessions ++ news) records (batches ++ more)
     AreOwnRows-append = record {
-      sessions_valid = EachAt-begins (λ index. IsSessionRow published batches) (λ index. IsSessionRow published (batches ++ more))
+      sessions_valid = EachAt-begins (λ index. IsSessionRow published batches)
+          (λ index. IsSessionRow published (batches ++ more))
           sessions (sessions ++ news) (news, refl) are.sessions_valid
           (λ place row within is. record {
             edition = is.edition;
@@ -209,8 +222,10 @@ module _ (published : Published) (sessions : List SessionRow) (records : List Re
         first = is.first;
         whole = is.whole;
       });
-      batches_valid = EachAt-begins (λ index. IsBatchRow published sessions) (λ index. IsBatchRow published (sessions ++ news))
-          batches (batches ++ more) (more, refl) are.batches_valid (λ place row within is. IsBatchRow-append row is) good_batch;
+      batches_valid = EachAt-begins (λ index. IsBatchRow published sessions)
+          (λ index. IsBatchRow published (sessions ++ news))
+          batches (batches ++ more) (more, refl) are.batches_valid (λ place row within is. IsBatchRow-append row is)
+          good_batch;
     }
 
   -- records are no more than sessions
@@ -245,6 +260,7 @@ module _ (published : Published) (sessions : List SessionRow) (records : List Re
           let good_too = are.records_valid j later.0 later.1 in
           let read : get_or (take j records) i earlier.0 ≡ earlier.0 =
           get_or-take j records i earlier.0 before ∙ slice_get-read records i earlier.0 earlier.0 earlier.1 in
-          let apart : earlier.0.session ≢ later.0.session = subst (λ (row : RecordRow). row.session ≢ later.0.session) read
+          let apart : earlier.0.session ≢ later.0.session = subst (λ (row : RecordRow). row.session ≢ later.0.session)
+          read
           (good_too.first i earlier.0 (omega (arith, length-take j records))) in
           apart (omega (arith, sym one ∙ same ∙ other, good.counted, good_too.counted))

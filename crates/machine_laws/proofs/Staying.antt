@@ -1,5 +1,6 @@
 -- What a step leaves as it was, and what it does to the caller's own rows.
-use Rattle.std.proofs.Common.{◌≡◌, ◌≢◌, ◌⊎◌, ◌∙◌, ℕ, ◌<◌, Bool, true, false, List, [], length, get_or, drop, set, inl, inr, refl, sym, ap, subst, arith}
+use Rattle.std.proofs.Common.{◌≡◌, ◌≢◌, ◌⊎◌, ◌∙◌, ℕ, ◌<◌, Bool, true, false, List, [], length, get_or, drop, set, inl}
+use Rattle.std.proofs.Common.{inr, refl, sym, ap, subst, arith}
 use Rattle.std.specs.Prelude.{Result, Ok, Err, position}
 use Rattle.std.specs.Str.{bytes_eq}
 use Rattle.std.proofs.lemmas.List.{get_or-drop, get_or-set_other, get_or-set_same}
@@ -19,7 +20,8 @@ use Rattle.desk_words.specs.declared.steward_work.StewardWork.{StewardWork}
 use Rattle.desk_words.specs.Changes.{changed, changed_all}
 use Rattle.desk_words.specs.Tables.{AreTables, Published, Rows, new_clerk, published_of}
 use Rattle.desk_valid.specs.Valid.{AreValid}
-use Rattle.machine_core.specs.Checked.{Checked, done, refused, asked, advised, explained, derived, compared, never, ◌>>=◌, Gives}
+use Rattle.machine_core.specs.Checked.{Checked, done, refused, asked, advised, explained, derived, compared, never}
+use Rattle.machine_core.specs.Checked.{◌>>=◌, Gives}
 use Rattle.machine_core.specs.Machine.{IsStep, answered, clerk_of, machine}
 use Rattle.machine_core.specs.declared.making.Making.{Making}
 use Rattle.machine_core.specs.Own.{Own, own_of}
@@ -29,11 +31,13 @@ use Rattle.machine_laws.specs.Callers.{Caller, asks, clerk, number_of, place_of,
 use Rattle.machine_laws.proofs.Accepted.{making-sound}
 use Rattle.machine_laws.proofs.Callers.{names_of}
 use Rattle.machine_laws.proofs.Deeds.{changed-caller, changed-deed, own_after}
-use Rattle.machine_laws.proofs.Lists.{Begins, Begins-push, Begins-same, list_at-set_other, list_at-set_same, map-set_same, slice_get-read, slice_get-there}
+use Rattle.machine_laws.proofs.Lists.{Begins, Begins-push, Begins-same, list_at-set_other, list_at-set_same}
+use Rattle.machine_laws.proofs.Lists.{map-set_same, slice_get-read, slice_get-there}
 use Rattle.machine_laws.proofs.More.{AreMore}
 use Rattle.machine_laws.proofs.Names.{clerk_of-begins, found-place}
 use Rattle.machine_laws.proofs.Valid.{with_own}
-use Rattle.machine_laws.proofs.Writes.{IsNew, IsPlaceOf, IsStewardsNew, clerk-written, clerk_of-ok, derive-unchanged, look-unchanged, report-unchanged, steward-written}
+use Rattle.machine_laws.proofs.Writes.{IsNew, IsPlaceOf, IsStewardsNew, clerk-written, clerk_of-ok, derive-unchanged}
+use Rattle.machine_laws.proofs.Writes.{look-unchanged, report-unchanged, steward-written}
 
 -- what an accepted request is: a new write of a clerk or of the steward
 pub data IsAccepted (rows : Rows) : Command → Reply → List Change → Type 0 where
@@ -93,19 +97,23 @@ are_more one other schemas masters rulebooks editions regions = record {
 -- and begins what is published where a table changes
 pub AreMore-changed : (rows : Rows) (one : Change) → AreMore (published_of rows) (published_of (changed rows one))
 AreMore-changed rows (change.Clerk place row) = AreMore-same (published_of rows)
-AreMore-changed rows (change.Schema row) = are_more (published_of rows) (published_of (changed rows (change.Schema row)))
+AreMore-changed rows (change.Schema row) = are_more (published_of rows)
+    (published_of (changed rows (change.Schema row)))
     (Begins-push rows.schemas row) (Begins-same rows.masters) (Begins-same rows.rulebooks) (Begins-same rows.editions)
     (Begins-same rows.regions)
-AreMore-changed rows (change.Master row) = are_more (published_of rows) (published_of (changed rows (change.Master row)))
+AreMore-changed rows (change.Master row) = are_more (published_of rows)
+    (published_of (changed rows (change.Master row)))
     (Begins-same rows.schemas) (Begins-push rows.masters row) (Begins-same rows.rulebooks) (Begins-same rows.editions)
     (Begins-same rows.regions)
 AreMore-changed rows (change.Rulebook row) = are_more (published_of rows)
     (published_of (changed rows (change.Rulebook row))) (Begins-same rows.schemas) (Begins-same rows.masters)
     (Begins-push rows.rulebooks row) (Begins-same rows.editions) (Begins-same rows.regions)
-AreMore-changed rows (change.Edition row) = are_more (published_of rows) (published_of (changed rows (change.Edition row)))
+AreMore-changed rows (change.Edition row) = are_more (published_of rows)
+    (published_of (changed rows (change.Edition row)))
     (Begins-same rows.schemas) (Begins-same rows.masters) (Begins-same rows.rulebooks) (Begins-push rows.editions row)
     (Begins-same rows.regions)
-AreMore-changed rows (change.Region row) = are_more (published_of rows) (published_of (changed rows (change.Region row)))
+AreMore-changed rows (change.Region row) = are_more (published_of rows)
+    (published_of (changed rows (change.Region row)))
     (Begins-same rows.schemas) (Begins-same rows.masters) (Begins-same rows.rulebooks) (Begins-same rows.editions)
     (Begins-push rows.regions row)
 AreMore-changed rows (change.Session caller place row) = AreMore-same (published_of rows)
@@ -141,7 +149,8 @@ names-set rows place row within same =
     (same ∙ ap (λ (row : ClerkRow). row.name) (slice_get-read rows.clerks place there.0 (new_clerk []) there.1))
 
 -- a clerk who is found has the name
-pub clerk_of-named : (clerks : List ClerkRow) (name : List ℕ) (place : ℕ) (past : ClerkRow) → clerk_of clerks name ≡ done place
+pub clerk_of-named : (clerks : List ClerkRow) (name : List ℕ) (place : ℕ) (past : ClerkRow)
+    → clerk_of clerks name ≡ done place
     → (get_or clerks place past).name ≡ name
 clerk_of-named clerks name place past is =
     let test : ClerkRow → Bool = λ row. bytes_eq row.name name in
@@ -222,7 +231,8 @@ module _ (rows : Rows) (valid : AreValid rows) where
   longer-same : IsLonger rows
   longer-same = record { published = AreMore-same (published_of rows); names = Begins-same (names_of rows.clerks) }
 
-  accepted-longer : (command : Command) (answer : Reply) (changes : List Change) → IsAccepted rows command answer changes
+  accepted-longer : (command : Command) (answer : Reply) (changes : List Change) → IsAccepted rows command answer
+      changes
       → IsLonger (changed_all rows changes)
   accepted-longer command answer changes (by_clerk name ticket work answer' changes' new) =
       let own : Own = own_after (own_of rows new.place) ticket new.deed in
@@ -260,7 +270,8 @@ module _ (rows : Rows) (valid : AreValid rows) where
       let apart : place ≢ new.place = λ same. omega (arith, first, same, new.is_place.behind) in
       ap (λ (one : Rows). own_of one place) (after-clerk name ticket work answer' changes' new)
       ∙ own_of-with_other rows new.place place (own_after (own_of rows new.place) ticket new.deed) apart
-  accepted-kept steward place command answer changes (by_steward ticket work answer' changes' new) other is = absurd (cc)
+  accepted-kept steward place command answer changes (by_steward ticket work answer' changes' new) other is =
+      absurd (cc)
   accepted-kept (clerk name) place command answer changes (by_clerk named ticket work answer' changes' new) other is =
       let apart : place ≢ new.place = λ same. different (clerk_of-apart rows.clerks named name place
       (subst (λ one. clerk_of rows.clerks named ≡ done one) (sym same) new.is_place.found) is) in
@@ -288,11 +299,13 @@ module _ (rows : Rows) (valid : AreValid rows) where
   pub step-kept : (caller : Caller) (place : ℕ) (command : Command) (answer : Reply) (changes : List Change)
       → IsStep rows command answer changes → (changes ≡ []) ⊎ (asks caller command ≡ false)
       → place_of rows caller ≡ done place → own_of (changed_all rows changes) place ≡ own_of rows place
-  step-kept caller place command answer changes step (inl none) is = ap (λ made. own_of (changed_all rows made) place) none
-  step-kept caller place command answer changes step (inr other) is = elim (step-cases rows command answer changes step) [
-    | inl none ↦ ap (λ made. own_of (changed_all rows made) place) none
-    | inr accepted ↦ accepted-kept caller place command answer changes accepted other is
-  ]
+  step-kept caller place command answer changes step (inl none) is = ap (λ made. own_of (changed_all rows made) place)
+      none
+  step-kept caller place command answer changes step (inr other) is =
+      elim (step-cases rows command answer changes step) [
+        | inl none ↦ ap (λ made. own_of (changed_all rows made) place) none
+        | inr accepted ↦ accepted-kept caller place command answer changes accepted other is
+      ]
 
   -- an accepted request puts its ticket into the caller's row
   pub record IsTicketed (caller : Caller) (command : Command) (changes : List Change) : Type 0 where
@@ -307,7 +320,8 @@ module _ (rows : Rows) (valid : AreValid rows) where
 
   accepted-ticketed : (caller : Caller) (command : Command) (answer : Reply) (changes : List Change)
       → IsAccepted rows command answer changes → asks caller command ≡ true → IsTicketed caller command changes
-  accepted-ticketed steward command answer changes (by_clerk name ticket work answer' changes' new) asked_it = absurd (cc)
+  accepted-ticketed steward command answer changes (by_clerk name ticket work answer' changes' new) asked_it =
+      absurd (cc)
   accepted-ticketed steward command answer changes (by_steward ticket work answer' changes' new) asked_it =
       let sound = making-sound rows work new.making valid new.makes in
       let next : Rows = changed rows new.making.change in
@@ -334,13 +348,16 @@ module _ (rows : Rows) (valid : AreValid rows) where
         what = new.deed.act;
         target = new.deed.target;
         row = ap (λ (one : Rows). (own_of one new.place).row) (after-clerk named ticket work answer' changes' new)
-            ∙ ap (λ (own : Own). own.row) (own_of-with_same rows new.place (own_after (own_of rows new.place) ticket new.deed)
+            ∙ ap (λ (own : Own). own.row) (own_of-with_same rows new.place
+            (own_after (own_of rows new.place) ticket new.deed)
             valid.tables new.is_place.within);
       }
-  accepted-ticketed (clerk name) command answer changes (by_steward ticket work answer' changes' new) asked_it = absurd (cc)
+  accepted-ticketed (clerk name) command answer changes (by_steward ticket work answer' changes' new) asked_it =
+      absurd (cc)
 
   pub step-ticketed : (caller : Caller) (command : Command) (answer : Reply) (changes : List Change)
-      → IsStep rows command answer changes → changes ≢ [] → asks caller command ≡ true → IsTicketed caller command changes
+      → IsStep rows command answer changes → changes ≢ [] → asks caller command ≡ true → IsTicketed caller command
+      changes
   step-ticketed caller command answer changes step some asked_it = elim (step-cases rows command answer changes step) [
     | inl none ↦ absurd (some none)
     | inr accepted ↦ accepted-ticketed caller command answer changes accepted asked_it

@@ -1,6 +1,8 @@
 -- Why a request of the steward is refused.
-use Rattle.std.proofs.Common.{◌≡◌, ◌≢◌, ◌⊎◌, ◌∙◌, ℕ, ◌+◌, ◌-◌, ◌<◌, ◌≤◌, Bool, true, false, List, [], ◌∷◌, ◌++◌, length, get_or, map, Some, None, inl, inr, refl, sym, ap, subst, arith}
-use Rattle.std.specs.Prelude.{◌==◌, All, Contains, IsSomeAnd, IsTrue, Ok, Err, nat_le, not, option_and_then, option_map, position, slice_get, zip}
+use Rattle.std.proofs.Common.{◌≡◌, ◌≢◌, ◌⊎◌, ◌∙◌, ℕ, ◌+◌, ◌-◌, ◌<◌, ◌≤◌, Bool, true, false, List, [], ◌∷◌, ◌++◌, length}
+use Rattle.std.proofs.Common.{get_or, map, Some, None, inl, inr, refl, sym, ap, subst, arith}
+use Rattle.std.specs.Prelude.{◌==◌, All, Contains, IsSomeAnd, IsTrue, Ok, Err, nat_le, not, option_and_then, option_map}
+use Rattle.std.specs.Prelude.{position, slice_get, zip}
 use Rattle.std.specs.List.{list_any}
 use Rattle.std.specs.Str.{bytes_eq}
 use Rattle.std.proofs.lemmas.Bool.Decides.{nat_tests}
@@ -22,11 +24,13 @@ use Rattle.desk_words.specs.declared.limit.Which.TheVariants as which
 use Rattle.desk_words.specs.declared.refusal.Kind.TheVariants as kind
 use Rattle.desk_words.specs.declared.refusal.Reader.TheVariants as reader
 use Rattle.desk_words.specs.declared.refusal.Refusal.{Refusal}
-use Rattle.desk_words.specs.declared.refusal.Refusal.TheVariants.{BadName, BadText, NoSuch, RowWidth, Taken, Twice, UnknownAttr, ValueLong}
+use Rattle.desk_words.specs.declared.refusal.Refusal.TheVariants.{BadName, BadText, NoSuch, RowWidth, Taken, Twice}
+use Rattle.desk_words.specs.declared.refusal.Refusal.TheVariants.{UnknownAttr, ValueLong}
 use Rattle.desk_words.specs.declared.rows.clerk.ClerkRow.{ClerkRow}
 use Rattle.desk_words.specs.declared.rows.edition.EditionRow.{EditionRow}
 use Rattle.desk_words.specs.declared.steward_work.StewardWork.{StewardWork}
-use Rattle.desk_words.specs.declared.steward_work.StewardWork.TheVariants.{AddClerk, AddSchema, AddMaster, AddRulebook, AddEdition, AddRegion, AddDerived}
+use Rattle.desk_words.specs.declared.steward_work.StewardWork.TheVariants.{AddClerk, AddSchema, AddMaster, AddRulebook}
+use Rattle.desk_words.specs.declared.steward_work.StewardWork.TheVariants.{AddEdition, AddRegion, AddDerived}
 use Rattle.desk_words.specs.Tables.{Published, Rows, published_of}
 use Rattle.desk_valid.specs.Bindings.{binding, bound_at, parts_of}
 use Rattle.desk_valid.specs.Readings.{all_of, rules_at, schema_at}
@@ -39,7 +43,8 @@ use Rattle.machine_core.specs.Limits.{within}
 use Rattle.machine_core.specs.Machine.{making_of}
 use Rattle.machine_core.specs.Steward.AddClerk.{clerk_row}
 use Rattle.machine_core.specs.Steward.AddDerived.{derived_region}
-use Rattle.machine_core.specs.Steward.AddEdition.{another_master, bindable, edition_row, in_order, master_name, next_edition}
+use Rattle.machine_core.specs.Steward.AddEdition.{another_master, bindable, edition_row, in_order, master_name}
+use Rattle.machine_core.specs.Steward.AddEdition.{next_edition}
 use Rattle.machine_core.specs.Steward.AddMaster.{master_row}
 use Rattle.machine_core.specs.Steward.AddRegion.{full_row, full_rows, region_row, short_text}
 use Rattle.machine_core.specs.Steward.AddRulebook.{rulebook_row}
@@ -47,7 +52,9 @@ use Rattle.machine_core.specs.Steward.AddSchema.{schema_row}
 use Rattle.machine_core.specs.Tests.{another_attribute, attribute_of, proper_name}
 use Rattle.machine_core.proofs.Chains.{Gives-bind_ok, done-value}
 use Rattle.machine_core.proofs.Masters.{master-named}
-use Rattle.machine_core.proofs.Tested.{certainly-ok, certainly-why, chain-why, done-why, each-why, each_behind-found, each_behind-refused, some_or-ok, some_or-why, unless-why, value_or-ok, value_or-why, within-why}
+use Rattle.machine_core.proofs.Tested.{certainly-ok, certainly-why, chain-why, done-why, each-why, each_behind-found}
+use Rattle.machine_core.proofs.Tested.{each_behind-refused, some_or-ok, some_or-why, unless-why, value_or-ok}
+use Rattle.machine_core.proofs.Tested.{value_or-why, within-why}
 use Rattle.machine_laws.proofs.Derived.{IsAskedOf-found}
 use Rattle.machine_laws.proofs.DerivingWhy.{derivation-why, derived_rows-why}
 use Rattle.machine_laws.proofs.Why.{Contains-image, attribute-why, sheet-why, word-at}
@@ -81,7 +88,8 @@ attributes-why P words names unknown twice refusal gives =
     let says = each_behind-refused (another_attribute words) names [] refusal gives in
     let word : List ℕ = says.1 in
     let taken : ℕ → ℕ → Bool = λ at earlier. earlier == at in
-    chain-why P (attribute_of words word) _ (attribute-why P words word (unknown word (Contains-between names says.0 says.2
+    chain-why P (attribute_of words word) _
+    (attribute-why P words word (unknown word (Contains-between names says.0 says.2
     word says.4)))
     (λ at found. chain-why P _ _ (unless-why P (not (list_any (taken at) says.3)) (Twice word) (λ some.
     let any = Any-from_list_any (taken at) says.3 (not-false (list_any (taken at) says.3) some) in
@@ -101,12 +109,15 @@ attributes-why P words names unknown twice refusal gives =
           })
     ])) (λ passed ok. done-why P _)) refusal says.6
   where
-    attribute-word : (name : List ℕ) (before : List ℕ) (found : ℕ) → Gives (another_attribute words before name) (Ok found)
+    attribute-word : (name : List ℕ) (before : List ℕ) (found : ℕ) → Gives (another_attribute words before name)
+        (Ok found)
         → name ≡ get_or words found []
     attribute-word name before found gives =
-        let at = Gives-bind_ok (attribute_of words name) (λ at. unless (not (list_any (λ earlier. earlier == at) before))
+        let at = Gives-bind_ok (attribute_of words name)
+        (λ at. unless (not (list_any (λ earlier. earlier == at) before))
         (Twice name) >> done at) found gives in
-        let free = Gives-bind_ok (unless (not (list_any (λ earlier. earlier == at.0) before)) (Twice name)) (λ _. done at.0)
+        let free = Gives-bind_ok (unless (not (list_any (λ earlier. earlier == at.0) before)) (Twice name))
+        (λ _. done at.0)
         found at.2 in
         word-at name words at.0 (some_or-ok (position (bytes_eq name) words) (UnknownAttr name) at.0 at.1)
         ∙ ap (λ place. get_or words place []) (sym (done-value at.0 found free.2))
@@ -136,7 +147,8 @@ masters-why P published masters missing twice refusal gives =
             earlier = map name_in says.0;
             later = map name_in says.2;
             is = ap (map name_in) says.4 ∙ map-append name_in says.0 (master ∷ says.2);
-            twice = subst (λ one. Contains (map name_in says.0) one) equal (Contains-image name_in says.0 before.0 before.1);
+            twice = subst (λ one. Contains (map name_in says.0) one) equal
+                (Contains-image name_in says.0 before.0 before.1);
           })
     ])) (λ passed ok. done-why P _)) refusal says.6
   where
@@ -144,10 +156,12 @@ masters-why P published masters missing twice refusal gives =
         → Gives (another_master published.masters before master) (Ok found)
         → master_name published.masters found ≡ master.0
     found-name master before found gives =
-        let at = Gives-bind_ok (some_or (master_named published.masters master.0 master.1) (NoSuch kind.Master)) (λ at. unless
+        let at = Gives-bind_ok (some_or (master_named published.masters master.0 master.1) (NoSuch kind.Master))
+        (λ at. unless
         (not (list_any (λ earlier. bytes_eq (master_name published.masters earlier) master.0) before)) (Twice master.0)
         >> done at) found gives in
-        let free = Gives-bind_ok (unless (not (list_any (λ earlier. bytes_eq (master_name published.masters earlier) master.0)
+        let free = Gives-bind_ok (unless
+        (not (list_any (λ earlier. bytes_eq (master_name published.masters earlier) master.0)
         before)) (Twice master.0)) (λ _. done at.0) found at.2 in
         ap (master_name published.masters) (done-value at.0 found free.2)
         ∙ (master-named published master.0 master.1 at.0 (some_or-ok (master_named published.masters master.0 master.1)
@@ -162,17 +176,21 @@ masters-places published [] before found gives = ([], done-value before found gi
 masters-places published (master ∷ masters) before found gives =
     let here = Gives-bind_ok (another_master published.masters before master) (λ one. each_behind (before ++ one ∷ [])
     (another_master published.masters) masters) found gives in
-    let at = Gives-bind_ok (some_or (master_named published.masters master.0 master.1) (NoSuch kind.Master)) (λ at. unless
+    let at = Gives-bind_ok (some_or (master_named published.masters master.0 master.1) (NoSuch kind.Master))
+    (λ at. unless
     (not (list_any (λ earlier. bytes_eq (master_name published.masters earlier) master.0) before)) (Twice master.0)
     >> done at) here.0 here.1 in
-    let free = Gives-bind_ok (unless (not (list_any (λ earlier. bytes_eq (master_name published.masters earlier) master.0)
+    let free = Gives-bind_ok (unless
+    (not (list_any (λ earlier. bytes_eq (master_name published.masters earlier) master.0)
     before)) (Twice master.0)) (λ _. done at.0) here.0 at.2 in
-    let first : master_named published.masters master.0 master.1 ≡ Some here.0 = some_or-ok (master_named published.masters
+    let first : master_named published.masters master.0 master.1 ≡ Some here.0 =
+    some_or-ok (master_named published.masters
     master.0 master.1) (NoSuch kind.Master) at.0 at.1 ∙ ap Some (sym (done-value at.0 here.0 free.2)) in
     let rest = masters-places published masters (before ++ here.0 ∷ []) found here.2 in (
       here.0 ∷ rest.0,
       rest.1 ∙ append_assoc before (here.0 ∷ []) rest.0,
-      ap (option_and_then (λ value. option_map (λ values. value ∷ values) (all_of (map (λ one. master_named published.masters
+      ap (option_and_then (λ value. option_map (λ values. value ∷ values)
+          (all_of (map (λ one. master_named published.masters
           one.0 one.1) masters)))) first ∙ ap (option_map (λ values. here.0 ∷ values)) rest.2,
     )
 
@@ -205,7 +223,8 @@ rows-why P attributes all before (first ∷ others) number is counted narrow lon
     (unless-why P (nat_le (length cell.1) 200) (ValueLong cell.0) (λ fails. long first cell listed there
     (grind (arith, nat_tests, fails)))) (λ fits fits_ok. done-why P _))))
     (λ texts given. chain-why P (full_rows attributes (number + 1) others) _
-    (rows-why P attributes all (before ++ first ∷ []) others (number + 1) (is ∙ sym (append_assoc before (first ∷ []) others))
+    (rows-why P attributes all (before ++ first ∷ []) others (number + 1)
+    (is ∙ sym (append_assoc before (first ∷ []) others))
     (omega (arith, counted, length-append before (first ∷ []))) narrow long)
     (λ more more_ok. done-why P _)) refusal gives
   where
@@ -235,7 +254,8 @@ module _ (rows : Rows) (ticket : Ticket) where
       let command : Command = Steward ticket (AddSchema body) in
       let P : Refusal → Type 0 = Cause rows command in
       let whole : (refusal : Refusal) → Gives (schema_row rows.schemas body) (Err refusal) → P refusal =
-      chain-why P (value_or (schema_of body) schema_refusal) _ (value_or-why P (schema_of body) schema_refusal (λ fault wrong.
+      chain-why P (value_or (schema_of body) schema_refusal) _
+      (value_or-why P (schema_of body) schema_refusal (λ fault wrong.
       schema-why rows command body fault wrong (λ refusal same. (fault, wrong, same))))
       (λ schema reads. chain-why P (within which.Schemas (length rows.schemas + 1)) _
       (within-why P which.Schemas (length rows.schemas + 1) (λ more. (_, (ticket, body, refl, refl), refl, more)))
@@ -249,7 +269,8 @@ module _ (rows : Rows) (ticket : Ticket) where
       let P : Refusal → Type 0 = Cause rows command in
       let whole : (refusal : Refusal) → Gives (master_row rows.masters name body) (Err refusal) → P refusal =
       chain-why P (proper_name name) _ (name-why P name (λ bad. (refl, bad))) (λ named named_ok.
-      chain-why P (value_or (read_sheet body) sheet_refusal) _ (value_or-why P (read_sheet body) sheet_refusal (λ fault wrong.
+      chain-why P (value_or (read_sheet body) sheet_refusal) _
+      (value_or-why P (read_sheet body) sheet_refusal (λ fault wrong.
       sheet-why rows command body fault wrong (λ refusal same. (fault, wrong, same))))
       (λ master reads. chain-why P (within which.Masters (length rows.masters + 1)) _
       (within-why P which.Masters (length rows.masters + 1) (λ more. (_, (ticket, name, body, refl, refl), refl, more)))
@@ -280,7 +301,8 @@ module _ (rows : Rows) (ticket : Ticket) where
       → P refusal =
       chain-why P (proper_name name) _ (name-why P name (λ bad. (refl, bad))) (λ named named_ok.
       chain-why P (some_or (schema_named rows.schemas schema version) (NoSuch kind.Schema)) _
-      (some_or-why P (schema_named rows.schemas schema version) (NoSuch kind.Schema) (λ none. ((schema, version), refl, none)))
+      (some_or-why P (schema_named rows.schemas schema version) (NoSuch kind.Schema)
+      (λ none. ((schema, version), refl, none)))
       (λ at found. chain-why P (certainly (schema_at (published_of rows) at)) _
       (certainly-why P (schema_at (published_of rows) at)) (λ over is.
       chain-why P (value_or (read_rules body over) rules_refusal) _ (value_or-why P (read_rules body over) rules_refusal
@@ -315,7 +337,8 @@ module _ (rows : Rows) (ticket : Ticket) where
       chain-why P (certainly (parts_of (published_of rows) row)) _ (certainly-why P (parts_of (published_of rows) row))
       (λ parts is.
       let whole = certainly-ok (parts_of (published_of rows) row) parts is in
-      chain-why P (value_or (binding parts row.folded) bind_refusal) _ (value_or-why P (binding parts row.folded) bind_refusal
+      chain-why P (value_or (binding parts row.folded) bind_refusal) _
+      (value_or-why P (binding parts row.folded) bind_refusal
       (λ fault wrong. bind-why rows command parts.rules.rulebook parts.rules.schema parts.masters row.folded fault wrong
       (λ refusal same. (
         row,
@@ -335,7 +358,12 @@ module _ (rows : Rows) (ticket : Ticket) where
             × (BadText reader.Index 1 (entries kit) 0 ≡ bind_refusal fault'))
             ⊎ ((kit' : Kit) × (binding one row.folded ≡ Ok kit') × (2000000 < entries kit')
             × (BadText reader.Index 1 (entries kit) 0 ≡ BadText reader.Index 1 (entries kit') 0)))) (sym whole)
-            (inr (kit, value_or-ok (binding parts row.folded) bind_refusal kit binds, grind (arith, nat_tests, wide), refl)),
+            (inr (
+              kit,
+              value_or-ok (binding parts row.folded) bind_refusal kit binds,
+              grind (arith, nat_tests, wide),
+              refl,
+            )),
       ))))
 
   add_edition-why : (name : List ℕ) (rulebook : List ℕ × ℕ) (masters : List (List ℕ × ℕ)) (folded : List (List ℕ))
@@ -345,14 +373,16 @@ module _ (rows : Rows) (ticket : Ticket) where
       let command : Command = Steward ticket (AddEdition name rulebook masters folded) in
       let published : Published = published_of rows in
       let P : Refusal → Type 0 = Cause rows command in
-      let whole : (refusal : Refusal) → Gives (edition_row published name rulebook masters folded) (Err refusal) → P refusal =
+      let whole : (refusal : Refusal) → Gives (edition_row published name rulebook masters folded) (Err refusal)
+      → P refusal =
       chain-why P (proper_name name) _ (name-why P name (λ bad. (refl, bad))) (λ named named_ok.
       chain-why P (some_or (rulebook_named rows.rulebooks rulebook.0 rulebook.1) (NoSuch kind.Rulebook)) _
       (some_or-why P (rulebook_named rows.rulebooks rulebook.0 rulebook.1) (NoSuch kind.Rulebook) (λ none.
       (rulebook, refl, none)))
       (λ book found. chain-why P (certainly (rules_at published book)) _ (certainly-why P (rules_at published book))
       (λ rules is.
-      let names_it = some_or-ok (rulebook_named rows.rulebooks rulebook.0 rulebook.1) (NoSuch kind.Rulebook) book found in
+      let names_it = some_or-ok (rulebook_named rows.rulebooks rulebook.0 rulebook.1) (NoSuch kind.Rulebook) book
+      found in
       let words : AreWords rows command rules.schema.attributes = inr (record {
         version = rulebook;
         names = refl;
@@ -370,7 +400,8 @@ module _ (rows : Rows) (ticket : Ticket) where
       (λ attributes attributes_ok. chain-why P (within which.EditionMasters (length masters)) _
       (within-why P which.EditionMasters (length masters) (λ more. (_, refl, refl, more)))
       (λ few few_ok. chain-why P (each_behind [] (another_master published.masters) masters) _
-      (masters-why P published masters (λ master listed none. inl (master, listed, none)) (λ one twice. inr (inl twice)))
+      (masters-why P published masters (λ master listed none. inl (master, listed, none))
+      (λ one twice. inr (inl twice)))
       (λ places places_ok.
       let at = masters-places published masters [] places places_ok in
       let made : EditionRow =
@@ -407,7 +438,8 @@ module _ (rows : Rows) (ticket : Ticket) where
       chain-why P (some_or (edition_named rows.editions edition version) (NoSuch kind.Edition)) _
       (some_or-why P (edition_named rows.editions edition version) (NoSuch kind.Edition) (λ none.
       inr (inl ((edition, version), refl, none))))
-      (λ at found. chain-why P (certainly (bound_at published at)) _ (certainly-why P (bound_at published at)) (λ bound is.
+      (λ at found. chain-why P (certainly (bound_at published at)) _ (certainly-why P (bound_at published at))
+      (λ bound is.
       let there = some_or-ok (edition_named rows.editions edition version) (NoSuch kind.Edition) at found in
       let words : AreWords rows command bound.names.attributes = inl (record {
         place = at;
@@ -431,7 +463,8 @@ module _ (rows : Rows) (ticket : Ticket) where
         more,
       )))
       (λ few few_ok. chain-why P (full_rows attributes 1 texts) _
-      (rows-why P attributes texts [] texts 1 refl refl (λ one row counted stands narrow. (row, counted, stands, narrow))
+      (rows-why P attributes texts [] texts 1 refl refl
+      (λ one row counted stands narrow. (row, counted, stands, narrow))
       (λ row cell listed there long. (cell.1, (row, listed, there), long)))
       (λ full full_ok. chain-why P _ _ (within-why P which.Regions _ (λ more. (
         _,

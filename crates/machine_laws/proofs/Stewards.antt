@@ -18,7 +18,8 @@ use Rattle.desk_words.specs.declared.rows.act.Act.{Act}
 use Rattle.desk_words.specs.declared.rows.act.Act.TheVariants as act
 use Rattle.desk_words.specs.declared.rows.clerk.ClerkRow.{ClerkRow}
 use Rattle.desk_words.specs.declared.steward_work.StewardWork.{StewardWork}
-use Rattle.desk_words.specs.declared.steward_work.StewardWork.TheVariants.{AddClerk, AddSchema, AddMaster, AddRulebook, AddEdition, AddRegion, AddDerived}
+use Rattle.desk_words.specs.declared.steward_work.StewardWork.TheVariants.{AddClerk, AddSchema, AddMaster, AddRulebook}
+use Rattle.desk_words.specs.declared.steward_work.StewardWork.TheVariants.{AddEdition, AddRegion, AddDerived}
 use Rattle.desk_words.specs.Changes.{changed, put}
 use Rattle.desk_words.specs.Tables.{Published, Rows, new_clerk, published_of}
 use Rattle.machine_core.specs.Checked.{Checked, ◌>>=◌, ◌>>◌, certainly, done, unless}
@@ -59,22 +60,28 @@ clerk_making names name =
     >> (within which.Clerks (length names) >> done (new_clerk name)))
     >>= (λ row. done (record { change = change.Clerk (length names) row; act = act.Clerk; target = length names }))
 
-clerk_making-names : (rows : Rows) (name : List ℕ) → making_of rows (AddClerk name) ≡ clerk_making (names_of rows.clerks) name
+clerk_making-names : (rows : Rows) (name : List ℕ) → making_of rows (AddClerk name) ≡ clerk_making
+    (names_of rows.clerks) name
 clerk_making-names rows name =
     let any = list_any-names rows.clerks name in
     let long = sym (length-map rows.clerks (λ (row : ClerkRow). row.name)) in
     λ i. tests.proper_name name >> (unless (not (any i)) (Taken name) >> (within which.Clerks (long i) >> done
-    (new_clerk name))) >>= (λ row. done (record { change = change.Clerk (long i) row; act = act.Clerk; target = long i }))
+    (new_clerk name))) >>= (λ row. done
+    (record { change = change.Clerk (long i) row; act = act.Clerk; target = long i }))
 
 -- what the steward makes is the same
-making-alike : (rows other : Rows) (work : StewardWork) → AreAsToSteward rows other → making_of rows work ≡ making_of other work
+making-alike : (rows other : Rows) (work : StewardWork) → AreAsToSteward rows other → making_of rows work ≡ making_of
+    other work
 making-alike rows other (AddClerk name) alike =
-    clerk_making-names rows name ∙ ap (λ names. clerk_making names name) alike.names ∙ sym (clerk_making-names other name)
+    clerk_making-names rows name ∙ ap (λ names. clerk_making names name) alike.names
+    ∙ sym (clerk_making-names other name)
 making-alike rows other (AddSchema body) alike = ap (λ (one : Published). schema_row one.schemas body >>= (λ row. done
     (record { change = change.Schema row; act = act.Schema; target = length one.schemas }))) alike.published
-making-alike rows other (AddMaster name body) alike = ap (λ (one : Published). master_row one.masters name body >>= (λ row.
+making-alike rows other (AddMaster name body) alike =
+    ap (λ (one : Published). master_row one.masters name body >>= (λ row.
     done (record { change = change.Master row; act = act.Master; target = length one.masters }))) alike.published
-making-alike rows other (AddRulebook name schema version body) alike = ap (λ (one : Published). rulebook_row one name schema
+making-alike rows other (AddRulebook name schema version body) alike =
+    ap (λ (one : Published). rulebook_row one name schema
     version body >>= (λ row. done (record {
       change = change.Rulebook row;
       act = act.Rulebook;
@@ -88,14 +95,16 @@ making-alike rows other (AddEdition name rulebook masters folded) alike = ap (λ
       target = length
           one.editions;
     }))) alike.published
-making-alike rows other (AddRegion edition version attributes texts) alike = ap (λ (one : Published). region_row one edition
+making-alike rows other (AddRegion edition version attributes texts) alike =
+    ap (λ (one : Published). region_row one edition
     version attributes texts >>= (λ row. done (record {
       change = change.Region row;
       act = act.Region;
       target = length
           one.regions;
     }))) alike.published
-making-alike rows other (AddDerived edition version master pairs from) alike = ap (λ (one : Published). derived_region one
+making-alike rows other (AddDerived edition version master pairs from) alike =
+    ap (λ (one : Published). derived_region one
     edition version master pairs from >>= (λ row. done (record {
       change = change.Region row;
       act = act.Region;
@@ -112,15 +121,19 @@ kept-alike rows other act.Clerk target published names =
     ∙ ap (λ name. certainly name >>= (λ one. done (made.Clerk one))) (sym (slice_get-map name_in rows.clerks target)
     ∙ ap (λ list. slice_get list target) names ∙ slice_get-map name_in other.clerks target)
     ∙ sym (made_clerk-names (slice_get other.clerks target))
-kept-alike rows other act.Schema target published names = ap (λ (one : Published). certainly (slice_get one.schemas target)
+kept-alike rows other act.Schema target published names =
+    ap (λ (one : Published). certainly (slice_get one.schemas target)
     >>= (λ row. done (made.Schema row.name row.version))) published
-kept-alike rows other act.Master target published names = ap (λ (one : Published). certainly (slice_get one.masters target)
+kept-alike rows other act.Master target published names =
+    ap (λ (one : Published). certainly (slice_get one.masters target)
     >>= (λ row. done (made.Master row.name row.version))) published
 kept-alike rows other act.Rulebook target published names = ap (λ (one : Published). certainly (slice_get one.rulebooks
     target) >>= (λ row. done (made.Rulebook row.name row.version))) published
-kept-alike rows other act.Edition target published names = ap (λ (one : Published). certainly (slice_get one.editions target)
+kept-alike rows other act.Edition target published names =
+    ap (λ (one : Published). certainly (slice_get one.editions target)
     >>= (λ row. done (made.Edition row.name row.version))) published
-kept-alike rows other act.Region target published names = ap (λ (one : Published). certainly (slice_get one.regions target)
+kept-alike rows other act.Region target published names =
+    ap (λ (one : Published). certainly (slice_get one.regions target)
     >>= region_made one target) published
 kept-alike rows other act.Nothing target published names = refl
 kept-alike rows other act.Opened target published names = refl
@@ -152,7 +165,8 @@ map-put : {A B : Type 0} (image : A → B) (items : List A) (place : ℕ) (item 
 map-put image items place item =
     let long = sym (length-map items image) in
     chosen (place == length items)
-    ∙ ap (λ count. if place == count then map image items ++ image item ∷ [] else set (map image items) place (image item)) long
+    ∙ ap (λ count. if place == count then map image items ++ image item ∷ [] else set (map image items) place
+    (image item)) long
   where
     chosen : (last : Bool) → map image (if last then items ++ item ∷ [] else set items place item)
         ≡ (if last then map image items ++ image item ∷ [] else set (map image items) place (image item))
@@ -175,7 +189,8 @@ changed-names rows other (change.Record caller row) same = same
 changed-names rows other (change.Batch caller row) same = same
 
 -- the steward's request comes to the same
-steward-write-alike : (rows other : Rows) (ticket : Ticket) (work : StewardWork) (turn : Use) → AreAsToSteward rows other
+steward-write-alike : (rows other : Rows) (ticket : Ticket) (work : StewardWork) (turn : Use)
+    → AreAsToSteward rows other
     → steward_write rows ticket work turn ≡ steward_write other ticket work turn
 steward-write-alike rows other ticket work Repeated alike =
     let kept : kept_made rows (own_of rows 0).row.act (own_of rows 0).row.target
@@ -187,7 +202,8 @@ steward-write-alike rows other ticket work Fresh alike =
     let last : Rows → ClerkRow → Making → Checked (Reply × List Change) = λ one row making.
     kept_made (changed one making.change) making.act making.target
     >>= (λ found. done (reply.Made found, making_changes row ticket making)) in
-    let each_making : (making : Making) → last rows (own_of rows 0).row making ≡ last other (own_of other 0).row making =
+    let each_making : (making : Making) → last rows (own_of rows 0).row making ≡ last other (own_of other 0).row making
+    =
     λ making.
     let kept = kept-alike (changed rows making.change) (changed other making.change) making.act making.target
     (changed-published rows other making.change alike.published) (changed-names rows other making.change alike.names) in

@@ -1,5 +1,6 @@
 -- Every state of a valid kit has a suggestion, whatever the regions are.
-use Rattle.std.proofs.Common.{◌≡◌, ◌⊎◌, ◌≤◌, ◌+◌, ◌-◌, ℕ, zero, suc, true, false, List, [], ◌∷◌, ◌++◌, length, map, inl, inr, refl, ap, arith}
+use Rattle.std.proofs.Common.{◌≡◌, ◌⊎◌, ◌≤◌, ◌+◌, ◌-◌, ℕ, zero, suc, true, false, List, [], ◌∷◌, ◌++◌, length, map, inl}
+use Rattle.std.proofs.Common.{inr, refl, ap, arith}
 use Rattle.std.specs.Prelude.{◌↔◌, Contains}
 use Rattle.fix_model.specs.declared.kit.Kit.{Kit}
 use Rattle.fix_model.specs.declared.region.Region.{Region}
@@ -19,10 +20,11 @@ use Rattle.fix_engine.specs.declared.verdict.Verdict.{Verdict}
 use Rattle.fix_engine.specs.declared.verdict.Verdict.TheVariants.{Fix, Conflict}
 use Rattle.fix_engine.specs.Verdicts.{IsAnswer}
 use Rattle.region_suggest.specs.declared.suggestion.Suggestion.{Suggestion}
-use Rattle.region_suggest.specs.Offers.{AreOffers, HoldsConfirmed, IsOffer, IsPlace, ListsExactly, attributes_at, region_at, texts_at}
+use Rattle.region_suggest.specs.Offers.{AreOffers, HoldsConfirmed, IsOffer, IsPlace, ListsExactly, attributes_at}
+use Rattle.region_suggest.specs.Offers.{region_at, texts_at}
 use Rattle.region_suggest.specs.Suggestions.{IsSuggestion}
 use Rattle.region_suggest.proofs.Pairs.{ListsExactly-none, ListsExactly-push, ListsExactly-same, certain-only}
-use Rattle.region_suggest.proofs.Rows.{Fits-row}
+use Rattle.fix_engine.proofs.Rows.{Fits-row}
 use Rattle.region_suggest.proofs.Wider.{IsCovered-within, decide_listed}
 use Rattle.machine_laws.proofs.Advising.{some-gains, some-need}
 use Rattle.machine_laws.proofs.Answering.{some-answer}
@@ -185,11 +187,7 @@ decide_certain kit state valid fits =
         (let same = certain-only kit state row.Conflict (
           first,
           is.is_first,
-          record {
-            other = second;
-            maximal = is.is_second.maximal;
-            differs = is.is_second.differs;
-          },
+          (second, is.is_second.holds),
         ) certain in cc))
 
 module _ (kit : Kit) (state : State) (regions : List Region) (valid : IsValid kit) (fits : Fits kit state) where
@@ -251,7 +249,7 @@ module _ (kit : Kit) (state : State) (regions : List Region) (valid : IsValid ki
           → (suggestion : Suggestion) × IsSuggestion kit state regions suggestion
       by_verdict offers are first second (Fix certain dissent) is =
           let fits_there : Fits kit (end_of kit state first) =
-          Fits-end_of kit valid state first fits is.0.is_first.maximal.0 in
+          Fits-end_of kit valid state first fits is.0.is_first.holds.0 in
           let need = some-need kit (end_of kit state first) fits_there in
           let gains = some-gains kit (end_of kit state first) valid fits_there in (
             record { regions = offers; need = need.0; gains = gains.0 },
@@ -275,11 +273,7 @@ module _ (kit : Kit) (state : State) (regions : List Region) (valid : IsValid ki
             conflict = (
               first,
               is.is_first,
-              record {
-                other = second;
-                maximal = is.is_second.maximal;
-                differs = is.is_second.differs;
-              },
+              (second, is.is_second.holds),
             );
             need = refl;
             gains = refl;

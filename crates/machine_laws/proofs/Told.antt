@@ -38,15 +38,18 @@ pub look-told : (rows : Rows) (name : List ℕ) (look : LookOf) (answer : Reply)
     → IsToldTo rows name look answer
 look-told rows name look answer changes told step =
     let last : Reply → Checked (Reply × List Change) = λ one. done (one, []) in
-    let place = Gives-bind_ok (clerk_of rows.clerks name) (λ place. look_reply (published_of rows) (own_of rows place) look
+    let place = Gives-bind_ok (clerk_of rows.clerks name)
+    (λ place. look_reply (published_of rows) (own_of rows place) look
     >>= last) (answer, changes) (step-told rows (Look name look) answer changes told step) in
-    let given = Gives-bind_ok (look_reply (published_of rows) (own_of rows place.0) look) last (answer, changes) place.2 in
+    let given = Gives-bind_ok (look_reply (published_of rows) (own_of rows place.0) look) last (answer, changes)
+    place.2 in
     let same : answer ≡ given.0 =
     ap (λ (both : Reply × List Change). both.0) (done-value (given.0, []) (answer, changes) given.2) in
     record {
       place = place.0;
       found = (clerk_of-ok rows.clerks name place.0 place.1).found;
-      gives = subst (λ one. Gives (look_reply (published_of rows) (own_of rows place.0) look) (Ok one)) (sym same) given.1;
+      gives = subst (λ one. Gives (look_reply (published_of rows) (own_of rows place.0) look) (Ok one)) (sym same)
+          given.1;
     }
 
 -- and each time the same
@@ -54,10 +57,13 @@ pub told-again : (rows : Rows) (name : List ℕ) (look : LookOf) (answer other :
     → IsToldTo rows name look answer → IsStep rows (Look name look) other changes → other ≡ answer
 told-again rows name look answer other changes is step =
     let last : Reply → Checked (Reply × List Change) = λ one. done (one, []) in
-    let found : Gives (clerk_of rows.clerks name) (Ok is.place) = subst (λ one. Gives one (Ok is.place)) (sym is.found) refl in
-    let whole : Gives (machine rows (Look name look)) (Ok (answer, [])) = Gives-bind (clerk_of rows.clerks name) (λ place.
+    let found : Gives (clerk_of rows.clerks name) (Ok is.place) = subst (λ one. Gives one (Ok is.place)) (sym is.found)
+    refl in
+    let whole : Gives (machine rows (Look name look)) (Ok (answer, [])) = Gives-bind (clerk_of rows.clerks name)
+    (λ place.
     look_reply (published_of rows) (own_of rows place) look >>= last) is.place (Ok (answer, [])) found
-    (Gives-bind (look_reply (published_of rows) (own_of rows is.place) look) last answer (Ok (answer, [])) is.gives refl) in
+    (Gives-bind (look_reply (published_of rows) (own_of rows is.place) look) last answer (Ok (answer, [])) is.gives
+    refl) in
     let same = Gives-unique (machine rows (Look name look)) step.outcome (Ok (answer, [])) step.gives whole in
     ap (λ (both : Reply × List Change). both.0) (step.answers ∙ ap answered same)
 
@@ -66,7 +72,8 @@ pub steward-cases : (rows : Rows) (ticket : Ticket) (work : StewardWork) (answer
     → IsStep rows (Steward ticket work) answer changes
     → (changes ≡ []) ⊎ IsStewardsNew rows ticket work answer changes
 steward-cases rows ticket work answer changes step =
-    subst (λ (both : Reply × List Change). (both.1 ≡ []) ⊎ IsStewardsNew rows ticket work both.0 both.1) (sym step.answers)
+    subst (λ (both : Reply × List Change). (both.1 ≡ []) ⊎ IsStewardsNew rows ticket work both.0 both.1)
+    (sym step.answers)
     (whole step.outcome step.gives)
   where
     whole : (outcome : Result (Reply × List Change) Refusal) → Gives (machine rows (Steward ticket work)) outcome

@@ -1,10 +1,12 @@
 -- The numbers of a report add up.
-use Rattle.std.proofs.Common.{◌≡◌, ◌∙◌, ℕ, zero, suc, ◌+◌, ◌*◌, ◌<◌, Bool, true, false, cond, List, [], ◌∷◌, length, get_or, Option, Some, None, refl, sym, ap, subst, arith}
+use Rattle.std.proofs.Common.{◌≡◌, ◌∙◌, ℕ, zero, suc, ◌+◌, ◌*◌, ◌<◌, Bool, true, false, cond, List, [], ◌∷◌, length}
+use Rattle.std.proofs.Common.{get_or, Option, Some, None, refl, sym, ap, subst, arith}
 use Rattle.std.specs.Prelude.{◌==◌, All, IfSome, Result, Ok, Err, count_by, filter, flat_map, slice_get, sum_by}
 use Rattle.std.specs.List.{range_with_len}
 use Rattle.std.proofs.lemmas.Bool.Decides.{nat_tests}
 use Rattle.std.proofs.lemmas.List.{get_or_default, length-map, length-set}
-use Rattle.std.proofs.lemmas.List.Elements.{All-append, All-cons, All-filter, All-head, All-nil, All-tail, filter_passes}
+use Rattle.std.proofs.lemmas.List.Elements.{All-append, All-cons, All-filter, All-head, All-nil, All-tail}
+use Rattle.std.proofs.lemmas.List.Elements.{filter_passes}
 use Rattle.std.proofs.lemmas.List.FromFn.{get_or-range_with_len, length-range_with_len}
 use Rattle.std.proofs.lemmas.List.Sums.{sum_by-cons}
 use Rattle.std.proofs.lemmas.Option.{same_Some, slice_get_within, slice_get-get_or}
@@ -37,7 +39,9 @@ use Rattle.desk_valid.specs.Tallies.{is_active}
 use Rattle.desk_valid.specs.Valid.{AreValid}
 use Rattle.machine_core.specs.Answers.{bound_for, shown_state, state_of}
 use Rattle.machine_core.specs.Checked.{Answer, Checked, ◌>>=◌, answer_for, done, each, Gives}
-use Rattle.machine_core.specs.Look.Report.{Assessment, assessment_of, is_abandoned, is_certain_fix, is_committed, is_confirmed_cell, is_conflict, is_fixed_cell, is_partial_fix, is_uncovered_cell, line_over, report_line, report_of}
+use Rattle.machine_core.specs.Look.Report.{Assessment, assessment_of, is_abandoned, is_certain_fix, is_committed}
+use Rattle.machine_core.specs.Look.Report.{is_confirmed_cell, is_conflict, is_fixed_cell, is_partial_fix}
+use Rattle.machine_core.specs.Look.Report.{is_uncovered_cell, line_over, report_line, report_of}
 use Rattle.machine_core.specs.Machine.{IsStep, answered, clerk_of, look_reply, machine}
 use Rattle.machine_core.specs.Own.{Own, own_of}
 use Rattle.machine_core.proofs.Chains.{Gives-bind_ok, done-value}
@@ -75,12 +79,14 @@ counts-three : {A : Type 0} (one two three : A → Bool) (items : List A)
     → ((item : A) → cond (one item) 1 0 + cond (two item) 1 0 + cond (three item) 1 0 ≡ 1)
     → count_by one items + count_by two items + count_by three items ≡ length items
 counts-three one two three items passes =
-    let sums = sums-three (λ item. cond (one item) 1 0) (λ item. cond (two item) 1 0) (λ item. cond (three item) 1 0) (λ item. 1)
+    let sums = sums-three (λ item. cond (one item) 1 0) (λ item. cond (two item) 1 0) (λ item. cond (three item) 1 0)
+    (λ item. 1)
     items (λ index past inside. passes (get_or items index past)) in
     omega (arith, sums, sum-constant 1 items)
 
 -- a session has one stage, a verdict one kind, and a cell one too
-one-stage : (stage : Stage) → cond (is_active stage) 1 0 + cond (is_committed stage) 1 0 + cond (is_abandoned stage) 1 0 ≡ 1
+one-stage : (stage : Stage) → cond (is_active stage) 1 0 + cond (is_committed stage) 1 0 + cond (is_abandoned stage) 1
+    0 ≡ 1
 one-stage Active = refl
 one-stage Committed = refl
 one-stage Abandoned = refl
@@ -122,7 +128,8 @@ each-at {A} {B} find (first ∷ others) found place value gives there =
     ap (λ list. slice_get list place) (sym (done-value (here.0 ∷ rest.0) found rest.2)) ∙ there in
     at_place place here.0 rest.0 stands here.1 (λ index later. each-at find others rest.0 index value rest.1 later)
   where
-    at_place : (place : ℕ) (one : B) (more : List B) → slice_get (one ∷ more) place ≡ Some value → Gives (find first) (Ok one)
+    at_place : (place : ℕ) (one : B) (more : List B) → slice_get (one ∷ more) place ≡ Some value
+        → Gives (find first) (Ok one)
         → ((index : ℕ) → slice_get more index ≡ Some value
         → (item : A) × (slice_get others index ≡ Some item) × Gives (find item) (Ok value))
         → (item : A) × (slice_get (first ∷ others) place ≡ Some item) × Gives (find item) (Ok value)
@@ -158,7 +165,8 @@ assessment-cells published edition session assessment on gives =
     } in
     let bound = Gives-bind_ok (bound_for published session) (λ bound. answer_for bound.kit (state_of session)
     >>= (λ answer. done (made bound answer))) assessment gives in
-    let answer = Gives-bind_ok (answer_for bound.0.kit (state_of session)) (λ answer. done (made bound.0 answer)) assessment
+    let answer = Gives-bind_ok (answer_for bound.0.kit (state_of session)) (λ answer. done (made bound.0 answer))
+    assessment
     bound.2 in
     let cells : length assessment.cells ≡ length session.confirmed =
     ap (λ (one : Assessment). length one.cells) (done-value (made bound.0 answer.0) assessment answer.2)
@@ -167,7 +175,8 @@ assessment-cells published edition session assessment on gives =
     (subst (λ one. IfSome (width_at published one) (λ width. length session.confirmed ≡ width)) on.0 on.1)
   where
     as_wide : (found : Option ℕ) → length assessment.cells ≡ length session.confirmed
-        → IfSome found (λ width. length session.confirmed ≡ width) → IfSome found (λ width. length assessment.cells ≡ width)
+        → IfSome found (λ width. length session.confirmed ≡ width)
+        → IfSome found (λ width. length assessment.cells ≡ width)
     as_wide None same wide = tt
     as_wide (Some width) same wide = same ∙ wide
 
@@ -185,11 +194,13 @@ line-adds published edition all wide = record {
   where
     as_wide : (found : Option ℕ) → IfSome found (λ width. All (λ one. length one.cells ≡ width) all)
         → IfSome found (λ width. sum_by (λ one. count_by is_confirmed_cell one.cells) all
-        + sum_by (λ one. count_by is_fixed_cell one.cells) all + sum_by (λ one. count_by is_uncovered_cell one.cells) all
+        + sum_by (λ one. count_by is_fixed_cell one.cells) all + sum_by (λ one. count_by is_uncovered_cell one.cells)
+        all
         ≡ length all * width)
     as_wide None each_one = tt
     as_wide (Some width) each_one =
-        sums-three (λ (one : Assessment). count_by is_confirmed_cell one.cells) (λ one. count_by is_fixed_cell one.cells)
+        sums-three (λ (one : Assessment). count_by is_confirmed_cell one.cells)
+        (λ one. count_by is_fixed_cell one.cells)
         (λ one. count_by is_uncovered_cell one.cells) (λ one. width) all (λ index past inside.
         counts-three is_confirmed_cell is_fixed_cell is_uncovered_cell (get_or all index past).cells one-cell
         ∙ each_one index past inside)
@@ -209,7 +220,12 @@ report-adds published clerk sessions sheet flags gives =
       lines = λ place line stands.
           let found = each-at (report_line published sessions) places lines.0 place line lines.1 stands in
           let within : place < length published.editions =
-          omega (arith, slice_get_within places place found.0 found.1, length-range_with_len 0 (length published.editions)) in
+          omega (
+            arith,
+            slice_get_within places place found.0 found.1,
+            length-range_with_len 0
+                (length published.editions),
+          ) in
           let same : found.0 ≡ place = sym (slice_get-read places place found.0 0 found.1)
           ∙ get_or-range_with_len 0 (length published.editions) place 0 within ∙ omega arith in
           at_edition place line (subst (λ one. Gives (report_line published sessions one) (Ok line)) same found.2);
@@ -225,11 +241,13 @@ report-adds published clerk sessions sheet flags gives =
         let are : All Is ones = λ index past inside.
         let passes = filter_passes on sessions index past inside in
         (grind (arith, nat_tests, passes), All-filter on (HasFlags published) sessions flags index past inside) in
-        let all = Gives-bind_ok (each (assessment_of published) ones) (λ all. done (line_over published edition all)) line
+        let all = Gives-bind_ok (each (assessment_of published) ones) (λ all. done (line_over published edition all))
+        line
         given in
         let wide : IfSome (width_at published edition) (λ width. All (λ one. length one.cells ≡ width) all.0) =
         turned (width_at published edition) all.0 (each-all_of Is (λ one. IfSome (width_at published edition) (λ width.
-        length one.cells ≡ width)) (assessment_of published) ones all.0 are (assessment-cells published edition) all.1) in
+        length one.cells ≡ width)) (assessment_of published) ones all.0 are (assessment-cells published edition)
+        all.1) in
         subst (LineAddsUp published edition) (sym (done-value (line_over published edition all.0) line all.2))
         (line-adds published edition all.0 wide)
       where
@@ -240,13 +258,15 @@ report-adds published clerk sessions sheet flags gives =
         turned (Some width) all each_one = each_one
 
 -- the sessions of valid tables have their flags
-own-flags : (rows : Rows) (valid : AreValid rows) (clerk : ℕ) → All (HasFlags (published_of rows)) (list_at rows.sessions clerk)
+own-flags : (rows : Rows) (valid : AreValid rows) (clerk : ℕ) → All (HasFlags (published_of rows))
+    (list_at rows.sessions clerk)
 own-flags rows valid clerk index past inside =
     (valid.sessions clerk index (get_or (list_at rows.sessions clerk) index past)
     (slice_get-get_or (list_at rows.sessions clerk) index past inside)).confirmed
 
 -- what holds in each list holds in all of them
-pub all-flat : {A : Type 0} (P : A → Type 0) (lists : List (List A)) → All (All P) lists → All P (flat_map (λ list. list) lists)
+pub all-flat : {A : Type 0} (P : A → Type 0) (lists : List (List A)) → All (All P) lists
+    → All P (flat_map (λ list. list) lists)
 all-flat P [] all = All-nil P
 all-flat P (first ∷ lists) all = All-append P first (flat_map (λ list. list) lists) (All-head (All P) first lists all)
     (all-flat P lists (All-tail (All P) first lists all))
@@ -262,17 +282,20 @@ look-adds rows name sheet changes valid step =
     whole (Err refusal) gives is = absurd (cc)
     whole (Ok made) gives is =
         let last : Reply → Checked (Reply × List Change) = λ answer. done (answer, []) in
-        let place = Gives-bind_ok (clerk_of rows.clerks name) (λ place. look_reply (published_of rows) (own_of rows place)
+        let place = Gives-bind_ok (clerk_of rows.clerks name)
+        (λ place. look_reply (published_of rows) (own_of rows place)
         Report >>= last) made gives in
         let own : Own = own_of rows place.0 in
         let answer = Gives-bind_ok (look_reply (published_of rows) own Report) last made place.2 in
         let report = Gives-bind_ok (report_of (published_of rows) (Some own.row.name) own.sessions) (λ one.
         done (reply.Report one)) answer.0 answer.1 in
-        let first : made.0 ≡ answer.0 = ap (λ (one : Reply × List Change). one.0) (done-value (answer.0, []) made answer.2) in
+        let first : made.0 ≡ answer.0 = ap (λ (one : Reply × List Change). one.0)
+        (done-value (answer.0, []) made answer.2) in
         let same : reply.Report sheet ≡ reply.Report report.0 = is ∙ first ∙ done-value (reply.Report report.0) answer.0
         report.2 in
         let sheets : report.0 ≡ sheet = cc in
-        subst (AddsUp (published_of rows)) sheets (report-adds (published_of rows) (Some own.row.name) own.sessions report.0
+        subst (AddsUp (published_of rows)) sheets
+        (report-adds (published_of rows) (Some own.row.name) own.sessions report.0
         (own-flags rows valid place.0) report.1)
 
 pub desk-adds : (rows : Rows) (sheet : ReportSheet) (changes : List Change) → AreValid rows
@@ -285,12 +308,14 @@ desk-adds rows sheet changes valid step =
     whole (Err refusal) gives is = absurd (cc)
     whole (Ok made) gives is =
         let all : List SessionRow = flat_map (λ sessions. sessions) rows.sessions in
-        let report = Gives-bind_ok (report_of (published_of rows) None all) (λ one. done (reply.Report one, [])) made gives in
+        let report = Gives-bind_ok (report_of (published_of rows) None all) (λ one. done (reply.Report one, [])) made
+        gives in
         let same : reply.Report sheet ≡ reply.Report report.0 =
         is ∙ ap (λ (one : Reply × List Change). one.0) (done-value (reply.Report report.0, []) made report.2) in
         let sheets : report.0 ≡ sheet = cc in
         subst (AddsUp (published_of rows)) sheets (report-adds (published_of rows) None all report.0
-        (all-flat (HasFlags (published_of rows)) rows.sessions (λ index past inside. at_list index past inside)) report.1)
+        (all-flat (HasFlags (published_of rows)) rows.sessions (λ index past inside. at_list index past inside))
+        report.1)
       where
         at_list : (index : ℕ) (past : List SessionRow) → index < length rows.sessions
             → All (HasFlags (published_of rows)) (get_or rows.sessions index past)

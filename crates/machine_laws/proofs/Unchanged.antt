@@ -17,7 +17,8 @@ use Rattle.machine_core.specs.Look.View.{view_at}
 use Rattle.machine_core.specs.Machine.{IsStep, answered, machine}
 use Rattle.machine_core.specs.Own.{Own, after, own_of}
 use Rattle.machine_core.proofs.Chains.{Gives-bind_ok, done-value}
-use Rattle.machine_laws.proofs.Writes.{clerk-written, derive-unchanged, look-unchanged, report-unchanged, steward-written}
+use Rattle.machine_laws.proofs.Writes.{clerk-written, derive-unchanged, look-unchanged, report-unchanged}
+use Rattle.machine_laws.proofs.Writes.{steward-written}
 
 -- where what is answered changes nothing, a step does not
 pub step-unchanged : (rows : Rows) (command : Command) (answer : Reply) (changes : List Change)
@@ -35,17 +36,20 @@ step-unchanged rows command answer changes none step =
 pub kept-not_refused : (published : Published) (own : Own) (what : Act) (target : ℕ) (refusal : Refusal)
     → Gives (kept_reply published own what target) (Ok (reply.Refused refusal)) → ⊥
 kept-not_refused published own act.Opened target refusal gives =
-    let view = Gives-bind_ok (view_at published own (target + 1)) (λ view. done (reply.Opened view)) (reply.Refused refusal)
+    let view = Gives-bind_ok (view_at published own (target + 1)) (λ view. done (reply.Opened view))
+    (reply.Refused refusal)
     gives in
     let same = done-value (reply.Opened view.0) (reply.Refused refusal) view.2 in
     cc
 kept-not_refused published own act.Changed target refusal gives =
-    let view = Gives-bind_ok (view_at published own (target + 1)) (λ view. done (reply.View view)) (reply.Refused refusal)
+    let view = Gives-bind_ok (view_at published own (target + 1)) (λ view. done (reply.View view))
+    (reply.Refused refusal)
     gives in
     let same = done-value (reply.View view.0) (reply.Refused refusal) view.2 in
     cc
 kept-not_refused published own act.Committed target refusal gives =
-    let row = Gives-bind_ok (certainly (slice_get own.records target)) (λ row. done (reply.Committed (target + 1) row.session
+    let row = Gives-bind_ok (certainly (slice_get own.records target))
+    (λ row. done (reply.Committed (target + 1) row.session
     row.certain)) (reply.Refused refusal) gives in
     let same = done-value (reply.Committed (target + 1) row.0.session row.0.certain) (reply.Refused refusal) row.2 in
     cc
@@ -79,12 +83,14 @@ made-unchanged rows (Steward ticket work) made refusal gives is = elim (steward-
   | inl again ↦ again.unchanged
   | inr new ↦ absurd (let same = is ∙ new.answered in cc)
 ]
-made-unchanged rows (Clerk name ticket work) made refusal gives is = elim (clerk-written rows name ticket work made gives) [
-  | inl again ↦ again.unchanged
-  | inr new ↦ absurd (kept-not_refused (published_of rows) (after (own_of rows new.place) new.deed) new.deed.act
-      new.deed.target refusal (subst (λ one. Gives (kept_reply (published_of rows) (after (own_of rows new.place) new.deed)
-      new.deed.act new.deed.target) (Ok one)) (sym is) new.kept))
-]
+made-unchanged rows (Clerk name ticket work) made refusal gives is =
+    elim (clerk-written rows name ticket work made gives) [
+      | inl again ↦ again.unchanged
+      | inr new ↦ absurd (kept-not_refused (published_of rows) (after (own_of rows new.place) new.deed) new.deed.act
+          new.deed.target refusal (subst (λ one.
+          Gives (kept_reply (published_of rows) (after (own_of rows new.place) new.deed)
+          new.deed.act new.deed.target) (Ok one)) (sym is) new.kept))
+    ]
 made-unchanged rows (Look name look) made refusal gives is = look-unchanged rows name look made gives
 made-unchanged rows DeskReport made refusal gives is = report-unchanged rows made gives
 made-unchanged rows (DeskDerive edition version master pairs) made refusal gives is =

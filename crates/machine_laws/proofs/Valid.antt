@@ -1,5 +1,6 @@
 -- Valid tables stay valid: where more is published, where a clerk comes, and where one clerk's rows change.
-use Rattle.std.proofs.Common.{◌≡◌, ◌∙◌, ℕ, ◌<◌, ◌≤◌, List, [], ◌∷◌, ◌++◌, length, set, take, Some, inl, inr, refl, sym, ap, subst, arith}
+use Rattle.std.proofs.Common.{◌≡◌, ◌∙◌, ℕ, ◌<◌, ◌≤◌, List, [], ◌∷◌, ◌++◌, length, set, take, Some, inl, inr, refl, sym}
+use Rattle.std.proofs.Common.{ap, subst, arith}
 use Rattle.std.specs.Prelude.{slice_get}
 use Rattle.std.proofs.lemmas.Bool.{cases_eq}
 use Rattle.std.proofs.lemmas.List.{length-append, length-map, length-set, take-append-le, map-append}
@@ -23,8 +24,10 @@ use Rattle.desk_valid.specs.Valid.{AreValid}
 use Rattle.machine_core.specs.Own.{Own}
 use Rattle.machine_core.specs.OwnRows.{AreOwnRows}
 use Rattle.machine_laws.proofs.Callers.{AreNoFewer, IsClerkRow-more, names_of}
-use Rattle.machine_laws.proofs.Lists.{Begins-push, EachAt-begins, EachAt-set, length-begins, list_at-push, list_at-set_other, list_at-set_same, map-set_same, pushed}
-use Rattle.machine_laws.proofs.More.{AreMore, AreOwnRows-more, IsEditionRow-more, IsMasterRow-more, IsRegionRow-more, IsRulebookRow-more, IsSchemaRow-more}
+use Rattle.machine_laws.proofs.Lists.{Begins-push, EachAt-begins, EachAt-set, length-begins, list_at-push}
+use Rattle.machine_laws.proofs.Lists.{list_at-set_other, list_at-set_same, map-set_same, pushed}
+use Rattle.machine_laws.proofs.More.{AreMore, AreOwnRows-more, IsEditionRow-more, IsMasterRow-more, IsRegionRow-more}
+use Rattle.machine_laws.proofs.More.{IsRulebookRow-more, IsSchemaRow-more}
 
 -- a clerk's own rows in valid tables
 pub own-rows : (rows : Rows) → AreValid rows → (clerk : ℕ) → AreOwnRows (published_of rows)
@@ -127,14 +130,16 @@ module _ (rows : Rows) (valid : AreValid rows) (place : ℕ) (within : place < l
       (list_at (set rows.records place own.records) clerk) (list_at (set rows.batches place own.batches) clerk)
   own-with good clerk = elim (cases_eq clerk place) [
     | inl same ↦
-        let here = AreOwnRows-same (published_of rows) own.sessions (list_at (set rows.sessions place own.sessions) place)
+        let here = AreOwnRows-same (published_of rows) own.sessions
+        (list_at (set rows.sessions place own.sessions) place)
         own.records (list_at (set rows.records place own.records) place) own.batches
         (list_at (set rows.batches place own.batches) place)
         (list_at-set_same rows.sessions place own.sessions (omega (arith, valid.tables.sessions.each)))
         (list_at-set_same rows.records place own.records (omega (arith, valid.tables.records.each)))
         (list_at-set_same rows.batches place own.batches (omega (arith, valid.tables.batches.each))) good in
         subst (λ one. AreOwnRows (published_of rows) (list_at (set rows.sessions place own.sessions) one)
-        (list_at (set rows.records place own.records) one) (list_at (set rows.batches place own.batches) one)) (sym same)
+        (list_at (set rows.records place own.records) one) (list_at (set rows.batches place own.batches) one))
+        (sym same)
         here
     | inr apart ↦ AreOwnRows-same (published_of rows)
         (list_at rows.sessions clerk) (list_at (set rows.sessions place own.sessions) clerk)
@@ -171,7 +176,8 @@ module _ (rows : Rows) (valid : AreValid rows) (place : ℕ) (within : place < l
 
 -- a list is no shorter where the one that is put is not
 length-list_at : {T : Type 0} (lists : List (List T)) (place clerk : ℕ) (list : List T) → place < length lists
-    → length (list_at lists place) ≤ length list → length (list_at lists clerk) ≤ length (list_at (set lists place list) clerk)
+    → length (list_at lists place) ≤ length list → length (list_at lists clerk) ≤ length
+    (list_at (set lists place list) clerk)
 length-list_at lists place clerk list within longer = elim (cases_eq clerk place) [
   | inl same ↦ subst (λ one. length (list_at lists one) ≤ length (list_at (set lists place list) one)) (sym same)
       (omega (arith, ap length (list_at-set_same lists place list within), longer))
@@ -190,7 +196,8 @@ AreNoFewer-own rows place own tables within sessions records batches = record {
   rulebooks = omega arith;
   editions = omega arith;
   regions = omega arith;
-  sessions = λ clerk. length-list_at rows.sessions place clerk own.sessions (omega (arith, tables.sessions.each)) sessions;
+  sessions = λ clerk. length-list_at rows.sessions place clerk own.sessions (omega (arith, tables.sessions.each))
+      sessions;
   records = λ clerk. length-list_at rows.records place clerk own.records (omega (arith, tables.records.each)) records;
   batches = λ clerk. length-list_at rows.batches place clerk own.batches (omega (arith, tables.batches.each)) batches;
 }
@@ -205,7 +212,8 @@ with_new rows row = record rows {
 }
 
 -- a new clerk whose row is good leaves valid tables
-pub AreValid-new : (rows : Rows) (row : ClerkRow) → AreValid rows → IsClerkRow (with_new rows row) (length rows.clerks) row
+pub AreValid-new : (rows : Rows) (row : ClerkRow) → AreValid rows → IsClerkRow (with_new rows row) (length rows.clerks)
+    row
     → AreTables (with_new rows row) → AreValid (with_new rows row)
 AreValid-new rows row valid good tables =
     let other : Rows = with_new rows row in

@@ -1,5 +1,6 @@
 -- What a request comes to: a repeat, a new write, or a look.
-use Rattle.std.proofs.Common.{◌≡◌, ◌⊎◌, ℕ, ◌+◌, ◌<◌, List, [], length, drop, Option, Some, None, inl, inr, refl, sym, ap, subst, arith}
+use Rattle.std.proofs.Common.{◌≡◌, ◌⊎◌, ℕ, ◌+◌, ◌<◌, List, [], length, drop, Option, Some, None, inl, inr, refl, sym}
+use Rattle.std.proofs.Common.{ap, subst, arith}
 use Rattle.std.specs.Prelude.{Ok, flat_map, option_map, position}
 use Rattle.std.specs.Str.{bytes_eq}
 use Rattle.std.proofs.lemmas.List.{length-drop}
@@ -21,7 +22,8 @@ use Rattle.desk_valid.proofs.Named.{option_map-Some}
 use Rattle.machine_core.specs.Checked.{Checked, ◌>>=◌, done, some_or, Gives}
 use Rattle.machine_core.specs.Deriving.{derived_sheet}
 use Rattle.machine_core.specs.Kept.{kept_made, kept_reply}
-use Rattle.machine_core.specs.Machine.{changes_if, clerk_of, clerk_write, clerk_write_at, deed_of, look_reply, machine, making_changes, making_of, steward_write}
+use Rattle.machine_core.specs.Machine.{changes_if, clerk_of, clerk_write, clerk_write_at, deed_of, look_reply, machine}
+use Rattle.machine_core.specs.Machine.{making_changes, making_of, steward_write}
 use Rattle.machine_core.specs.declared.making.Making.{Making}
 use Rattle.machine_core.specs.Look.Report.{report_of}
 use Rattle.machine_core.specs.Own.{Own, after, changes_of, own_of}
@@ -52,13 +54,14 @@ clerk_of-ok clerks name place gives =
     }
 
 -- a clerk's write that comes again: the kept reply, and no changes
-pub record IsRepeat (rows : Rows) (name : List ℕ) (ticket : Ticket) (answer : Reply) (changes : List Change) : Type 0 where
-  pub place : ℕ
-  pub is_place : IsPlaceOf rows.clerks name place
-  pub use_made : Gives (use_of (own_of rows place).row ticket) (Ok Repeated)
-  pub kept : Gives (kept_reply (published_of rows) (own_of rows place) (own_of rows place).row.act
-      (own_of rows place).row.target) (Ok answer)
-  pub unchanged : changes ≡ []
+pub record IsRepeat (rows : Rows) (name : List ℕ) (ticket : Ticket) (answer : Reply) (changes : List Change) : Type 0
+  where
+    pub place : ℕ
+    pub is_place : IsPlaceOf rows.clerks name place
+    pub use_made : Gives (use_of (own_of rows place).row ticket) (Ok Repeated)
+    pub kept : Gives (kept_reply (published_of rows) (own_of rows place) (own_of rows place).row.act
+        (own_of rows place).row.target) (Ok answer)
+    pub unchanged : changes ≡ []
 
 -- a clerk's write that is new: its deed, the reply over the rows after it, and the changes of the deed
 pub record IsNew (rows : Rows) (name : List ℕ) (ticket : Ticket) (work : ClerkWork) (answer : Reply)
@@ -82,11 +85,14 @@ data IsWrite (published : Published) (own : Own) (work : ClerkWork) : Use → Re
 write-found : (published : Published) (own : Own) (work : ClerkWork) (turn : Use) (both : Reply × Option Deed)
     → Gives (clerk_write_at published own work turn) (Ok both) → IsWrite published own work turn both.0 both.1
 write-found published own work Repeated both gives =
-    let kept = Gives-bind_ok (kept_reply published own own.row.act own.row.target) (λ answer. done (answer, None)) both gives in
+    let kept = Gives-bind_ok (kept_reply published own own.row.act own.row.target) (λ answer. done (answer, None)) both
+    gives in
     let is : both ≡ (kept.0, None) = done-value (kept.0, None) both kept.2 in
-    subst (λ (one : Reply × Option Deed). IsWrite published own work Repeated one.0 one.1) (sym is) (again kept.0 kept.1)
+    subst (λ (one : Reply × Option Deed). IsWrite published own work Repeated one.0 one.1) (sym is)
+    (again kept.0 kept.1)
 write-found published own work Fresh both gives =
-    let shown : Deed → Checked (Reply × Option Deed) = λ deed. kept_reply published (after own deed) deed.act deed.target
+    let shown : Deed → Checked (Reply × Option Deed) = λ deed. kept_reply published (after own deed) deed.act
+    deed.target
     >>= (λ answer. done (answer, Some deed)) in
     let deed = Gives-bind_ok (deed_of published own work) shown both gives in
     let kept = Gives-bind_ok (kept_reply published (after own deed.0) deed.0.act deed.0.target) (λ answer.
@@ -102,14 +108,17 @@ pub clerk-written : (rows : Rows) (name : List ℕ) (ticket : Ticket) (work : Cl
 clerk-written rows name ticket work made gives =
     let last : ℕ → Reply × Option Deed → Checked (Reply × List Change) = λ place both.
     done (both.0, changes_if place (own_of rows place).row ticket both.1) in
-    let place = Gives-bind_ok (clerk_of rows.clerks name) (λ place. clerk_write (published_of rows) (own_of rows place) ticket
+    let place = Gives-bind_ok (clerk_of rows.clerks name)
+    (λ place. clerk_write (published_of rows) (own_of rows place) ticket
     work >>= last place) made gives in
-    let both = Gives-bind_ok (clerk_write (published_of rows) (own_of rows place.0) ticket work) (last place.0) made place.2 in
+    let both = Gives-bind_ok (clerk_write (published_of rows) (own_of rows place.0) ticket work) (last place.0) made
+    place.2 in
     let turn = Gives-bind_ok (use_of (own_of rows place.0).row ticket) (clerk_write_at (published_of rows)
     (own_of rows place.0) work) both.0 both.1 in
     let is : made ≡ (both.0.0, changes_if place.0 (own_of rows place.0).row ticket both.0.1) =
     done-value (both.0.0, changes_if place.0 (own_of rows place.0).row ticket both.0.1) made both.2 in
-    subst (λ (one : Reply × List Change). IsRepeat rows name ticket one.0 one.1 ⊎ IsNew rows name ticket work one.0 one.1)
+    subst (λ (one : Reply × List Change). IsRepeat rows name ticket one.0 one.1 ⊎ IsNew rows name ticket work one.0
+    one.1)
     (sym is) (whole place.0 turn.0 both.0.0 both.0.1 (clerk_of-ok rows.clerks name place.0 place.1) turn.1
     (write-found (published_of rows) (own_of rows place.0) work turn.0 both.0 turn.2))
   where
@@ -168,7 +177,8 @@ steward-found rows ticket work Fresh both used gives =
     done (reply.Made made, making_changes (own_of rows 0).row ticket making) in
     let making = Gives-bind_ok (making_of rows work) (λ making. kept_made (changed rows making.change) making.act
     making.target >>= last making) both gives in
-    let kept = Gives-bind_ok (kept_made (changed rows making.0.change) making.0.act making.0.target) (last making.0) both
+    let kept = Gives-bind_ok (kept_made (changed rows making.0.change) making.0.act making.0.target) (last making.0)
+    both
     making.2 in
     let is : both ≡ (reply.Made kept.0, making_changes (own_of rows 0).row ticket making.0) =
     done-value (reply.Made kept.0, making_changes (own_of rows 0).row ticket making.0) both kept.2 in
@@ -194,21 +204,25 @@ pub look-unchanged : (rows : Rows) (name : List ℕ) (look : LookOf) (made : Rep
     → Gives (machine rows (Look name look)) (Ok made) → made.1 ≡ []
 look-unchanged rows name look made gives =
     let last : Reply → Checked (Reply × List Change) = λ answer. done (answer, []) in
-    let place = Gives-bind_ok (clerk_of rows.clerks name) (λ place. look_reply (published_of rows) (own_of rows place) look
+    let place = Gives-bind_ok (clerk_of rows.clerks name)
+    (λ place. look_reply (published_of rows) (own_of rows place) look
     >>= last) made gives in
     let answer = Gives-bind_ok (look_reply (published_of rows) (own_of rows place.0) look) last made place.2 in
     ap (λ (one : Reply × List Change). one.1) (done-value (answer.0, []) made answer.2)
 
 -- nor does the desk's report
-pub report-unchanged : (rows : Rows) (made : Reply × List Change) → Gives (machine rows DeskReport) (Ok made) → made.1 ≡ []
+pub report-unchanged : (rows : Rows) (made : Reply × List Change) → Gives (machine rows DeskReport) (Ok made)
+    → made.1 ≡ []
 report-unchanged rows made gives =
-    let sheet = Gives-bind_ok (report_of (published_of rows) None (flat_map (λ sessions. sessions) rows.sessions)) (λ sheet.
+    let sheet = Gives-bind_ok (report_of (published_of rows) None (flat_map (λ sessions. sessions) rows.sessions))
+    (λ sheet.
     done (reply.Report sheet, [])) made gives in
     ap (λ (one : Reply × List Change). one.1) (done-value (reply.Report sheet.0, []) made sheet.2)
 
 -- nor do derived rows
 pub derive-unchanged : (rows : Rows) (edition : List ℕ) (version : ℕ) (master : List ℕ) (pairs : List (List ℕ × List ℕ))
-    (made : Reply × List Change) → Gives (machine rows (DeskDerive edition version master pairs)) (Ok made) → made.1 ≡ []
+    (made : Reply × List Change) → Gives (machine rows (DeskDerive edition version master pairs)) (Ok made)
+    → made.1 ≡ []
 derive-unchanged rows edition version master pairs made gives =
     let sheet = Gives-bind_ok (derived_sheet (published_of rows) edition version master pairs) (λ sheet.
     done (reply.Derived sheet, [])) made gives in

@@ -15,7 +15,8 @@ use Rattle.rule_text.specs.declared.fault.RuleFault.{RuleFault}
 use Rattle.rule_text.specs.declared.fault.RuleFault.TheVariants as rules
 use Rattle.rule_text.specs.declared.rulebook.RuleLine.{RuleLine}
 use Rattle.rule_text.specs.declared.rulebook.Rulebook.{Rulebook}
-use Rattle.rule_text.specs.Binding.{bound, column_fault, column_of, columns_fault, first_fault, keys_fault, kit_of, line_fault, master_at, master_of}
+use Rattle.rule_text.specs.Binding.{bound, column_fault, column_of, columns_fault, first_fault, keys_fault, kit_of}
+use Rattle.rule_text.specs.Binding.{line_fault, master_at, master_of}
 use Rattle.rule_text.specs.Reading.{read_rules}
 use Rattle.rule_text.proofs.Memory.{read_rules-memory}
 use Rattle.desk_words.specs.declared.command.Command.{Command}
@@ -88,7 +89,8 @@ schema-why rows command body (schema.BadName position) is why = why _ refl
 schema-why rows command body (schema.BadCount count) is why = why _ refl
 schema-why rows command body (schema.Twice position) is why = why _ refl
 schema-why rows command body schema.NoMemory is why =
-    let Fair : Result Schema SchemaFault → Type 0 = λ answer. MatchResult answer IsSchema (λ fault. fault ≢ schema.NoMemory) in
+    let Fair : Result Schema SchemaFault → Type 0 = λ answer. MatchResult answer IsSchema
+    (λ fault. fault ≢ schema.NoMemory) in
     let fair : schema.NoMemory ≢ schema.NoMemory = subst Fair is (IsFair-schema_of body) in
     absurd (fair refl)
 
@@ -108,7 +110,8 @@ rules-why rows command body over (rules.ConstantLong line column) is why = why _
 rules-why rows command body over rules.NoMemory is why = absurd (read_rules-memory body over is)
 
 -- a rulebook that does not bind
-pub bind-why : (rows : Rows) (command : Command) (rulebook : Rulebook) (over : Schema) (masters : List (List ℕ × Master))
+pub bind-why : (rows : Rows) (command : Command) (rulebook : Rulebook) (over : Schema)
+    (masters : List (List ℕ × Master))
     (folded : List ℕ) (fault : BindFault) → bound rulebook over masters folded ≡ Err fault
     → ((refusal : Refusal) → refusal ≡ bind_refusal fault → RefusesBody rows command refusal)
     → Cause rows command (bind_refusal fault)

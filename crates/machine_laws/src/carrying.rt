@@ -43,16 +43,20 @@ pub fn the_look_shows_what_a_carry_changes(
     version: u32,
 )
     ensures before { (carried : CarriedOf) (answer : ReplyOf) (changes others : List ChangeOf)
-        → IsStep (rows_of tables.now) (Command.Look name.now (Look.Carry session version)) (Reply.Carried carried) changes
+        → IsStep (rows_of tables.now) (Command.Look name.now (Look.Carry session version)) (Reply.Carried carried)
+        changes
         → IsStep (rows_of tables.now) (Command.Look name.now (Look.View session)) answer others
         → answer ≡ Reply.View carried.before }
     ensures after { (carried : CarriedOf) (answer : ReplyOf) (changes others : List ChangeOf)
-        → IsStep (rows_of tables.now) (Command.Look name.now (Look.Carry session version)) (Reply.Carried carried) changes
-        → IsStep (rows_of tables.now) (Command.Clerk name.now ticket.now (ClerkWork.Carry session version)) answer others
+        → IsStep (rows_of tables.now) (Command.Look name.now (Look.Carry session version)) (Reply.Carried carried)
+        changes
+        → IsStep (rows_of tables.now) (Command.Clerk name.now ticket.now (ClerkWork.Carry session version)) answer
+        others
         → others ≢ []
         → answer ≡ Reply.View carried.after }
     ensures changed { (carried : CarriedOf) (changes : List ChangeOf)
-        → IsStep (rows_of tables.now) (Command.Look name.now (Look.Carry session version)) (Reply.Carried carried) changes
+        → IsStep (rows_of tables.now) (Command.Look name.now (Look.Carry session version)) (Reply.Carried carried)
+        changes
         → AreChanged carried.before carried.after carried.changed }
 {}
 

@@ -18,14 +18,14 @@ use desk_words::{Command, Reply, StewardWork, Tables};
 /// become a region, from the place on that was asked for.
 pub fn derived_rows_are_certain(tables: &Tables)
     requires { AreValid (rows_of tables.now) }
-    ensures sheet { (edition : List ℕ) (version : ℕ) (master : List ℕ) (pairs : List (List ℕ × List ℕ)) (sheet : SheetOf)
-        (changes : List ChangeOf)
+    ensures sheet { (edition : List ℕ) (version : ℕ) (master : List ℕ) (pairs : List (List ℕ × List ℕ))
+        (sheet : SheetOf) (changes : List ChangeOf)
         → IsStep (rows_of tables.now) (Command.DeskDerive edition version master pairs) (Reply.Derived sheet) changes
         → IsDerivedSheet (published_of (rows_of tables.now)) edition version master pairs sheet }
     ensures region { (ticket : TicketOf) (edition : List ℕ) (version : ℕ) (master : List ℕ)
         (pairs : List (List ℕ × List ℕ)) (place : ℕ) (answer : ReplyOf) (changes : List ChangeOf)
-        → IsStep (rows_of tables.now) (Command.Steward ticket (StewardWork.AddDerived edition version master pairs place))
-        answer changes
+        → IsStep (rows_of tables.now) (Command.Steward ticket (StewardWork.AddDerived
+        edition version master pairs place)) answer changes
         → changes ≢ []
         → AddsDerived (rows_of tables.now) ticket edition version master pairs place changes }
 {}

@@ -15,6 +15,7 @@ use desk_words::{Command, Look, Reply, Tables};
 /// An explanation tells the names of the reason why the session's first run fixes the attribute, and those of its uses.
 pub fn an_explanation_is_the_reason(tables: &Tables, name: &Str, session: u32, word: &Str)
     ensures { (told : ExplainedOf) (changes : List ChangeOf)
-        → IsStep (rows_of tables.now) (Command.Look name.now (Look.Explain session word.now)) (Reply.Explained told) changes
+        → IsStep (rows_of tables.now) (Command.Look name.now (Look.Explain session word.now)) (Reply.Explained told)
+        changes
         → TellsReason (rows_of tables.now) name.now session word.now told }
 {}

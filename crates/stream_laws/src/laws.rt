@@ -18,8 +18,9 @@ use desk_base::Str;
 use desk_words::Tables;
 
 /// The requests of a stream that the machine replied to are requests one after another: each is answered by the machine
-/// over the tables that those before it left, and the tables behind them are those that the stream leaves, which are valid
-/// where those before it were. So the laws of `machine_laws` over lists of requests hold of the requests of a stream.
+/// over the tables that those before it left, and the tables behind them are those that the stream leaves, which are
+/// valid where those before it were. So the laws of `machine_laws` over lists of requests hold of the requests of a
+/// stream.
 pub fn a_stream_is_requests_one_after_another(limit: u32)
     ensures answered { (count : ℕ) (before : Rows) (answers : List Answered) → Served limit count before answers
         → AreAnswered before (events_of answers) }

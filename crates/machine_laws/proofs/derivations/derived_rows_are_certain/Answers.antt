@@ -8,5 +8,6 @@ returns-clause-sheet c = λ edition version master pairs sheet changes step.
 
 pub returns-clause-region : goal.returns-clause-region
 returns-clause-region c = λ ticket edition version master pairs place answer changes step accepted.
-    AddsDerived-step (rows_of c.args.tables.now) c.requires edition version master pairs ticket place answer changes step
+    AddsDerived-step (rows_of c.args.tables.now) c.requires edition version master pairs ticket place answer changes
+    step
     accepted

@@ -3,4 +3,5 @@ use Rattle.machine_laws.proofs.Unchanged.{refused-unchanged}
 use Rattle.machine_laws.proofs.validity.refusals_change_nothing.Goals as goal
 
 pub returns : goal.returns
-returns c = λ refusal changes step. refused-unchanged (rows_of c.args.tables.now) c.args.command.now refusal changes step
+returns c = λ refusal changes step. refused-unchanged (rows_of c.args.tables.now) c.args.command.now refusal changes
+    step

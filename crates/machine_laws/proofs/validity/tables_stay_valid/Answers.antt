@@ -7,5 +7,6 @@ returns-clause-fit c = λ answer changes step. (step-valid (rows_of c.args.table
     c.requires.valid c.requires.numbered step).0
 
 pub returns-clause-valid : goal.returns-clause-valid
-returns-clause-valid c = λ answer changes step. (step-valid (rows_of c.args.tables.now) c.args.command.now answer changes
+returns-clause-valid c = λ answer changes step.
+    (step-valid (rows_of c.args.tables.now) c.args.command.now answer changes
     c.requires.valid c.requires.numbered step).1

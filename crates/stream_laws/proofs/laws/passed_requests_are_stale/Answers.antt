@@ -9,6 +9,7 @@ returns c = λ count caller command earlier between one again reply answer chang
     first some has second.
     let rows = rows_of c.args.tables.now in
     let behind = stream-behind c.args.limit count rows earlier (one ∷ (between ++ again ∷ [])) served in
-    is-stale c.args.limit behind.0 (last_tables rows earlier) caller command one again between reply answer changes others
+    is-stale c.args.limit behind.0 (last_tables rows earlier) caller command one again between reply answer changes
+    others
     (record { served = behind.1; target = target; body = body; is = is; first = first; second = second })
     (stream-valid c.args.limit count rows earlier behind.2 c.requires) asks_it some has
