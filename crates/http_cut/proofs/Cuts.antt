@@ -112,14 +112,20 @@ has_bytes : (bytes : List ℕ) (head : RequestHead) → HasHead bytes head → 0
 has_bytes bytes head x =
     omega (arith, ap length x.reads.1.1, length-append (print_request head) x.reads.0, print_request-some head)
 
+-- a head whose body is within its limit begins no bad rest
+pub announced_is_no_bad_rest : (rest : List ℕ) (head : RequestHead) (count : ℕ) (kind : BadRest)
+    → Announces rest head count → count ≤ body_limit head.target → IsBadRest rest kind → ⊥
+announced_is_no_bad_rest rest head count BadHead x fits wrong = announced_is_not_bad rest head count x wrong
+announced_is_no_bad_rest rest head count Chunked x fits wrong = announced_is_not_chunked rest head count x wrong
+announced_is_no_bad_rest rest head count BodyLong x fits (other, second, announces, over) =
+    within_limit rest head other count second x announces fits over
+
 -- where a whole request stands, no bad rest does
 request_is_not_bad : (bytes : List ℕ) (head : RequestHead) (body rest : List ℕ) (kind : BadRest)
     → BeginsRequest bytes head body rest
     → IsBadRest bytes kind → ⊥
-request_is_not_bad bytes head body rest BadHead x e = announced_is_not_bad bytes head (length body) x.announces e
-request_is_not_bad bytes head body rest Chunked x e = announced_is_not_chunked bytes head (length body) x.announces e
-request_is_not_bad bytes head body rest BodyLong x (other, count, announces, over) =
-    within_limit bytes head other (length body) count x.announces announces x.fits over
+request_is_not_bad bytes head body rest kind x wrong =
+    announced_is_no_bad_rest bytes head (length body) kind x.announces x.fits wrong
 
 -- and none is awaited
 pub request_is_not_open : (bytes : List ℕ) (head : RequestHead) (body rest : List ℕ)
@@ -162,14 +168,14 @@ bad_unique rest BodyLong BodyLong x y = refl
 -- a bad rest awaits nothing
 bad_is_not_open : (rest : List ℕ) (kind : BadRest) → IsBadRest rest kind → IsOpen rest → ⊥
 bad_is_not_open rest BadHead x (inl may) = bad_is_not_awaited rest x may
-bad_is_not_open rest BadHead x (inr (head, count, announces, fits, short)) =
-    announced_is_not_bad rest head count announces x
 bad_is_not_open rest Chunked (head, stands, good, says) (inl may) = may.0 head stands
-bad_is_not_open rest Chunked x (inr (head, count, announces, fits, short)) =
-    announced_is_not_chunked rest head count announces x
 bad_is_not_open rest BodyLong (head, count, announces, over) (inl may) = may.0 head announces.stands
-bad_is_not_open rest BodyLong (head, count, announces, over) (inr (other, second, awaits, fits, short)) =
-    within_limit rest other head second count awaits announces fits over
+bad_is_not_open rest BadHead x (inr (head, count, announces, fits, short)) =
+    announced_is_no_bad_rest rest head count BadHead announces fits x
+bad_is_not_open rest Chunked x (inr (head, count, announces, fits, short)) =
+    announced_is_no_bad_rest rest head count Chunked announces fits x
+bad_is_not_open rest BodyLong x (inr (head, count, announces, fits, short)) =
+    announced_is_no_bad_rest rest head count BodyLong announces fits x
 
 end_unique : (rest : List ℕ) (a b : End) → IsEnd rest a → IsEnd rest b → a ≡ b
 end_unique rest clean clean x y = refl

@@ -1,6 +1,6 @@
 -- Bytes in which a request is awaited, and those that follow.
 use Rattle.std.proofs.Common.{◌≡◌, ℕ, ◌+◌, ◌-◌, ◌<◌, ◌≤◌, List, [], ◌∷◌, ◌++◌, length, take, drop, Option, Some, None}
-use Rattle.std.proofs.Common.{Result, Ok, false, refl, sym, ap, ◌∙◌, subst, arith, append_assoc, append-nil}
+use Rattle.std.proofs.Common.{Result, Ok, false, refl, sym, ap, ◌∙◌, arith, append_assoc, append-nil}
 use Rattle.std.proofs.Common.{length-append, length-drop, length-take, take-append-drop, inl, inr}
 use Rattle.std.specs.Prelude.{◌↔◌, IsTrue, is_some, unwrap_or}
 use Rattle.std.proofs.lemmas.Bool.{both_ways}
@@ -8,6 +8,7 @@ use Rattle.std.proofs.Math.Seq.{take-append_seam}
 use Rattle.std.proofs.lemmas.List.{drop-drop}
 use Rattle.std.specs.Io.KnownBytes.{Consumes, Keeps}
 use Rattle.httparse.specs.Grammar.{RequestHead, print_request}
+use Rattle.desk_base.specs.declared.limits.TheConstants.{MAX_HEAD, MAX_LONG_BODY}
 use Rattle.http_cut.specs.declared.route.Route.{Route}
 use Rattle.http_cut.specs.declared.route.Route.TheVariants.{AddClerk, AddSchema, AddMaster, AddRulebook, AddEdition}
 use Rattle.http_cut.specs.declared.route.Route.TheVariants.{AddRegion, Enter, Confirm, Withdraw, Commit, Abandon, Batch}
@@ -15,16 +16,17 @@ use Rattle.http_cut.specs.declared.route.Route.TheVariants.{View, Suggest, Previ
 use Rattle.http_cut.specs.declared.route.Route.TheVariants.{Explain, DeskDerive, AddDerived, SeeCarry, Carry}
 use Rattle.http_cut.specs.declared.fields.BadLength.{BadLength}
 use Rattle.http_cut.specs.declared.front.HeadParts.{HeadParts}
+use Rattle.http_cut.specs.declared.step.BadRest.{BadRest}
 use Rattle.http_cut.specs.Head.{HasHead, SaysBadLength, head_body}
 use Rattle.http_cut.specs.Routes.{Match, route_limit, match_limit, route_of, body_limit}
-use Rattle.http_cut.specs.Cut.{IsChunked, Announces, BeginsRequest, IsOpen, SaysLength}
-use Rattle.http_cut.specs.Looks.{ShowsHead, StaysOpen}
+use Rattle.http_cut.specs.Cut.{IsChunked, Announces, BeginsRequest, IsBadRest, IsOpen, SaysLength}
+use Rattle.http_cut.specs.Looks.{ShowsHead, Awaits}
 use Rattle.http_cut.proofs.Overlap.{overlap}
-use Rattle.http_cut.proofs.Cuts.{Announces-append, has_good_length, request_is_not_open}
+use Rattle.http_cut.proofs.Cuts.{Announces-append, announced_is_no_bad_rest, has_good_length, request_is_not_open}
 
 -- ---- limits
 
-route_limit-most : (route : Route) → route_limit route ≤ 4194304
+route_limit-most : (route : Route) → route_limit route ≤ MAX_LONG_BODY
 route_limit-most AddClerk = omega arith
 route_limit-most AddSchema = omega arith
 route_limit-most AddMaster = omega arith
@@ -49,57 +51,57 @@ route_limit-most AddDerived = omega arith
 route_limit-most SeeCarry = omega arith
 route_limit-most Carry = omega arith
 
-match_limit-most : (found : Option Match) → match_limit found ≤ 4194304
+match_limit-most : (found : Option Match) → match_limit found ≤ MAX_LONG_BODY
 match_limit-most (Some found) = route_limit-most found.0
 match_limit-most None = omega arith
 
 -- a request is awaited in few bytes
-pub open_few : (bytes : List ℕ) → IsOpen bytes → length bytes < 4210688
+pub open_few : (bytes : List ℕ) → IsOpen bytes → length bytes < MAX_HEAD + MAX_LONG_BODY
 open_few bytes (inl (none, short, may)) = omega arith
 open_few bytes (inr (head, count, announces, fits, short)) =
     let most = match_limit-most (route_of head.target) in
     let few = announces.stands.few_bytes in
     omega arith
 
--- ---- how long it stays so
+-- ---- how much is awaited
 
--- bytes in which a request is awaited, up to the next byte
-pub stays_now : (bytes : List ℕ) → IsOpen bytes → StaysOpen bytes (length bytes + 1)
-stays_now bytes awaits [] short = subst IsOpen (sym (append-nil bytes)) awaits
-stays_now bytes awaits (b ∷ more) short = absurd (omega (arith, length-append bytes (b ∷ more)))
+-- where more bytes come and no more than are awaited, the head stands, and as many are awaited still
+pub awaits_on : (bytes piece : List ℕ) (least : ℕ) → 0 < length piece → length (bytes ++ piece) < least
+    → Awaits bytes least → Awaits (bytes ++ piece) least
+awaits_on bytes piece least some short (inl (awaits, is)) = absurd (omega (arith, is, length-append bytes piece))
+awaits_on bytes piece least some short (inr (head, count, announces, fits, is)) =
+    inr (head, count, Announces-append bytes piece head count announces, fits, is)
 
--- a head whose body is awaited, up to the end of the body
-pub stays_for_body : (bytes : List ℕ) (head : RequestHead) (count least : ℕ) → Announces bytes head count
-    → count ≤ body_limit head.target → least ≡ length (print_request head) + count → StaysOpen bytes least
-stays_for_body bytes head count least announces fits is more short =
-    inr (head, count, Announces-append bytes more head count announces, fits, omega (arith, is))
+-- a request is awaited now
+pub open_now : (bytes : List ℕ) (least : ℕ) → length bytes < least → Awaits bytes least → IsOpen bytes
+open_now bytes least short (inl (awaits, is)) = inl awaits
+open_now bytes least short (inr (head, count, announces, fits, is)) =
+    inr (head, count, announces, fits, omega (arith, is))
 
--- it stays so with some of the bytes
-pub stays_on : (bytes piece : List ℕ) (least : ℕ) → StaysOpen bytes least → StaysOpen (bytes ++ piece) least
-stays_on bytes piece least stays more short =
-    let same = append_assoc bytes piece more in
-    subst IsOpen (sym same) (stays (piece ++ more) (subst (λ (t : List ℕ). length t < least) same short))
-
--- it is so now
-pub open_now : (bytes : List ℕ) (least : ℕ) → length bytes < least → StaysOpen bytes least → IsOpen bytes
-open_now bytes least short stays =
-    subst IsOpen (append-nil bytes) (stays [] (subst (λ (t : List ℕ). length t < least) (sym (append-nil bytes)) short))
+-- bytes that become a bad rest with those behind them hold no head yet, and are few
+pub bad_before : (bytes more : List ℕ) (kind : BadRest) → IsOpen bytes → IsBadRest (bytes ++ more) kind
+    → length bytes < MAX_HEAD
+bad_before bytes more kind (inl awaits) wrong = awaits.1
+bad_before bytes more kind (inr (head, count, announces, fits, short)) wrong =
+    absurd (announced_is_no_bad_rest (bytes ++ more) head count kind (Announces-append bytes more head count announces)
+    fits wrong)
 
 -- ---- what was found of a head
 
 -- it announces a body of the length that was found
 pub head_announces : (bytes : List ℕ) (parts : HeadParts) (head : RequestHead) (count : ℕ) → ShowsHead bytes parts head
-    → parts.is_chunked ≡ false → unwrap_or parts.length 0 ≡ count → Announces bytes head count
+    → parts.is_chunked ≡ false → unwrap_or parts.body_length 0 ≡ count → Announces bytes head count
 head_announces bytes parts head count shows whole same = record {
   stands = shows.stands;
-  body = (parts.length, shows.length, same);
+  body = (parts.body_length, shows.body_length, same);
   whole = λ says. both_ways parts.is_chunked whole (shows.chunked.1 says);
 }
 
 -- its length is good
 pub head_is_good : (bytes : List ℕ) (parts : HeadParts) (head : RequestHead) → ShowsHead bytes parts head
     → ¬ (SaysBadLength head)
-head_is_good bytes parts head shows = has_good_length head (unwrap_or parts.length 0) (parts.length, shows.length, refl)
+head_is_good bytes parts head shows =
+    has_good_length head (unwrap_or parts.body_length 0) (parts.body_length, shows.body_length, refl)
 
 -- whether it says a length
 pub head_says : (head : RequestHead) (said : Option ℕ) → head_body head ≡ Ok said

@@ -1,12 +1,12 @@
 -- What looks at the front of a stream answer.
-use Rattle.std.specs.Prelude.{◌≡◌, ◌≢◌, ℕ, ◌≤◌, ◌<◌, ◌↔◌, IsTrue, List, [], ◌∷◌, ◌++◌, length, drop, codes, Ok}
+use Rattle.std.specs.Prelude.{◌≡◌, ◌≢◌, ℕ, ◌+◌, ◌≤◌, ◌<◌, ◌↔◌, ◌⊎◌, IsTrue, List, [], ◌∷◌, length, drop, codes, Ok}
 use Rattle.httparse.specs.Grammar.{RequestHead, print_request, HasNoRequest, MayBecomeRequest}
 use Rattle.httparse.specs.Spans.{span_bytes, IsWithin, IsRequestAt, IsRequestWithin, RequestOverflows}
 use Rattle.httparse.specs.declared.spans.HeaderSpan.{HeaderSpan}
 use Rattle.http_cut.specs.declared.fields.Found.{Found}
 use Rattle.http_cut.specs.declared.fields.Found.TheVariants.{Nothing, One, Several}
-use Rattle.http_cut.specs.declared.front.Case.{Case}
-use Rattle.http_cut.specs.declared.front.Case.TheVariants as case
+use Rattle.http_cut.specs.declared.front.Parsed.{Parsed}
+use Rattle.http_cut.specs.declared.front.Parsed.TheVariants as parsed
 use Rattle.http_cut.specs.declared.front.HeadParts.{HeadParts}
 use Rattle.http_cut.specs.declared.front.Front.{Front}
 use Rattle.http_cut.specs.declared.front.Front.TheVariants as front
@@ -14,7 +14,8 @@ use Rattle.http_cut.specs.declared.step.Request.{Request}
 use Rattle.http_cut.specs.declared.step.Step.{Step}
 use Rattle.http_cut.specs.declared.step.Step.TheVariants as step
 use Rattle.http_cut.specs.Head.{HasHead, AwaitsHead, IsBadHead, AsksHead, head_values, head_body}
-use Rattle.http_cut.specs.Cut.{BeginsRequest, IsBadRest, IsOpen, SaysLength}
+use Rattle.http_cut.specs.Cut.{Announces, BeginsRequest, IsBadRest, SaysLength}
+use Rattle.http_cut.specs.Routes.{body_limit}
 
 -- ---- private looks
 
@@ -25,23 +26,23 @@ AreFound bytes values (One span) = (values ≡ span_bytes bytes span ∷ []) × 
 AreFound bytes values Several = 2 ≤ length values
 
 -- what httparse answers, with room for as many fields as a head may have
-abbrev pub IsCase : List ℕ → List HeaderSpan → Case → Type 0
-IsCase bytes headers (case.Whole spans) =
+abbrev pub IsParsed : List ℕ → List HeaderSpan → Parsed → Type 0
+IsParsed bytes headers (parsed.Whole spans) =
     (head : RequestHead) × IsRequestAt bytes headers spans head × (length head.fields ≤ 64)
     × IsRequestWithin bytes headers spans
-IsCase bytes headers case.Unfinished = HasNoRequest bytes × MayBecomeRequest bytes
-IsCase bytes headers case.Never = RequestOverflows 64 bytes
+IsParsed bytes headers parsed.Unfinished = HasNoRequest bytes × MayBecomeRequest bytes
+IsParsed bytes headers parsed.Never = RequestOverflows 64 bytes
 
 -- the parts of a head that the bytes begin with
 pub record ShowsHead (bytes : List ℕ) (parts : HeadParts) (head : RequestHead) : Type 0 where
   pub stands : HasHead bytes head
-  pub len : parts.len ≡ length (print_request head)
-  pub fits : parts.len ≤ length bytes
-  pub method_fits : IsWithin parts.len parts.method
+  pub head_length : parts.head_length ≡ length (print_request head)
+  pub fits : parts.head_length ≤ length bytes
+  pub method_fits : IsWithin parts.head_length parts.method
   pub method : span_bytes bytes parts.method ≡ head.method
-  pub target_fits : IsWithin parts.len parts.target
+  pub target_fits : IsWithin parts.head_length parts.target
   pub target : span_bytes bytes parts.target ≡ head.target
-  pub length : head_body head ≡ Ok parts.length
+  pub body_length : head_body head ≡ Ok parts.body_length
   pub chunked : IsTrue parts.is_chunked ↔ (head_values (codes "transfer-encoding") head ≢ [])
 
 -- how the bytes at the front begin
@@ -61,14 +62,20 @@ pub record ShowsRequest (bytes : List ℕ) (request : Request) (head : RequestHe
   pub body_fits : IsWithin (length bytes) request.body
   pub has_length : IsTrue request.has_length ↔ SaysLength head
 
--- until so many bytes stand, a request may come, and none is there
-abbrev pub StaysOpen : List ℕ → ℕ → Type 0
-StaysOpen bytes least = (more : List ℕ) → length (bytes ++ more) < least → IsOpen (bytes ++ more)
+-- a head stands whose body is within its limit, and behind so many bytes the request ends
+abbrev pub EndsAt : List ℕ → ℕ → Type 0
+EndsAt bytes least =
+    (head : RequestHead) × (count : ℕ) × Announces bytes head count × (count ≤ body_limit head.target)
+    × (least ≡ length (print_request head) + count)
+
+-- so many bytes are awaited: one more where a head is awaited, and the whole request where its head stands
+abbrev pub Awaits : List ℕ → ℕ → Type 0
+Awaits bytes least = (AwaitsHead bytes × (least ≡ length bytes + 1)) ⊎ EndsAt bytes least
 
 -- what stands at the front
 abbrev pub IsStep : List ℕ → Step → Type 0
 IsStep bytes (step.Whole request) =
     (head : RequestHead) × ShowsRequest bytes request head
     × BeginsRequest bytes head (span_bytes bytes request.body) (drop request.body.end bytes)
-IsStep bytes (step.NeedMore least) = (length bytes < least) × StaysOpen bytes least
+IsStep bytes (step.NeedMore least) = (length bytes < least) × Awaits bytes least
 IsStep bytes (step.Bad kind asks_head) = IsBadRest bytes kind × (IsTrue asks_head ↔ AsksHead bytes)

@@ -10,6 +10,7 @@ use Rattle.matchit.specs.Router.{RouteOf, route_from}
 use Rattle.matchit.specs.Seek.{first, has_slash}
 use Rattle.matchit.specs.Params.{walk, named}
 use Rattle.matchit.specs.declared.error.InsertError.{InsertError}
+use Rattle.http_cut.specs.declared.digits.TheConstants.{WRITE_DIGITS, NUMBER_DIGITS}
 use Rattle.http_cut.specs.declared.route.Method.{Method}
 use Rattle.http_cut.specs.declared.route.Method.TheVariants.{Get, Post}
 use Rattle.http_cut.specs.declared.route.Route.{Route}
@@ -69,6 +70,7 @@ route_limit _ = MAX_BODY
 
 -- ---- the table as matchit keeps it
 
+-- the rows that matchit keeps: each pattern with its text, its names and its route
 abbrev pub Rows : Type 0
 Rows = RowsOf (RouteOf Route)
 
@@ -77,6 +79,7 @@ abbrev pub placed_read : Result Scan InsertError → Route → Rows → Rows
 placed_read (Ok scan) route rows = placed (scan.pattern, route_from scan route) rows
 placed_read (Err error) route rows = rows
 
+-- the rows with the pattern of one more text
 abbrev pub rows_with : List ℕ → Route → Rows → Rows
 rows_with text route rows = placed_read (parse_route text) route rows
 
@@ -111,9 +114,11 @@ is_good_number most None = true
 -- the parameters that are to be numbers are
 abbrev pub has_good_numbers : List (List ℕ × List ℕ) → Bool
 has_good_numbers parts =
-    is_good_number 12 (named (codes "n") parts) && is_good_number 9 (named (codes "version") parts)
-    && is_good_number 9 (named (codes "session") parts)
+    is_good_number WRITE_DIGITS (named (codes "n") parts)
+    && is_good_number NUMBER_DIGITS (named (codes "version") parts)
+    && is_good_number NUMBER_DIGITS (named (codes "session") parts)
 
+-- a match whose numbers are good
 abbrev pub with_good_numbers : Option Match → Option Match
 with_good_numbers (Some found) = if has_good_numbers found.1 then Some found else None
 with_good_numbers None = None
@@ -122,11 +127,12 @@ with_good_numbers None = None
 abbrev pub route_of : List ℕ → Option Match
 route_of target = if is_utf8 target then with_good_numbers (match_of target) else None
 
--- the most bytes of a body that is sent to this target
+-- the most bytes of a body that is sent where this was matched, or nothing was
 abbrev pub match_limit : Option Match → ℕ
 match_limit (Some found) = route_limit found.0
 match_limit None = MAX_BODY
 
+-- the most bytes of a body that is sent to this target
 abbrev pub body_limit : List ℕ → ℕ
 body_limit target = match_limit (route_of target)
 
@@ -144,6 +150,7 @@ abbrev pub tokens_read : Result Scan InsertError → List ℕ
 tokens_read (Ok scan) = scan.pattern
 tokens_read (Err error) = []
 
+-- the tokens of a text, where it reads as a pattern
 abbrev pub tokens_of : List ℕ → List ℕ
 tokens_of text = tokens_read (parse_route text)
 

@@ -5,6 +5,12 @@ ghost use Rattle.std.specs.Char.{is_ascii_digit};
 ghost use Rattle.std.specs.Str.Parse.{digits_value};
 ghost use Rattle.http_cut.specs.Numbers.{number, positive};
 
+/// The most digits of the number of a write.
+pub const WRITE_DIGITS: usize = 12;
+
+/// The most digits of a version, and of the number of a session.
+pub const NUMBER_DIGITS: usize = 9;
+
 /// The number that 1 to `most` decimal digits write, and nothing for other bytes.
 pub fn number(bytes: &[u8], most: usize) -> Option<u64>
     requires { most ≤ 19 }

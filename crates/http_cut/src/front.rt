@@ -2,7 +2,7 @@
 ghost use Rattle.std.specs.Prelude.{◌≡◌, ◌↔◌, ◌≤◌, IsTrue, codes, length};
 ghost use Rattle.httparse.specs.Grammar.{RequestHead};
 ghost use Rattle.httparse.specs.Spans.{IsRequestAt, IsRequestWithin};
-ghost use Rattle.http_cut.specs.Looks.{IsFront, IsCase};
+ghost use Rattle.http_cut.specs.Looks.{IsFront, IsParsed};
 
 use crate::fields::{body_length, has_field};
 use crate::lines::has_many_lines;
@@ -15,11 +15,11 @@ use httparse::spans::{EMPTY_HEADER_SPAN, HeaderSpan, RequestSpans, Span, parse_r
 #[derive(Clone, Copy)]
 pub struct HeadParts {
     /// How many bytes the head has, with the empty lines before it and the empty line at its end.
-    pub len: usize,
+    pub head_length: usize,
     pub method: Span,
     pub target: Span,
-    /// The length of the body, where a field says it.
-    pub length: Option<u64>,
+    /// How many bytes the body has, where a field says it.
+    pub body_length: Option<u64>,
     /// Whether a field `Transfer-Encoding` stands.
     pub is_chunked: bool,
 }
@@ -37,7 +37,7 @@ pub enum Front {
 
 /// What httparse answers.
 #[derive(Clone, Copy)]
-enum Case {
+enum Parsed {
     Whole(RequestSpans),
     Unfinished,
     Never,
@@ -49,15 +49,15 @@ pub fn look(bytes: &[u8]) -> Front
 {
     let mut headers = [EMPTY_HEADER_SPAN; MAX_FIELDS];
     match parse(bytes, &mut headers) {
-        Case::Whole(spans) => judge(bytes, &headers, &spans),
-        Case::Unfinished => {
+        Parsed::Whole(spans) => judge(bytes, &headers, &spans),
+        Parsed::Unfinished => {
             if bytes.len() < MAX_HEAD && !has_many_lines(bytes) {
                 Front::NeedMore
             } else {
                 Front::BadHead(false)
             }
         }
-        Case::Never => {
+        Parsed::Never => {
             if bytes.len() < MAX_HEAD && ends_in_target(bytes) {
                 Front::NeedMore
             } else {
@@ -67,14 +67,14 @@ pub fn look(bytes: &[u8]) -> Front
     }
 }
 
-fn parse(bytes: &[u8], headers: &mut [HeaderSpan]) -> Case
+fn parse(bytes: &[u8], headers: &mut [HeaderSpan]) -> Parsed
     requires { length headers.old ≡ 64 }
-    ensures { IsCase bytes.now headers.new result }
+    ensures { IsParsed bytes.now headers.new result }
 {
     match parse_request(bytes, headers) {
-        Ok(Status::Complete(spans)) => Case::Whole(spans),
-        Ok(Status::Partial) => Case::Unfinished,
-        Err(_) => Case::Never,
+        Ok(Status::Complete(spans)) => Parsed::Whole(spans),
+        Ok(Status::Partial) => Parsed::Unfinished,
+        Err(_) => Parsed::Never,
     }
 }
 
@@ -90,10 +90,10 @@ fn judge(bytes: &[u8], headers: &[HeaderSpan], spans: &RequestSpans) -> Front
     let fields = &headers[..spans.headers];
     match body_length(bytes, fields) {
         Ok(length) => Front::Head(HeadParts {
-            len: spans.len,
+            head_length: spans.len,
             method: spans.method,
             target: spans.path,
-            length,
+            body_length: length,
             is_chunked: has_field(bytes, fields, b"transfer-encoding"),
         }),
         Err(_) => Front::BadHead(is_head(spans.method.of(bytes))),

@@ -17,9 +17,9 @@ mod step;
 mod target;
 mod window;
 
-pub use digits::{number, positive};
+pub use digits::{NUMBER_DIGITS, WRITE_DIGITS, number, positive};
 pub use httparse::spans::Span;
-pub use intake::{IntakeFault, PIECE, next_step};
+pub use intake::{Intake, IntakeFault, PIECE, next_step};
 pub use route::{Method, Route};
 pub use route_match::RouteMatch;
 pub use routes::Routes;

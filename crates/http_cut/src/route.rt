@@ -1,5 +1,6 @@
 //! What targets ask for.
 ghost use Rattle.std.specs.Prelude.{◌≡◌, ◌≤◌};
+ghost use Rattle.desk_base.specs.declared.limits.TheConstants.{MAX_LONG_BODY};
 ghost use Rattle.http_cut.specs.Routes.{method_of, route_limit};
 
 use desk_base::{MAX_BATCH_BODY, MAX_BODY, MAX_LONG_BODY};
@@ -55,7 +56,7 @@ impl Route {
     /// The most bytes of its body.
     pub fn body_limit(self) -> u64
         ensures limit { result ≡ route_limit self }
-        ensures few { result ≤ 4194304 }
+        ensures few { result ≤ MAX_LONG_BODY }
     {
         match self {
             Route::AddMaster | Route::AddRegion => MAX_LONG_BODY as u64,

@@ -3,16 +3,10 @@ ghost use Rattle.std.specs.Prelude.{◌≡◌, ◌≤◌, Some, None, MatchOptio
 ghost use Rattle.matchit.specs.Params.{named};
 ghost use Rattle.http_cut.specs.Routes.{is_good_number, has_good_numbers};
 
-use crate::digits::positive;
+use crate::digits::{NUMBER_DIGITS, WRITE_DIGITS, positive};
 use crate::route::Route;
 use matchit::Params;
 use std::marker::Model;
-
-/// The most digits of a request's number.
-const REQUEST_DIGITS: usize = 12;
-
-/// The most digits of a version, and of a session's number.
-const NUMBER_DIGITS: usize = 9;
 
 /// The route of a target, with its parameters. A clause sees the route, and each name with its text.
 #[derive(Drop)]
@@ -57,7 +51,7 @@ impl<'r, 'p> RouteMatch<'r, 'p> {
     pub(crate) fn has_good_numbers(&self) -> bool
         ensures { result ≡ has_good_numbers self.now.1 }
     {
-        self.has_good_number("n", REQUEST_DIGITS)
+        self.has_good_number("n", WRITE_DIGITS)
             && self.has_good_number("version", NUMBER_DIGITS)
             && self.has_good_number("session", NUMBER_DIGITS)
     }

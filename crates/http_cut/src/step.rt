@@ -1,5 +1,6 @@
 //! The next request at the front of a stream.
-ghost use Rattle.std.specs.Prelude.{◌≡◌, ◌≤◌, ◌<◌, length};
+ghost use Rattle.std.specs.Prelude.{◌≡◌, ◌≤◌};
+ghost use Rattle.desk_base.specs.declared.limits.TheConstants.{MAX_LONG_BODY};
 ghost use Rattle.httparse.specs.Grammar.{RequestHead};
 ghost use Rattle.http_cut.specs.Looks.{ShowsHead, IsStep};
 ghost use Rattle.http_cut.specs.Routes.{body_limit};
@@ -35,7 +36,7 @@ pub enum BadRest {
 pub enum Step {
     /// A whole request.
     Whole(Request),
-    /// What may become one, and stays so until this many bytes stand.
+    /// What may become one: where its head stands, it ends where this many bytes do; else one byte more is awaited.
     NeedMore(usize),
     /// A rest that ends the stream. The flag says whether a head stands there whose method is HEAD.
     Bad(BadRest, bool),
@@ -61,11 +62,11 @@ fn step_at_head(routes: &Routes, bytes: &[u8], parts: HeadParts) -> Step
     if parts.is_chunked {
         return Step::Bad(BadRest::Chunked, asks_head);
     }
-    let count = parts.length.unwrap_or(0);
+    let count = parts.body_length.unwrap_or(0);
     if count > body_limit(routes, parts.target.of(bytes)) {
         return Step::Bad(BadRest::BodyLong, asks_head);
     }
-    let end = parts.len + count as usize;
+    let end = parts.head_length + count as usize;
     if bytes.len() < end {
         return Step::NeedMore(end);
     }
@@ -73,17 +74,17 @@ fn step_at_head(routes: &Routes, bytes: &[u8], parts: HeadParts) -> Step
         method: parts.method,
         target: parts.target,
         body: Span {
-            start: parts.len,
+            start: parts.head_length,
             end,
         },
-        has_length: parts.length.is_some(),
+        has_length: parts.body_length.is_some(),
     })
 }
 
 /// The most bytes of a body that is sent to this target.
 fn body_limit(routes: &Routes, target: &[u8]) -> u64
     ensures limit { result ≡ body_limit target.now }
-    ensures few { result ≤ 4194304 }
+    ensures few { result ≤ MAX_LONG_BODY }
 {
     match routes.find(target) {
         Some(found) => found.route().body_limit(),

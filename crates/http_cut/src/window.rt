@@ -49,6 +49,13 @@ impl Window {
         self.start += count;
     }
 
+    /// Has done with all bytes.
+    pub fn clear(&mut self)
+        ensures { self.new ≡ [] }
+    {
+        self.start = self.bytes.len();
+    }
+
     /// Adds bytes behind the others.
     pub fn add(&mut self, piece: &[u8]) -> Result<(), NoMemory>
         ensures added { OnOk result (self.new ≡ self.old ++ piece.now) }

@@ -150,9 +150,9 @@ whole : (limit : ℕ) (old new : Scene) (end : Ended) (s : Streams limit old new
     → Whole limit old new end s
 whole limit old new ended.Clean s own = inr ((λ e. cc), s.ends.0)
 whole limit old new ended.Limit s own = inl (refl, s.ends.0)
-whole limit old new ended.BadHead s own = inr ((λ e. cc), s.ends.0)
-whole limit old new ended.Chunked s own = inr ((λ e. cc), s.ends.0)
-whole limit old new ended.BodyLong s own = inr ((λ e. cc), s.ends.0)
+whole limit old new ended.BadHead s own = inr ((λ e. cc), s.ends.0.0)
+whole limit old new ended.Chunked s own = inr ((λ e. cc), s.ends.0.0)
+whole limit old new ended.BodyLong s own = inr ((λ e. cc), s.ends.0.0)
 whole limit old new (ended.Truncated count) s own = inr ((λ e. cc), s.ends.0)
 whole limit old new ended.ReadFault s own = absurd own
 whole limit old new ended.WriteFault s own = absurd own

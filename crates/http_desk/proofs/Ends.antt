@@ -5,7 +5,9 @@ use Rattle.std.specs.Prelude.{◌↔◌, IsTrue}
 use Rattle.std.specs.Io.KnownBytes.{Appends, IsAtEnd}
 use Rattle.desk_base.specs.Faults.{AppendsPart, Rose}
 use Rattle.desk_base.proofs.Growth.{Appends-then}
+use Rattle.desk_base.specs.declared.limits.TheConstants.{MAX_HEAD}
 use Rattle.keeper_core.specs.Keeping.{IfTold}
+use Rattle.http_cut.specs.declared.intake.TheConstants.{PIECE}
 use Rattle.http_cut.specs.declared.intake.IntakeFault.{IntakeFault}
 use Rattle.http_cut.specs.declared.intake.IntakeFault.TheVariants as intake
 use Rattle.http_cut.specs.declared.step.BadRest.{BadRest}
@@ -23,7 +25,7 @@ use Rattle.http_desk.specs.Answered.{Answered, HasNoRoom, IsAnswered, asks_head,
 use Rattle.http_desk.specs.Commands.{command_for}
 use Rattle.http_desk.specs.Refusals.{refused_rest, refusal_text}
 use Rattle.http_desk.specs.Scenes.{Scene, Later}
-use Rattle.http_desk.specs.Streams.{Progress, Serves, IsRestText, IsEndOf, RefusesRest, AnswersAll}
+use Rattle.http_desk.specs.Streams.{Progress, Serves, IsRestText, IsEndOf, RefusesRest, AnswersAll, StopsAt}
 use Rattle.http_desk.specs.Streams.{CutsEnd, CutsText, EndsStream, IsFaultless, bad_end, fault_end}
 use Rattle.http_desk.proofs.Cutting.{Begins-more, AsksHead-append, open_end}
 use Rattle.http_desk.proofs.Progress.{Progress-takes, failures-push, texts-push}
@@ -40,7 +42,7 @@ Later-then old mid new h k = record {
 
 -- as many requests were answered as may be
 pub ends_limit : (reads : Type 0) (takes taking : ℕ → Type 0) (keeps : Type 0) (limit : ℕ) (old new : Scene) (count : ℕ)
-    (window : List ℕ) → Serving keeps takes taking limit old new count window → count ≡ limit → length window < 65536
+    (window : List ℕ) → Serving keeps takes taking limit old new count window → count ≡ limit → length window < PIECE
     → Serves reads takes keeps limit old new ended.Limit
 ends_limit reads takes taking keeps limit old new count window s reached few =
     let left = some_left old.left new.left s.taken s.progress.took in
@@ -226,7 +228,7 @@ rest_text window after kind asks wrong is = record {
 
 -- what the kinds of bad rests end with
 ends_badly : (limit : ℕ) (old new : Scene) (bytes taken : List ℕ) (answers : List Answered) (rest after : List ℕ)
-    (kind : BadRest) (text : List ℕ) → AnswersAll limit old new bytes taken answers rest after (bad kind)
+    (kind : BadRest) (text : List ℕ) → StopsAt limit old new bytes taken answers rest after kind
     → IsRestText (rest ++ after) kind text → Appends old.written new.written (texts answers ++ text)
     → EndsStream limit old new bytes taken answers rest after (bad_end kind)
 ends_badly limit old new bytes taken answers rest after bad_rest.BadHead text all due written =
@@ -244,17 +246,19 @@ no_fault bad_rest.BodyLong = ((λ e. cc), λ e. cc)
 -- a bad rest is refused, in full or in part
 pub ends_refused : (reads : Type 0) (takes taking : ℕ → Type 0) (keeps : Type 0) (limit : ℕ) (old mid new : Scene)
     (count : ℕ) (window : List ℕ) (kind : BadRest) (asks : Bool) (end : Ended)
-    → Serving keeps takes taking limit old mid count window → count < limit → IsBadRest window kind
-    → (IsTrue asks ↔ AsksHead window)
+    → Serving keeps takes taking limit old mid count window → count < limit → length window < MAX_HEAD + PIECE
+    → IsBadRest window kind → (IsTrue asks ↔ AsksHead window)
     → RefusesRest taking mid.written new.written mid.write_faults new.write_faults kind
     (refusal_text (refused_rest kind) true asks) end
     → new.left ≡ mid.left → new.read_faults ≡ mid.read_faults → new.tables ≡ mid.tables → new.told ≡ mid.told
     → new.faults ≡ mid.faults → Serves reads takes keeps limit old new end
-ends_refused reads takes taking keeps limit old mid new count window kind asks end s below wrong is refuses same
+ends_refused reads takes taking keeps limit old mid new count window kind asks end s below few wrong is refuses same
     read_faults tables told faults =
     let text : List ℕ = refusal_text (refused_rest kind) true asks in
     let left = some_left old.left mid.left s.taken s.progress.took in
-    let all = bad_cut keeps takes taking limit old mid new count window left.0 left.1 kind s below wrong left.2.split in
+    let whole = bad_cut keeps takes taking limit old mid new count window left.0 left.1 kind s below wrong
+    left.2.split in
+    let all : StopsAt limit old new left.0 s.taken s.answers window left.1 kind = (whole, few) in
     let due = rest_text window left.1 kind asks wrong is in
     let later : Later old new = record {
       read_faults = rw read_faults s.later.read_faults;
@@ -315,7 +319,7 @@ ends_refused reads takes taking keeps limit old mid new count window kind asks e
             };
             read = λ _ e. let apart = sym part.0 ∙ e in cc;
             written = λ _.
-                inr (kind, cut, all.0.ends, HasNoRoom-behind takes taking (texts s.answers) text s.room part.3);
+                inr (kind, cut, whole.0.ends, HasNoRoom-behind takes taking (texts s.answers) text s.room part.3);
             available = s.settled;
           }
     ]

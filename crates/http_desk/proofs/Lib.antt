@@ -4,6 +4,7 @@ pub mod Declining
 pub mod Deriving
 pub mod Ends
 pub mod Lengths
+pub mod Named
 pub mod Numbered
 pub mod Progress
 pub mod Sheets

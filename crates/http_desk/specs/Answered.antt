@@ -137,13 +137,14 @@ last_tables tables (a ∷ answers) = last_tables a.tables answers
 abbrev pub failures : List Answered → ℕ
 failures answers = sum_by (λ a. failure a.outcome) answers
 
--- no answer is for a failure of the keeper or want of memory
+-- what became of a request is neither a failure of the keeper nor want of memory
 abbrev pub IsDue : Outcome → Type 0
 IsDue (Declines why) = ⊤
 IsDue (Replied reply changes) = ⊤
 IsDue Unavailable = ⊥
 IsDue NoMemory = ⊥
 
+-- no answer is for a failure of the keeper or want of memory
 abbrev pub AreDue : List Answered → Type 0
 AreDue [] = ⊤
 AreDue (a ∷ answers) = IsDue a.outcome × AreDue answers

@@ -1,6 +1,7 @@
 -- The parameters of a target: the names and numbers of what a request is about.
 use Rattle.std.specs.Prelude.{ℕ, List, codes, Ok, option_and_then, ⊤}
 use Rattle.matchit.specs.Params.{named}
+use Rattle.http_cut.specs.declared.digits.TheConstants.{WRITE_DIGITS, NUMBER_DIGITS}
 use Rattle.http_cut.specs.declared.route.Route.{Route as Target}
 use Rattle.http_cut.specs.declared.route.Route.TheVariants as target
 use Rattle.http_cut.specs.Numbers.{positive}
@@ -29,11 +30,11 @@ clerk_in = text_at (codes "clerk")
 
 -- the number of a write among its caller's
 abbrev pub write_in : Parts → Checked ℕ
-write_in = number_at 12 (codes "n")
+write_in = number_at WRITE_DIGITS (codes "n")
 
 -- the session that a write or a look is about
 abbrev pub session_in : Parts → Checked ℕ
-session_in = number_at 9 (codes "session")
+session_in = number_at NUMBER_DIGITS (codes "session")
 
 -- the edition that it is about
 abbrev pub edition_in : Parts → Checked (List ℕ)
@@ -41,7 +42,7 @@ edition_in = text_at (codes "edition")
 
 -- the version of what it is about
 abbrev pub version_in : Parts → Checked ℕ
-version_in = number_at 9 (codes "version")
+version_in = number_at NUMBER_DIGITS (codes "version")
 
 -- what a new version is of, or the attribute that is asked about
 abbrev pub name_in : Parts → Checked (List ℕ)

@@ -30,11 +30,12 @@ abbrev pub wants_length : Method → Bool
 wants_length Get = false
 wants_length Post = true
 
--- whether a field `Content-Length` stands
+-- whether a field `Content-Length` stands, by what the fields say
 abbrev pub is_said : Result (Option ℕ) BadLength → Bool
 is_said (Ok said) = is_some said
 is_said (Err several) = true
 
+-- whether a head says the length of its body
 abbrev pub says_length : RequestHead → Bool
 says_length head = is_said (head_body head)
 
@@ -47,6 +48,7 @@ asked_of head (Some found) =
     else if wants_length (method_of found.0) && not (says_length head) then Err refused.NoLength
     else Ok found
 
+-- the route of a whole request, by its target, or the first of these tests that it fails
 abbrev pub asked : WholeRequest → Result Match Refused
 asked request = asked_of request.0 (route_of request.0.target)
 
@@ -58,6 +60,7 @@ refused_rest rest.BadHead = refused.BadHead
 refused_rest rest.Chunked = refused.Chunked
 refused_rest rest.BodyLong = refused.BodyLong
 
+-- the status of a refusal's response
 abbrev pub status_of : Refused → Status
 status_of refused.NoRoute = status.NotFound
 status_of refused.OtherMethod = status.MethodNotAllowed
@@ -68,6 +71,7 @@ status_of refused.BodyLong = status.ContentTooLarge
 status_of refused.Unavailable = status.ServiceUnavailable
 status_of refused.NoMemory = status.InsufficientStorage
 
+-- the body of a refusal's response: a JSON object that names why
 abbrev pub body_of : Refused → List ℕ
 body_of refused.NoRoute = codes "{\"error\":\"no_route\"}"
 body_of refused.OtherMethod = codes "{\"error\":\"method\"}"

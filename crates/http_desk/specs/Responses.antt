@@ -10,6 +10,7 @@ use Rattle.http_desk.specs.declared.status.ContentType.TheVariants.{Json, Text, 
 
 -- ---- the status line
 
+-- the number of a status (RFC 9110, section 15)
 abbrev pub code_of : Status → ℕ
 code_of Ok = 200
 code_of Created = 201
@@ -24,6 +25,7 @@ code_of NotImplemented = 501
 code_of ServiceUnavailable = 503
 code_of InsufficientStorage = 507
 
+-- the reason phrase of a status
 abbrev pub reason_of : Status → List ℕ
 reason_of Ok = codes "OK"
 reason_of Created = codes "Created"
@@ -40,6 +42,7 @@ reason_of InsufficientStorage = codes "Insufficient Storage"
 
 -- ---- the fields
 
+-- the media type of a body
 abbrev pub type_of : ContentType → List ℕ
 type_of Json = codes "application/json"
 type_of Text = codes "text/plain"
@@ -49,12 +52,15 @@ type_of Csv = codes "text/csv"
 abbrev pub line : List ℕ → List ℕ
 line text = text ++ 13 ∷ 10 ∷ []
 
+-- the first line: the version of HTTP, the number of the status and its reason phrase
 abbrev pub status_line : Status → List ℕ
 status_line status = codes "HTTP/1.1 " ++ (decimal (code_of status) ++ (codes " " ++ line (reason_of status)))
 
+-- the line that says what the body is
 abbrev pub type_line : ContentType → List ℕ
 type_line kind = codes "Content-Type: " ++ line (type_of kind)
 
+-- the line that says how many bytes the body has
 abbrev pub length_line : ℕ → List ℕ
 length_line count = codes "Content-Length: " ++ line (decimal count)
 

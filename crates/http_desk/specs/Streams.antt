@@ -1,9 +1,11 @@
 -- What serving a stream leaves, by how it ends.
-use Rattle.std.specs.Prelude.{◌≡◌, ◌≢◌, ◌↔◌, ◌⊎◌, ℕ, ◌<◌, ◌≤◌, IsTrue, Bool, true, List, [], ◌∷◌, ◌++◌, length, take}
-use Rattle.std.specs.Prelude.{Option, Some, None, ⊤}
+use Rattle.std.specs.Prelude.{◌≡◌, ◌≢◌, ◌↔◌, ◌⊎◌, ℕ, ◌+◌, ◌<◌, ◌≤◌, IsTrue, Bool, true, List, [], ◌∷◌, ◌++◌, length}
+use Rattle.std.specs.Prelude.{take, Option, Some, None, ⊤}
 use Rattle.std.specs.Io.KnownBytes.{Appends, Consumes}
 use Rattle.desk_base.specs.Faults.{AppendsPart, Rose}
+use Rattle.desk_base.specs.declared.limits.TheConstants.{MAX_HEAD}
 use Rattle.keeper_core.specs.Keeping.{IfTold}
+use Rattle.http_cut.specs.declared.intake.TheConstants.{PIECE}
 use Rattle.http_cut.specs.declared.intake.IntakeFault.{IntakeFault}
 use Rattle.http_cut.specs.declared.intake.IntakeFault.TheVariants as intake
 use Rattle.http_cut.specs.declared.step.BadRest.{BadRest}
@@ -71,19 +73,24 @@ module _ (limit : ℕ) (old new : Scene) (bytes taken : List ℕ) (answers : Lis
   abbrev pub WritesAll : Type 0
   WritesAll = Appends old.written new.written (texts answers)
 
+  -- all requests were answered, and few bytes were taken of the bad rest behind them
+  abbrev pub StopsAt : BadRest → Type 0
+  StopsAt kind = AnswersAll (bad kind) × (length rest < MAX_HEAD + PIECE)
+
   -- all texts were written, and then the response to a bad rest
   abbrev pub EndsBadly : BadRest → Type 0
-  EndsBadly kind = AnswersAll (bad kind) × ((text : List ℕ) × IsRestText (rest ++ after) kind text
+  EndsBadly kind = StopsAt kind × ((text : List ℕ) × IsRestText (rest ++ after) kind text
       × Appends old.written new.written (texts answers ++ text))
 
   -- a text was written in part: the last response to a request, or the response to a bad rest
   abbrev pub CutsWriting : Type 0
   CutsWriting = (CutsText old.written new.written answers × (length answers ≤ limit))
-      ⊎ ((kind : BadRest) × AnswersAll (bad kind) × CutsEnd old.written new.written answers (rest ++ after) kind)
+      ⊎ ((kind : BadRest) × StopsAt kind × CutsEnd old.written new.written answers (rest ++ after) kind)
 
+  -- what each end says
   abbrev pub EndsStream : Ended → Type 0
   EndsStream ended.Clean = AnswersAll clean × WritesAll
-  EndsStream ended.Limit = (length answers ≡ limit) × (length rest < 65536) × WritesAll
+  EndsStream ended.Limit = (length answers ≡ limit) × (length rest < PIECE) × WritesAll
   EndsStream ended.BadHead = EndsBadly bad_rest.BadHead
   EndsStream ended.Chunked = EndsBadly bad_rest.Chunked
   EndsStream ended.BodyLong = EndsBadly bad_rest.BodyLong

@@ -19,33 +19,40 @@ use crate::replying::{declined_text, reply_text};
 use crate::text::Text;
 use desk_base::{Failed, NoMemory, Sink, write_all};
 use desk_words::Command;
-use http_cut::{Request, Routes};
+use http_cut::{Intake, Request, Routes};
 use keeper_core::Keeper;
 use machine_core::{Machine, SettleFail, Weighed};
 use std::alloc::Global;
 
-/// Answers a request and writes the response.
+/// Answers a request that stands in the intake, and writes the response.
 pub fn respond<M: Machine, K: Keeper, W: Sink>(
     alloc: Global,
-    routes: &Routes,
+    intake: &Intake,
     machine: &mut M,
     keeper: &mut K,
     sink: &mut W,
-    bytes: &[u8],
     request: &Request,
     closing: bool,
 ) -> Result<(), Failed>
     requires told { IfTold (K.tables keeper.old) (M.rows machine.old) }
-    requires shows { (head : RequestHead) × ShowsRequest bytes.now request.now head }
-    ensures responds { (head : RequestHead) → ShowsRequest bytes.now request.now head
+    requires shows { (head : RequestHead) × ShowsRequest intake.now request.now head }
+    ensures responds { (head : RequestHead) → ShowsRequest intake.now request.now head
         → Responds (K.is_steady keeper.old) (W.takes sink.old) (W.takes sink.new) (M.rows machine.old) closing
-        (head, span_bytes bytes.now request.now.body) (M.rows machine.new) (K.faults keeper.old) (K.faults keeper.new)
+        (head, span_bytes intake.now request.now.body) (M.rows machine.new) (K.faults keeper.old) (K.faults keeper.new)
         (W.written sink.old) (W.written sink.new) result }
     ensures told { IfTold (K.tables keeper.new) (M.rows machine.new) }
     ensures steady { K.is_steady keeper.old → K.is_steady keeper.new }
     ensures cause { HasCause (W.write_faults sink.old) (W.write_faults sink.new) result }
 {
-    let text = answer(alloc, routes, machine, keeper, bytes, request, closing);
+    let text = answer(
+        alloc,
+        intake.routes(),
+        machine,
+        keeper,
+        intake.bytes(),
+        request,
+        closing,
+    );
     write_all(sink, text.bytes())
 }
 

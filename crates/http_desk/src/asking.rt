@@ -10,7 +10,7 @@ use crate::refusal::Refused;
 use http_cut::{Method, Request, RouteMatch, Routes};
 
 /// The route of a request with its parameters, or the first of the tests before the machine that it fails.
-pub fn asked<'r, 'b>(
+pub(crate) fn asked<'r, 'b>(
     routes: &'r Routes,
     bytes: &'b [u8],
     request: &Request,

@@ -6,7 +6,7 @@ use desk_words::Digest as RequestDigest;
 use sha2::{Digest, Sha256};
 
 /// The SHA-256 (FIPS 180-4) of the target, a zero byte and the body.
-pub fn digest_of(target: &[u8], body: &[u8]) -> RequestDigest
+pub(crate) fn digest_of(target: &[u8], body: &[u8]) -> RequestDigest
     ensures { result.bytes ≡ sha256 (target.now ++ 0 ∷ body.now) }
 {
     let mut hasher = Sha256::new();

@@ -1,7 +1,10 @@
-//! What holds of streams, whatever devices serve them.
-ghost use Rattle.std.specs.Prelude.{◌≡◌, ◌++◌, ℕ, List};
+//! What holds of streams, whatever devices serve them, and of the targets of their requests.
+ghost use Rattle.std.specs.Prelude.{◌≡◌, ◌++◌, ℕ, List, Ok, Some};
 ghost use Rattle.http_cut.specs.Cut.{Begins, End, IsCut, WholeRequest};
+ghost use Rattle.http_cut.specs.Routes.{Match, route_of};
+ghost use Rattle.desk_json.specs.declared.route.Route.{Route};
 ghost use Rattle.http_desk.specs.Answered.{AreDue};
+ghost use Rattle.http_desk.specs.Parameters.{route_in};
 ghost use Rattle.http_desk.specs.Scenes.{Scene};
 ghost use Rattle.http_desk.specs.Streams.{IsOwnEnd, Streams};
 ghost use Rattle.http_desk.specs.declared.serving.Ended.{Ended};
@@ -21,4 +24,11 @@ pub fn answered_alike(limit: u32)
         (two : Streams limit early late other) → IsOwnEnd end → IsOwnEnd other → one.bytes ≡ two.bytes
         → old.tables ≡ early.tables → AreDue one.answers → AreDue two.answers
         → (one.answers ≡ two.answers) × (end ≡ other) }
+{}
+
+/// A target that has a route has the parameters of which its route is made, each in its form. So what is declined for
+/// want of a route is a target that `http_cut` finds none for.
+pub fn a_route_has_its_parameters(target: &[u8])
+    ensures { (found : Match) → route_of target.now ≡ Some found
+        → (route : Route) × (route_in found.0 found.1 ≡ Ok route) }
 {}

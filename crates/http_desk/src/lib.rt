@@ -21,9 +21,7 @@ mod serving;
 mod status;
 mod text;
 
-pub use asking::asked;
-pub use digest::digest_of;
 pub use refusal::Refused;
 pub use responses::response;
-pub use serving::{Ended, serve_stream};
+pub use serving::{Ended, serve_link, serve_stream};
 pub use status::{ContentType, Status};

@@ -1,5 +1,6 @@
 //! The parameters of a target, and its route with them.
 ghost use Rattle.std.specs.Prelude.{◌≤◌, ◌<◌, ◌^◌, IfOk};
+ghost use Rattle.http_cut.specs.declared.digits.TheConstants.{NUMBER_DIGITS};
 ghost use Rattle.http_desk.specs.Checked.{Finds};
 ghost use Rattle.http_desk.specs.Parameters.{IsEntering, IsLook, IsOfSession, IsOfSteward};
 ghost use Rattle.http_desk.specs.Parameters.{number_at, route_in, text_at, write_in};
@@ -8,14 +9,8 @@ use crate::declined::Declined;
 use crate::refusal::Refused;
 use desk_base::Str;
 use desk_json::Route;
-use http_cut::{Route as Target, RouteMatch, positive};
+use http_cut::{NUMBER_DIGITS, Route as Target, RouteMatch, WRITE_DIGITS, positive};
 use std::alloc::Global;
-
-/// The most digits of the number of a write.
-const WRITE_DIGITS: usize = 12;
-
-/// The most digits of a version, and of the number of a session.
-const NUMBER_DIGITS: usize = 9;
 
 /// The route that a target asks for, with its parameters.
 pub fn route_in(alloc: Global, found: &RouteMatch<'_, '_>) -> Result<Route, Declined>
@@ -205,7 +200,7 @@ fn write_in(found: &RouteMatch<'_, '_>) -> Result<u64, Declined>
 
 /// The version or the number of a session at a parameter.
 fn number_at(found: &RouteMatch<'_, '_>, name: &str) -> Result<u32, Declined>
-    ensures { Finds result (number_at 9 name.now found.now.1) }
+    ensures { Finds result (number_at NUMBER_DIGITS name.now found.now.1) }
 {
     let number = digits_at(found, name, NUMBER_DIGITS)?;
     Ok(number as u32)

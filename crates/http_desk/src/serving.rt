@@ -1,5 +1,5 @@
 //! Serving a stream of requests.
-ghost use Rattle.std.specs.Prelude.{◌≡◌, ◌≤◌, true, length};
+ghost use Rattle.std.specs.Prelude.{◌≡◌, ◌≤◌, [], true};
 ghost use Rattle.keeper_core.specs.Keeping.{IfTold};
 ghost use Rattle.http_desk.specs.Refusals.{refused_rest, refusal_text};
 ghost use Rattle.http_desk.specs.Scenes.{scene};
@@ -9,7 +9,7 @@ ghost use Rattle.http_desk.specs.Streams.{fault_end};
 use crate::answering::respond;
 use crate::refusal::Refused;
 use desk_base::{Both, Failed, NoMemory, Sink, Source, write_all};
-use http_cut::{BadRest, IntakeFault, PIECE, Routes, Step, Window, next_step};
+use http_cut::{BadRest, Intake, IntakeFault, Step};
 use keeper_core::Keeper;
 use machine_core::Machine;
 use std::alloc::Global;
@@ -37,7 +37,7 @@ pub enum Ended {
     NoMemory,
 }
 
-/// Answers the requests that a link has left, up to a limit, each before the next is read.
+/// Answers the requests that a link has left, up to a limit, in their order.
 pub fn serve_stream<M: Machine, K: Keeper, S: Source, W: Sink>(
     alloc: Global,
     machine: &mut M,
@@ -59,68 +59,75 @@ pub fn serve_stream<M: Machine, K: Keeper, S: Source, W: Sink>(
         → IsFaultless (W.takes link.old.sink) limit (scene link.old.source link.old.sink machine.old keeper.old)
         (scene link.new.source link.new.sink machine.new keeper.new) result }
 {
-    let routes = match Routes::new(alloc) {
-        Ok(routes) => routes,
-        Err(NoMemory) => return Ended::NoMemory,
-    };
-    match vec![in alloc; 0u8; PIECE] {
-        Ok(mut piece) => serve(
-            alloc,
-            &routes,
-            machine,
-            keeper,
-            &mut link.source,
-            &mut link.sink,
-            piece.as_mut_slice(),
-            limit,
-        ),
-        Err(_) => Ended::NoMemory,
+    match Intake::new(alloc) {
+        Ok(mut intake) => serve_link(alloc, &mut intake, machine, keeper, link, limit),
+        Err(NoMemory) => Ended::NoMemory,
     }
 }
 
-/// Answers the requests of a source in a sink, with the table of routes and room for what is read.
+/// The same, with an intake that serves the links of many streams, one after another.
+pub fn serve_link<M: Machine, K: Keeper, S: Source, W: Sink>(
+    alloc: Global,
+    intake: &mut Intake,
+    machine: &mut M,
+    keeper: &mut K,
+    link: &mut Both<S, W>,
+    limit: u32,
+) -> Ended
+    requires limit { 1 ≤ limit }
+    requires told { IfTold (K.tables keeper.old) (M.rows machine.old) }
+    ensures streams { let scene = scene S.left S.read_faults W.written W.write_faults M.rows K.tables K.faults in
+        Streams limit (scene link.old.source link.old.sink machine.old keeper.old)
+        (scene link.new.source link.new.sink machine.new keeper.new) result }
+    ensures complete { let scene = scene S.left S.read_faults W.written W.write_faults M.rows K.tables K.faults in
+        S.is_steady link.old.source → K.is_steady keeper.old
+        → IsFaultless (W.takes link.old.sink) limit (scene link.old.source link.old.sink machine.old keeper.old)
+        (scene link.new.source link.new.sink machine.new keeper.new) result }
+{
+    intake.clear();
+    serve(
+        alloc,
+        intake,
+        machine,
+        keeper,
+        &mut link.source,
+        &mut link.sink,
+        limit,
+    )
+}
+
+/// Answers the requests of a source in a sink, with an intake that holds no bytes.
 fn serve<M: Machine, K: Keeper, S: Source, W: Sink>(
     alloc: Global,
-    routes: &Routes,
+    intake: &mut Intake,
     machine: &mut M,
     keeper: &mut K,
     source: &mut S,
     sink: &mut W,
-    piece: &mut [u8],
     limit: u32,
 ) -> Ended
     requires limit { 1 ≤ limit }
-    requires piece { length piece.old ≡ 65536 }
+    requires empty { intake.old ≡ [] }
     requires told { IfTold (K.tables keeper.old) (M.rows machine.old) }
     ensures { let scene = scene S.left S.read_faults W.written W.write_faults M.rows K.tables K.faults in
         Serves (S.is_steady source.old) (W.takes sink.old) (K.is_steady keeper.old) limit
         (scene source.old sink.old machine.old keeper.old) (scene source.new sink.new machine.new keeper.new) result }
 {
-    let mut window = Window::new(alloc);
     let mut answered: u32 = 0;
     'requests: while answered < limit {
-        let step = match next_step(routes, &mut window, source, piece) {
+        let step = match intake.next_step(source) {
             Ok(step) => step,
             Err(fault) => return fault_end(fault),
         };
         let request = match step {
             Step::Whole(request) => request,
-            Step::NeedMore(_) => return end_of(window.bytes()),
+            Step::NeedMore(_) => return end_of(intake.bytes()),
             Step::Bad(kind, asks_head) => return refuse(sink, kind, asks_head),
         };
         answered += 1;
         let closing = answered == limit;
-        match respond(
-            alloc,
-            routes,
-            machine,
-            keeper,
-            sink,
-            window.bytes(),
-            &request,
-            closing,
-        ) {
-            Ok(()) => window.skip(request.body.end),
+        match respond(alloc, intake, machine, keeper, sink, &request, closing) {
+            Ok(()) => intake.skip(request.body.end),
             Err(Failed) => return Ended::WriteFault,
         }
     }

@@ -1,13 +1,13 @@
-use Rattle.std.proofs.Common.{◌≡◌, ◌+◌, ◌≤◌, ℕ, List, [], ◌++◌, length, take, Err, sym, ap, ◌∙◌, subst, arith, rules}
-use Rattle.std.proofs.Common.{append-nil, append_assoc, length-append}
+use Rattle.std.proofs.Common.{◌≡◌, ◌+◌, ◌<◌, ◌≤◌, ℕ, List, [], ◌++◌, length, take, Err, sym, ap, ◌∙◌, subst, arith}
+use Rattle.std.proofs.Common.{append-nil, append_assoc, length-append, rules}
 use Rattle.http_cut.specs.declared.step.Step.{Step}
 use Rattle.http_cut.specs.declared.intake.IntakeFault.TheVariants.{Failed, NoMemory}
-use Rattle.http_cut.specs.Cut.{IsOpen, BeginsRequest}
-use Rattle.http_cut.specs.Looks.{IsStep, StaysOpen}
+use Rattle.http_cut.specs.Cut.{IsOpen, BeginsRequest, IsBadRest}
+use Rattle.http_cut.specs.Looks.{IsStep, Awaits}
 use Rattle.http_cut.specs.Taking.{Takes, Loses, Fetches}
 use Rattle.http_cut.proofs.Cuts.{request_shorter}
-use Rattle.http_cut.proofs.Waiting.{open_few, open_now, stays_on, request_ends_in_last, Consumes-then, Consumes-none}
-use Rattle.http_cut.proofs.Waiting.{Consumes-kept}
+use Rattle.http_cut.proofs.Waiting.{open_few, open_now, awaits_on, bad_before, request_ends_in_last}
+use Rattle.http_cut.proofs.Waiting.{Consumes-then, Consumes-none, Consumes-kept}
 use Rattle.http_cut.proofs.intake.next_step.Goals as goal
 
 pub reads-init : goal.reads-init
@@ -18,6 +18,7 @@ reads-init g c =
       step = subst (λ (b : List ℕ). IsStep b c.first_step-step.result) c.bytes.ensures c.first_step-step.ensures;
       few = λ head body rest begins. let shorter = request_shorter window head body rest begins in
           omega (arith, c.requires.few);
+      bad = λ kind wrong. omega (arith, c.requires.few);
       later = omega arith;
       steady = λ steady. steady;
     }
@@ -29,10 +30,15 @@ step_after-step-requires g c =
     let read : List ℕ = take c.in_ok-count.count c.read.new.buf in
     let waits = subst (λ (s : Step). IsStep c.reads.window s) c.in-NeedMore.is c.reads.invariant.step in
     let now : c.bytes-in-reads.result.now ≡ c.reads.window ++ read = c.bytes-in-reads.ensures
-    ∙ c.in_ok-add.ensures.added in (
+    ∙ c.in_ok-add.ensures.added in
+    let within = c.in_ok-count.ensures.within in
+    let read_some = c.if-count-eq0.false in
+    let some : 0 < length read = omega arith in
+    let below : length (c.reads.window ++ read) < c.in-NeedMore.least =
+    subst (λ (b : List ℕ). length b < c.in-NeedMore.least) now short in (
       short,
-      subst (λ (b : List ℕ). StaysOpen b c.in-NeedMore.least) (sym now)
-          (stays_on c.reads.window read c.in-NeedMore.least waits.1),
+      subst (λ (b : List ℕ). Awaits b c.in-NeedMore.least) (sym now)
+          (awaits_on c.reads.window read c.in-NeedMore.least some below waits.1),
     )
 
 -- nothing is lost by a read that failed
@@ -99,6 +105,9 @@ reads-preserved g c =
           let less = request_ends_in_last window read head body rest awaits
           (subst (λ (b : List ℕ). BeginsRequest b head body rest) added begins) in
           omega (arith, size);
+      bad = λ kind wrong.
+          let before = bad_before window read kind awaits (subst (λ (b : List ℕ). IsBadRest b kind) added wrong) in
+          omega (arith, size, before, ap length added, length-append window read);
       later = omega (arith, c.reads.invariant.later, c.in_ok-count.ensures.cause.later);
       steady = λ steady. (c.in_ok-count.ensures.steady (c.reads.invariant.steady steady)).1;
     }

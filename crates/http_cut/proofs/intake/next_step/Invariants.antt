@@ -1,6 +1,9 @@
-use Rattle.std.proofs.Common.{◌≤◌, ◌<◌, ◌-◌, ℕ, List, length}
+use Rattle.std.proofs.Common.{◌≤◌, ◌<◌, ◌+◌, ◌-◌, ℕ, List, length}
+use Rattle.desk_base.specs.declared.limits.TheConstants.{MAX_HEAD, MAX_LONG_BODY}
 use Rattle.httparse.specs.Grammar.{RequestHead}
-use Rattle.http_cut.specs.Cut.{BeginsRequest}
+use Rattle.http_cut.specs.declared.intake.TheConstants.{PIECE}
+use Rattle.http_cut.specs.declared.step.BadRest.{BadRest}
+use Rattle.http_cut.specs.Cut.{BeginsRequest, IsBadRest}
 use Rattle.http_cut.specs.Looks.{IsStep}
 use Rattle.http_cut.specs.Taking.{Takes}
 use Rattle.http_cut.proofs.intake.next_step.Given as goal
@@ -9,10 +12,11 @@ abbrev pub invariant-reads : goal.invariant-reads
 invariant-reads g l = record {
   takes : Takes (g.S.Source.left l.fn.source) (g.S.Source.left l.source) l.fn.window l.window;
   step : IsStep l.window l.step;
-  few : (head : RequestHead) (body rest : List ℕ) → BeginsRequest l.window head body rest → length rest < 65536;
+  few : (head : RequestHead) (body rest : List ℕ) → BeginsRequest l.window head body rest → length rest < PIECE;
+  bad : (kind : BadRest) → IsBadRest l.window kind → length l.window < MAX_HEAD + PIECE;
   later : g.S.Source.read_faults l.fn.source ≤ g.S.Source.read_faults l.source;
   steady : g.S.Source.is_steady l.fn.source → g.S.Source.is_steady l.source;
 }
 
 abbrev pub decreases-reads : goal.decreases-reads
-decreases-reads g l = 4210688 - length l.window
+decreases-reads g l = MAX_HEAD + MAX_LONG_BODY - length l.window

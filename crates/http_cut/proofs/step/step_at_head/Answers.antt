@@ -1,9 +1,9 @@
-use Rattle.std.proofs.Common.{◌≡◌, ℕ, ◌+◌, List, Bool, sym, ap, ◌∙◌, subst, arith}
+use Rattle.std.proofs.Common.{◌≡◌, ℕ, ◌+◌, List, Bool, sym, ap, ◌∙◌, subst, arith, inr}
 use Rattle.std.specs.Prelude.{◌↔◌, IsTrue, codes}
 use Rattle.http_cut.specs.Cut.{SaysLength}
 use Rattle.http_cut.specs.Routes.{body_limit}
 use Rattle.http_cut.proofs.Heads.{stands_asks}
-use Rattle.http_cut.proofs.Waiting.{head_announces, head_is_good, head_says, stays_for_body, request_stands}
+use Rattle.http_cut.proofs.Waiting.{head_announces, head_is_good, head_says, request_stands}
 use Rattle.http_cut.proofs.step.step_at_head.Goals as goal
 
 pub returns-then-parts : goal.returns-then-parts
@@ -44,8 +44,7 @@ returns-then-bytes-end c =
     ∙ ap body_limit (c.of-2.ensures ∙ shows.target) in
     let fits = c.if-count-body_limit.false in (
       c.if-bytes-end.true,
-      stays_for_body bytes head count _ announces (omega (arith, limit))
-          (ap (λ (n : ℕ). n + count) shows.len),
+      inr (head, count, announces, omega (arith, limit), ap (λ (n : ℕ). n + count) shows.head_length),
     )
 
 pub returns : goal.returns
@@ -68,9 +67,8 @@ returns c =
         target = shows.target;
         body_fits = (omega arith, omega arith);
         has_length = subst (λ (v : Bool). IsTrue v ↔ SaysLength head) (sym c.is_some.ensures)
-            (head_says head parts.length shows.length);
+            (head_says head parts.body_length shows.body_length);
       },
-      request_stands bytes head parts.length parts.len count shows.stands shows.len shows.length
-          (sym c.unwrap_or-count.ensures)
-          announces.whole (omega (arith, limit)) (omega arith),
+      request_stands bytes head parts.body_length parts.head_length count shows.stands shows.head_length
+          shows.body_length (sym c.unwrap_or-count.ensures) announces.whole (omega (arith, limit)) (omega arith),
     )

@@ -19,25 +19,25 @@ requests-init g c =
     g.K.Keeper.tables g.K.Keeper.faults in
     let old : Scene = at c.args.source.now c.args.sink.now c.args.machine.now c.args.keeper.now in
     record {
-      serving = rw c.new-window.ensures (Serving-none (g.K.Keeper.is_steady c.args.keeper.now)
+      serving = rw c.requires.empty (Serving-none (g.K.Keeper.is_steady c.args.keeper.now)
           (g.W.Sink.takes c.args.sink.now) c.args.limit old c.requires.told);
       reads = λ is. is;
       keeps = λ is. is;
       within = omega arith;
-      few = rw c.new-window.ensures (omega arith);
+      few = rw c.requires.empty (omega arith);
     }
 
 -- the spans of the request that stands are those of its head
 pub respond-requires-clause-shows : goal.respond-requires-clause-shows
 respond-requires-clause-shows g c =
-    let window : List ℕ = c.next_step.new.window in
+    let window : List ℕ = c.next_step.new.self in
     let stands = subst (λ (s : Step). IsStep window s) c.in-Whole.is c.in-Ok.ensures.fetched.1 in
-    rw c.bytes-in-requests.ensures (stands.0, stands.1)
+    (stands.0, stands.1)
 
 -- the request stands in the window
 pub skip-requires : goal.skip-requires
 skip-requires g c =
-    let window : List ℕ = c.next_step.new.window in
+    let window : List ℕ = c.next_step.new.self in
     let stands = subst (λ (s : Step). IsStep window s) c.in-Whole.is c.in-Ok.ensures.fetched.1 in
     stands.1.body_fits.1
 
@@ -53,9 +53,9 @@ requests-preserved g c =
     let took : ℕ → Type 0 = g.W.Sink.takes c.args.sink.now in
     let taking : ℕ → Type 0 = g.W.Sink.takes c.requests.sink in
     let read : Scene = at c.next_step.new.source c.requests.sink c.requests.machine c.requests.keeper in
-    let window : List ℕ = c.next_step.new.window in
+    let window : List ℕ = c.next_step.new.self in
     let fetched = c.in-Ok.ensures.fetched in
-    let serving = Serving-takes keeps took taking c.args.limit old mid read c.requests.answered c.requests.window window
+    let serving = Serving-takes keeps took taking c.args.limit old mid read c.requests.answered c.requests.intake window
     c.requests.invariant.serving fetched.0 c.next_step.ensures.later refl refl refl refl refl in
     let stands = subst (λ (s : Step). IsStep window s) c.in-Whole.is c.in-Ok.ensures.fetched.1 in
     let now : Scene = at c.next_step.new.source c.respond.new.sink c.respond.new.machine c.respond.new.keeper in
@@ -63,10 +63,10 @@ requests-preserved g c =
     let behind : List ℕ = drop c.in-Whole.request.body.end window in
     let keeping : Type 0 = g.K.Keeper.is_steady c.requests.keeper in
     let taken : ℕ → Type 0 = g.W.Sink.takes c.respond.new.sink in
-    let answered = rw c.bytes-in-requests.ensures at c.in-Ok-respond.ensures.responds in
     let responds : Responds keeping taking taken mid.tables ((c.requests.answered + 1) == c.args.limit) request
     now.tables
-    mid.faults now.faults mid.written now.written (Ok c.in-Ok-respond.field-0) = answered stands.0 stands.1 in
+    mid.faults now.faults mid.written now.written (Ok c.in-Ok-respond.field-0) =
+    c.in-Ok-respond.ensures.responds stands.0 stands.1 in
     record {
       serving = rw c.skip.ensures (Serving-answers keeps keeping took taking taken c.args.limit old read now
           c.requests.answered window request behind responds.text serving stands.2 responds.answered
@@ -92,9 +92,9 @@ returns-in-Err-respond g c =
     let took : ℕ → Type 0 = g.W.Sink.takes c.args.sink.now in
     let taking : ℕ → Type 0 = g.W.Sink.takes c.requests.sink in
     let read : Scene = at c.next_step.new.source c.requests.sink c.requests.machine c.requests.keeper in
-    let window : List ℕ = c.next_step.new.window in
+    let window : List ℕ = c.next_step.new.self in
     let fetched = c.in-Ok.ensures.fetched in
-    let serving = Serving-takes keeps took taking c.args.limit old mid read c.requests.answered c.requests.window window
+    let serving = Serving-takes keeps took taking c.args.limit old mid read c.requests.answered c.requests.intake window
     c.requests.invariant.serving fetched.0 c.next_step.ensures.later refl refl refl refl refl in
     let stands = subst (λ (s : Step). IsStep window s) c.in-Whole.is c.in-Ok.ensures.fetched.1 in
     let now : Scene = at c.next_step.new.source c.respond.new.sink c.respond.new.machine c.respond.new.keeper in
@@ -102,10 +102,10 @@ returns-in-Err-respond g c =
     let behind : List ℕ = drop c.in-Whole.request.body.end window in
     let keeping : Type 0 = g.K.Keeper.is_steady c.requests.keeper in
     let taken : ℕ → Type 0 = g.W.Sink.takes c.respond.new.sink in
-    let answered = rw c.bytes-in-requests.ensures at c.in-Err-respond.ensures.responds in
     let responds : Responds keeping taking taken mid.tables ((c.requests.answered + 1) == c.args.limit) request
     now.tables
-    mid.faults now.faults mid.written now.written (Err c.in-Err-respond.field-0) = answered stands.0 stands.1 in
+    mid.faults now.faults mid.written now.written (Err c.in-Err-respond.field-0) =
+    c.in-Err-respond.ensures.responds stands.0 stands.1 in
     ends_write_fault reads took taking keeps keeping c.args.limit old read now c.requests.answered window request
     behind responds.text serving c.requests-test.true stands.2 responds.answered c.respond.ensures.told refl
     responds.part
@@ -123,11 +123,11 @@ returns-in-Err g c =
     let took : ℕ → Type 0 = g.W.Sink.takes c.args.sink.now in
     let taking : ℕ → Type 0 = g.W.Sink.takes c.requests.sink in
     let read : Scene = at c.next_step.new.source c.requests.sink c.requests.machine c.requests.keeper in
-    let window : List ℕ = c.next_step.new.window in
+    let window : List ℕ = c.next_step.new.self in
     let later : Later mid read =
     record { read_faults = c.next_step.ensures.later; write_faults = omega arith; faults = omega arith } in
     rw c.fault_end.ensures (ends_intake reads took taking keeps c.args.limit old mid read c.requests.answered
-    c.requests.window window c.in-Err.fault c.requests.invariant.serving c.requests-test.true c.in-Err.ensures.fetched
+    c.requests.intake window c.in-Err.fault c.requests.invariant.serving c.requests-test.true c.in-Err.ensures.fetched
     (λ same. c.in-Err.ensures.cause (ap (λ (f : IntakeFault). Err f) same))
     (λ is same. (c.in-Err.ensures.steady (c.requests.invariant.reads is)).0 (ap (λ (f : IntakeFault). Err f) same))
     later refl refl refl refl refl)
@@ -144,9 +144,9 @@ returns-in-NeedMore g c =
     let took : ℕ → Type 0 = g.W.Sink.takes c.args.sink.now in
     let taking : ℕ → Type 0 = g.W.Sink.takes c.requests.sink in
     let read : Scene = at c.next_step.new.source c.requests.sink c.requests.machine c.requests.keeper in
-    let window : List ℕ = c.next_step.new.window in
+    let window : List ℕ = c.next_step.new.self in
     let fetched = c.in-Ok.ensures.fetched in
-    let serving = Serving-takes keeps took taking c.args.limit old mid read c.requests.answered c.requests.window window
+    let serving = Serving-takes keeps took taking c.args.limit old mid read c.requests.answered c.requests.intake window
     c.requests.invariant.serving fetched.0 c.next_step.ensures.later refl refl refl refl refl in
     let waits = subst (λ (s : Step). IsStep window s) c.in-NeedMore.is fetched.1 in
     ends_source reads took taking keeps c.args.limit old read c.requests.answered window c.end_of.result serving
@@ -166,15 +166,16 @@ returns-in-Bad g c =
     let took : ℕ → Type 0 = g.W.Sink.takes c.args.sink.now in
     let taking : ℕ → Type 0 = g.W.Sink.takes c.requests.sink in
     let read : Scene = at c.next_step.new.source c.requests.sink c.requests.machine c.requests.keeper in
-    let window : List ℕ = c.next_step.new.window in
+    let window : List ℕ = c.next_step.new.self in
     let fetched = c.in-Ok.ensures.fetched in
-    let serving = Serving-takes keeps took taking c.args.limit old mid read c.requests.answered c.requests.window window
+    let serving = Serving-takes keeps took taking c.args.limit old mid read c.requests.answered c.requests.intake window
     c.requests.invariant.serving fetched.0 c.next_step.ensures.later refl refl refl refl refl in
     let wrong = subst (λ (s : Step). IsStep window s) c.in-Bad.is fetched.1 in
     let now : Scene = at c.next_step.new.source c.refuse.new.sink c.requests.machine c.requests.keeper in
     ends_refused reads took taking keeps c.args.limit old read now c.requests.answered window c.in-Bad.kind
-    c.in-Bad.asks_head c.refuse.result serving c.requests-test.true wrong.0 wrong.1 c.refuse.ensures refl refl refl refl
-    refl
+    c.in-Bad.asks_head c.refuse.result serving c.requests-test.true
+    (c.in-Ok.ensures.behind_bad c.in-Bad.kind c.in-Bad.asks_head (ap (λ (s : Step). Ok s) c.in-Bad.is)) wrong.0 wrong.1
+    c.refuse.ensures refl refl refl refl refl
 
 -- as many requests were answered as may be
 pub returns : goal.returns
@@ -187,5 +188,5 @@ returns g c =
     let keeps : Type 0 = g.K.Keeper.is_steady c.args.keeper.now in
     let took : ℕ → Type 0 = g.W.Sink.takes c.args.sink.now in
     let taking : ℕ → Type 0 = g.W.Sink.takes c.requests.sink in
-    ends_limit reads took taking keeps c.args.limit old mid c.requests.answered c.requests.window
+    ends_limit reads took taking keeps c.args.limit old mid c.requests.answered c.requests.intake
     c.requests.invariant.serving (omega arith) c.requests.invariant.few

@@ -1,4 +1,5 @@
 use Rattle.std.proofs.Common.{◌-◌, ◌<◌, ◌≤◌, length}
+use Rattle.http_cut.specs.declared.intake.TheConstants.{PIECE}
 use Rattle.http_desk.specs.Scenes.{scene}
 use Rattle.http_desk.proofs.Underway.{Serving}
 use Rattle.http_desk.proofs.serving.serve.Given as goal
@@ -10,11 +11,11 @@ invariant-requests g l =
     record {
       serving : Serving (g.K.Keeper.is_steady l.fn.keeper) (g.W.Sink.takes l.fn.sink) (g.W.Sink.takes l.sink) l.limit
           (at l.fn.source l.fn.sink l.fn.machine l.fn.keeper) (at l.source l.sink l.machine l.keeper) l.answered
-          l.window;
+          l.intake;
       reads : g.S.Source.is_steady l.fn.source → g.S.Source.is_steady l.source;
       keeps : g.K.Keeper.is_steady l.fn.keeper → g.K.Keeper.is_steady l.keeper;
       within : l.answered ≤ l.limit;
-      few : length l.window < 65536;
+      few : length l.intake < PIECE;
     }
 
 abbrev pub decreases-requests : goal.decreases-requests

@@ -4,7 +4,7 @@ use Rattle.http_desk.specs.Scenes.{Scene, scene}
 use Rattle.http_desk.proofs.Ends.{ends_at_once, faultless}
 use Rattle.http_desk.proofs.serving.serve_stream.Goals as goal
 
--- there was no memory for the routes
+-- there was no memory for the intake
 pub returns-in-Err-clause-streams : goal.returns-in-Err-clause-streams
 returns-in-Err-clause-streams g c =
     let at = scene g.S.Source.left g.S.Source.read_faults g.W.Sink.written g.W.Sink.write_faults g.M.Machine.rows
@@ -25,37 +25,3 @@ returns-in-Err-clause-complete g c =
     let takes : ℕ → Type 0 = g.W.Sink.takes c.args.link.now.sink in
     faultless reads takes keeps c.args.limit old old NoMemory
     (ends_at_once reads takes keeps c.args.limit old c.requires.limit c.requires.told)
-
--- there was none for what is read
-pub returns-clause-streams : goal.returns-clause-streams
-returns-clause-streams g c =
-    let at = scene g.S.Source.left g.S.Source.read_faults g.W.Sink.written g.W.Sink.write_faults g.M.Machine.rows
-    g.K.Keeper.tables g.K.Keeper.faults in
-    let old : Scene = at c.args.link.now.source c.args.link.now.sink c.args.machine.now c.args.keeper.now in
-    let reads : Type 0 = g.S.Source.is_steady c.args.link.now.source in
-    let keeps : Type 0 = g.K.Keeper.is_steady c.args.keeper.now in
-    let takes : ℕ → Type 0 = g.W.Sink.takes c.args.link.now.sink in
-    (ends_at_once reads takes keeps c.args.limit old c.requires.limit c.requires.told).streams
-
-pub returns-clause-complete : goal.returns-clause-complete
-returns-clause-complete g c =
-    let at = scene g.S.Source.left g.S.Source.read_faults g.W.Sink.written g.W.Sink.write_faults g.M.Machine.rows
-    g.K.Keeper.tables g.K.Keeper.faults in
-    let old : Scene = at c.args.link.now.source c.args.link.now.sink c.args.machine.now c.args.keeper.now in
-    let reads : Type 0 = g.S.Source.is_steady c.args.link.now.source in
-    let keeps : Type 0 = g.K.Keeper.is_steady c.args.keeper.now in
-    let takes : ℕ → Type 0 = g.W.Sink.takes c.args.link.now.sink in
-    faultless reads takes keeps c.args.limit old old NoMemory
-    (ends_at_once reads takes keeps c.args.limit old c.requires.limit c.requires.told)
-
--- the stream was served
-pub returns-in-Ok-vec-clause-complete : goal.returns-in-Ok-vec-clause-complete
-returns-in-Ok-vec-clause-complete g c =
-    let at = scene g.S.Source.left g.S.Source.read_faults g.W.Sink.written g.W.Sink.write_faults g.M.Machine.rows
-    g.K.Keeper.tables g.K.Keeper.faults in
-    let old : Scene = at c.args.link.now.source c.args.link.now.sink c.args.machine.now c.args.keeper.now in
-    let new : Scene = at c.serve.new.source c.serve.new.sink c.serve.new.machine c.serve.new.keeper in
-    let reads : Type 0 = g.S.Source.is_steady c.args.link.now.source in
-    let keeps : Type 0 = g.K.Keeper.is_steady c.args.keeper.now in
-    let takes : ℕ → Type 0 = g.W.Sink.takes c.args.link.now.sink in
-    faultless reads takes keeps c.args.limit old new c.serve.result c.serve.ensures
