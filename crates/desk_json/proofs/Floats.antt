@@ -4,6 +4,7 @@ use Rattle.std.specs.Prelude.{Option, Some, None, slice_get}
 use Rattle.serde_json.specs.Data.{Data, string}
 use Rattle.serde_json.specs.View.{items_of}
 use Rattle.serde_json.specs.Written.{has_float, items_have_float}
+use Rattle.json_parts.proofs.Floats.{items_have_float-map}
 use Rattle.desk_words.specs.declared.made.Made.{Made}
 use Rattle.desk_words.specs.declared.made.Made.TheVariants as mades
 use Rattle.desk_words.specs.declared.refusal.Refusal.{Refusal}
@@ -19,58 +20,14 @@ use Rattle.desk_words.specs.declared.view.Shown.{Shown}
 use Rattle.desk_words.specs.declared.view.Shown.TheVariants as shown
 use Rattle.desk_words.specs.declared.view.View.{View}
 use Rattle.desk_words.specs.declared.view.ViewCell.{ViewCell}
-use Rattle.fix_model.specs.declared.kit.Kit.{Kit}
-use Rattle.fix_model.specs.declared.state.Cell.{Cell}
-use Rattle.fix_model.specs.declared.state.Cell.TheVariants.{Uncovered, Confirmed, Fixed}
-use Rattle.fix_model.specs.declared.state.State.{State}
-use Rattle.fix_model.specs.declared.state.Step.{Step}
 use Rattle.desk_json.specs.Carried.{carried_shown, change_shown, found_shown}
-use Rattle.desk_json.specs.Case.Answer as case
 use Rattle.desk_json.specs.Faults.{fault_shown}
 use Rattle.desk_json.specs.Refusals.{refusal_shown}
 use Rattle.desk_json.specs.Replies.{batched_shown, committed_shown, explained_shown, gain_shown, made_shown}
 use Rattle.desk_json.specs.Replies.{offer_shown, reply_shown, suggested_shown}
-use Rattle.desk_json.specs.Shapes.{list_of}
 use Rattle.desk_json.specs.Viewed.{cell_shown, outcome_shown, step_shown, view_cell_shown, view_shown}
 use Rattle.desk_json.specs.declared.fault.JsonFault.{JsonFault}
 use Rattle.desk_json.specs.declared.fault.JsonFault.TheVariants as faults
-
--- no item that is made has a float, where none is made with one
-items_have_float-map : {A : Type 0} (shown : A → Data) → ((x : A) → has_float (shown x) ≡ false) → (xs : List A)
-    → items_have_float (items_of (map shown xs)) ≡ false
-items_have_float-map shown none [] = refl
-items_have_float-map shown none (x ∷ xs) = rw (none x) (items_have_float-map shown none xs)
-
--- a cell of a case has no float
-has_float-cell : (cell : Cell) (name text : List ℕ) → has_float (case.cell_shown cell name text) ≡ false
-has_float-cell Uncovered name text = refl
-has_float-cell Confirmed name text = refl
-has_float-cell (Fixed step) name text = refl
-
--- nor has a run
-has_float-run : (run : List Step) → has_float (case.run_shown run) ≡ false
-has_float-run = items_have_float-map case.step_shown (λ step. refl)
-
--- nor have the cells of a state
-has_float-cells : (attributes : List (List ℕ)) (kit : Kit) (end : State)
-    → has_float (list_of (case.cells_shown attributes kit end)) ≡ false
-has_float-cells attributes kit end =
-    items_have_float-map (case.attribute_shown attributes kit end) (λ attribute. has_float-cell _ _ _) _
-
--- a fix has no float
-pub has_float-fix_shown : (attributes : List (List ℕ)) (kit : Kit) (end : State) (certain : Bool)
-    (dissent : Option Step) (first : List Step)
-    → has_float (case.fix_shown (list_of (case.cells_shown attributes kit end)) certain (case.dissent_shown dissent)
-    (case.run_shown first)) ≡ false
-has_float-fix_shown attributes kit end certain None first =
-    rw (has_float-cells attributes kit end, has_float-run first) refl
-has_float-fix_shown attributes kit end certain (Some step) first =
-    rw (has_float-cells attributes kit end, has_float-run first) refl
-
--- nor has a conflict
-pub has_float-conflict_shown : (first second : List Step)
-    → has_float (case.conflict_shown (case.run_shown first) (case.run_shown second)) ≡ false
-has_float-conflict_shown first second = rw (has_float-run first, has_float-run second) refl
 
 -- a cell of a session has no float
 has_float-cell_shown : (name value : List ℕ) (how : Shown) → has_float (cell_shown name value how) ≡ false

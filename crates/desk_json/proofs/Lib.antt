@@ -1,5 +1,1 @@
 pub mod Floats
-pub mod Keys
-pub mod Reading
-pub mod Showing
-pub mod Values

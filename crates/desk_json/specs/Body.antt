@@ -4,7 +4,8 @@ use Rattle.serde_json.specs.Data.{Data, Members}
 use Rattle.serde_json.specs.Find.{as_object, get}
 use Rattle.desk_base.specs.Places.{has_text}
 use Rattle.desk_json.specs.Checked.{Checked, ◌>>=◌, some_or}
-use Rattle.desk_json.specs.Parts.{json_of, keys_of}
+use Rattle.json_parts.specs.Parts.{json_of, keys_of}
+use Rattle.desk_json.specs.declared.forms.InBody.{InBody}
 use Rattle.desk_json.specs.declared.fault.JsonFault.TheVariants.{NotJson, Missing, WrongKind, Unknown}
 
 -- the first key in byte order that is none of these
@@ -29,10 +30,15 @@ at_key key form fields = do
   value ← some_or (Missing key) (get key fields)
   some_or (WrongKind key) (form value)
 
--- what stands at a key that may be left out
+-- what is read of what was found at a key that may be left out
 abbrev pub found_or : {A : Type 0} → List ℕ → (Data → Option A) → A → Option Data → Checked A
 found_or key form absent None = Ok absent
 found_or key form absent (Some value) = some_or (WrongKind key) (form value)
 
+-- what stands at a key, or this where the key is left out
 abbrev pub at_key_or : {A : Type 0} → List ℕ → (Data → Option A) → A → Data → Checked A
 at_key_or key form absent fields = found_or key form absent (get key fields)
+
+-- the context in which the parts of a body are read, which says nothing
+abbrev pub in_body : InBody
+in_body = record {}

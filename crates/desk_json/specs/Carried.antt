@@ -6,7 +6,7 @@ use Rattle.desk_words.specs.declared.view.Outcome.{Outcome}
 use Rattle.desk_words.specs.declared.view.Outcome.TheVariants.{Fix, Conflict}
 use Rattle.desk_words.specs.declared.view.View.{View}
 use Rattle.desk_words.specs.declared.view.ViewCell.{ViewCell}
-use Rattle.desk_json.specs.Shapes.{list_of, object_of, whole}
+use Rattle.json_parts.specs.Shapes.{list_of, object_of, whole}
 use Rattle.desk_json.specs.Viewed.{view_cell_shown}
 
 -- what the session's answer is

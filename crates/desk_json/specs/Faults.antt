@@ -2,7 +2,7 @@
 use Rattle.std.specs.Prelude.{ℕ, List, [], ◌∷◌, codes}
 use Rattle.serde_json.specs.Data.{Data, string}
 use Rattle.desk_json.specs.Refusals.{error}
-use Rattle.desk_json.specs.Shapes.{object_of}
+use Rattle.json_parts.specs.Shapes.{object_of}
 use Rattle.desk_json.specs.declared.fault.JsonFault.{JsonFault}
 use Rattle.desk_json.specs.declared.fault.JsonFault.TheVariants.{NotJson, Missing, WrongKind, Unknown, NoMemory}
 

@@ -5,7 +5,7 @@ use Rattle.serde_json.specs.Data.{Data, Members, no_members, member}
 use Rattle.serde_json.specs.Find.{as_object, as_str}
 use Rattle.desk_words.specs.declared.clerk_work.Accept.{Accept}
 use Rattle.desk_words.specs.declared.clerk_work.Accept.TheVariants.{Certain, Partial}
-use Rattle.desk_json.specs.Parts.{◌>>=◌, items_in, list_in, number_in}
+use Rattle.json_parts.specs.Parts.{◌>>=◌, items_in, list_in, number_in}
 
 -- a list of strings
 abbrev pub strings_in : Data → Option (List (List ℕ))
@@ -23,6 +23,7 @@ string_pair_of (first ∷ second ∷ []) = do
   Some (one, other)
 string_pair_of items = None
 
+-- a value that is an array of two strings
 abbrev pub string_pair_in : Data → Option (List ℕ × List ℕ)
 string_pair_in value = do
   items ← items_in value
@@ -44,6 +45,7 @@ version_of (name ∷ count ∷ []) = do
   Some (text, version)
 version_of items = None
 
+-- a value that is an array of a name and a number
 abbrev pub version_in : Data → Option (List ℕ × ℕ)
 version_in value = do
   items ← items_in value
@@ -57,6 +59,7 @@ cells_of (member key value others) = do
   cells ← cells_of others
   Some ((key, text) ∷ cells)
 
+-- a value that is an object of strings
 abbrev pub cells_in : Data → Option (List (List ℕ × List ℕ))
 cells_in value = do
   members ← as_object value
@@ -69,6 +72,7 @@ accept_of word =
     else if bytes_eq word (codes "partial") then Some Partial
     else None
 
+-- a string that is one of these two words
 abbrev pub accept_in : Data → Option Accept
 accept_in value = do
   word ← as_str value

@@ -1,6 +1,4 @@
-pub mod Parts
 pub mod Forms
-pub mod Shapes
 pub mod Checked
 pub mod Body
 pub mod Bodies
@@ -11,4 +9,3 @@ pub mod Carried
 pub mod Replies
 pub mod Refusals
 pub mod Faults
-pub mod Case

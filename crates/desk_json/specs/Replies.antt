@@ -10,7 +10,7 @@ use Rattle.desk_words.specs.declared.reply.Reply.TheVariants as replies
 use Rattle.desk_words.specs.declared.reply.Suggested.{Suggested}
 use Rattle.desk_json.specs.Carried.{carried_shown}
 use Rattle.desk_json.specs.Refusals.{refusal_shown}
-use Rattle.desk_json.specs.Shapes.{list_of, object_of, whole}
+use Rattle.json_parts.specs.Shapes.{list_of, object_of, whole}
 use Rattle.desk_json.specs.Viewed.{run_shown, view_shown}
 
 -- what was made, with its name

@@ -7,7 +7,7 @@ use Rattle.desk_words.specs.declared.view.Shown.{Shown}
 use Rattle.desk_words.specs.declared.view.Shown.TheVariants.{Uncovered, Confirmed, Fixed}
 use Rattle.desk_words.specs.declared.view.View.{View}
 use Rattle.desk_words.specs.declared.view.ViewCell.{ViewCell}
-use Rattle.desk_json.specs.Shapes.{list_of, object_of, whole}
+use Rattle.json_parts.specs.Shapes.{list_of, object_of, whole}
 use Rattle.desk_json.specs.Words.{stage_word}
 
 -- a step: `[rule,row]`, by the name of the rule
@@ -30,6 +30,7 @@ cell_shown name value Confirmed = list_of (string name ∷ string value ∷ stri
 cell_shown name value (Fixed rule master row) = list_of (
     string name ∷ string value ∷ string (codes "fixed") ∷ string rule ∷ string master ∷ whole row ∷ [])
 
+-- a cell of a session
 abbrev pub view_cell_shown : ViewCell → Data
 view_cell_shown cell = cell_shown cell.name cell.value cell.shown
 

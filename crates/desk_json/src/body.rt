@@ -2,12 +2,13 @@
 ghost use Rattle.std.specs.Prelude.{◌≡◌, ◌≢◌, map, option_map, Ok, Err, IfOk, IfErr};
 ghost use Rattle.serde_json.specs.View.{view, members_view};
 ghost use Rattle.desk_base.specs.Places.{has_text};
-ghost use Rattle.desk_json.specs.Body.{at_key, at_key_or, first_unknown, object_in};
+ghost use Rattle.desk_json.specs.Body.{at_key, at_key_or, first_unknown, in_body, object_in};
 ghost use Rattle.desk_json.specs.Checked.{some_or};
 
-use crate::fault::{JsonFault, PartFault};
-use crate::parts::{Part, json_of};
+use crate::fault::JsonFault;
+use crate::forms::InBody;
 use desk_base::Str;
+use json_parts::{Part, PartFault, json_of};
 use serde_json::{Map, Value};
 use std::alloc::Global;
 
@@ -54,10 +55,10 @@ fn is_listed(keys: &[&str], key: &str) -> bool
 }
 
 /// What stands at a key.
-pub fn at_key<T: Part<()>>(alloc: Global, key: &str, object: &Value) -> Result<T, JsonFault>
-    ensures part { IfOk result (λ part. at_key key.now (T.part_in tt) (view object.now) ≡ Ok part) }
+pub fn at_key<T: Part<InBody>>(alloc: Global, key: &str, object: &Value) -> Result<T, JsonFault>
+    ensures part { IfOk result (λ part. at_key key.now (T.part_in in_body) (view object.now) ≡ Ok part) }
     ensures fault { IfErr result (λ fault. fault ≢ JsonFault.NoMemory
-        → at_key key.now (T.part_in tt) (view object.now) ≡ Err fault) }
+        → at_key key.now (T.part_in in_body) (view object.now) ≡ Err fault) }
 {
     match object.get(key) {
         Some(value) => read_at(alloc, key, value),
@@ -66,15 +67,15 @@ pub fn at_key<T: Part<()>>(alloc: Global, key: &str, object: &Value) -> Result<T
 }
 
 /// What stands at a key, or this where the key is left out.
-pub fn at_key_or<T: Part<()> + Drop>(
+pub fn at_key_or<T: Part<InBody> + Drop>(
     alloc: Global,
     key: &str,
     absent: T,
     object: &Value,
 ) -> Result<T, JsonFault>
-    ensures part { IfOk result (λ part. at_key_or key.now (T.part_in tt) absent (view object.now) ≡ Ok part) }
+    ensures part { IfOk result (λ part. at_key_or key.now (T.part_in in_body) absent (view object.now) ≡ Ok part) }
     ensures fault { IfErr result (λ fault. fault ≢ JsonFault.NoMemory
-        → at_key_or key.now (T.part_in tt) absent (view object.now) ≡ Err fault) }
+        → at_key_or key.now (T.part_in in_body) absent (view object.now) ≡ Err fault) }
 {
     match object.get(key) {
         Some(value) => read_at(alloc, key, value),
@@ -83,13 +84,13 @@ pub fn at_key_or<T: Part<()> + Drop>(
 }
 
 /// What the value at a key is read as.
-fn read_at<T: Part<()>>(alloc: Global, key: &str, value: &Value) -> Result<T, JsonFault>
+fn read_at<T: Part<InBody>>(alloc: Global, key: &str, value: &Value) -> Result<T, JsonFault>
     ensures part { IfOk result (λ part.
-        some_or (JsonFault.WrongKind key.now) (T.part_in tt (view value.now)) ≡ Ok part) }
+        some_or (JsonFault.WrongKind key.now) (T.part_in in_body (view value.now)) ≡ Ok part) }
     ensures fault { IfErr result (λ fault. fault ≢ JsonFault.NoMemory
-        → some_or (JsonFault.WrongKind key.now) (T.part_in tt (view value.now)) ≡ Err fault) }
+        → some_or (JsonFault.WrongKind key.now) (T.part_in in_body (view value.now)) ≡ Err fault) }
 {
-    match T::read(alloc, &(), value) {
+    match T::read(alloc, &InBody, value) {
         Ok(part) => Ok(part),
         Err(PartFault::WrongForm) => Err(JsonFault::WrongKind(Str::new(alloc, key)?)),
         Err(PartFault::NoMemory) => Err(JsonFault::NoMemory),

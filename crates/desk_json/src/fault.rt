@@ -1,7 +1,6 @@
-//! Why a body, or a part of one, is not read.
+//! Why a body is not read.
 ghost use Rattle.std.specs.Prelude.{◌≡◌};
-ghost use Rattle.desk_json.specs.declared.fault.JsonFault.TheVariants as json_faults;
-ghost use Rattle.desk_json.specs.declared.fault.PartFault.TheVariants as part_faults;
+ghost use Rattle.desk_json.specs.declared.fault.JsonFault.TheVariants as faults;
 
 use desk_base::{NoMemory, Str};
 use thiserror::Error;
@@ -27,28 +26,9 @@ pub enum JsonFault {
 }
 
 impl From<NoMemory> for JsonFault {
-    ghost from_gives = { λ _ fault. fault ≡ json_faults.NoMemory };
+    ghost from_gives = { λ _ fault. fault ≡ faults.NoMemory };
 
     fn from(_want: NoMemory) -> JsonFault {
         JsonFault::NoMemory
-    }
-}
-
-/// Why a value is not read as a part of a case or of a body.
-#[derive(Clone, Copy, Debug, PartialEq, Eq, Error)]
-pub enum PartFault {
-    /// The value has not the form of the part.
-    #[error("the value has not the form that is wanted")]
-    WrongForm,
-    /// There was no memory.
-    #[error("there was no memory")]
-    NoMemory,
-}
-
-impl From<NoMemory> for PartFault {
-    ghost from_gives = { λ _ fault. fault ≡ part_faults.NoMemory };
-
-    fn from(_want: NoMemory) -> PartFault {
-        PartFault::NoMemory
     }
 }

@@ -5,19 +5,22 @@ ghost use Rattle.serde_json.specs.View.{view, members_view};
 ghost use Rattle.desk_json.specs.Forms.{accept_in, accept_of, cells_in, cells_of, count_in};
 ghost use Rattle.desk_json.specs.Forms.{string_pair_in, string_pair_of, version_in, version_of};
 
-use crate::fault::PartFault;
-use crate::parts::{Part, items, number};
 use desk_base::{List, Str};
 use desk_words::Accept;
+use json_parts::{Part, PartFault, items, number};
 use serde_json::{Map, Value};
 use std::alloc::Global;
 use std::marker::Model;
 
+/// The context in which the parts of a body are read: it says nothing of them.
+#[derive(Clone, Copy, Debug)]
+pub struct InBody;
+
 /// A string of any length.
-impl<C> Part<C> for Str {
+impl Part<InBody> for Str {
     ghost part_in = { λ _. as_str };
 
-    fn read(alloc: Global, _context: &C, value: &Value) -> Result<Str, PartFault> {
+    fn read(alloc: Global, _context: &InBody, value: &Value) -> Result<Str, PartFault> {
         match value.as_str() {
             Some(text) => Ok(Str::new(alloc, text)?),
             None => Err(PartFault::WrongForm),
@@ -26,10 +29,10 @@ impl<C> Part<C> for Str {
 }
 
 /// A version of something published: its name and the number of the version.
-impl<C> Part<C> for (Str, u32) {
+impl Part<InBody> for (Str, u32) {
     ghost part_in = { λ _. version_in };
 
-    fn read(alloc: Global, _context: &C, value: &Value) -> Result<(Str, u32), PartFault> {
+    fn read(alloc: Global, _context: &InBody, value: &Value) -> Result<(Str, u32), PartFault> {
         version_of(alloc, items(value)?)
     }
 }
@@ -42,7 +45,7 @@ fn version_of(alloc: Global, items: &[Value]) -> Result<(Str, u32), PartFault>
     let [name, version] = items else {
         return Err(PartFault::WrongForm);
     };
-    let name = Str::read(alloc, &(), name)?;
+    let name = Str::read(alloc, &InBody, name)?;
     match number(u32::MAX, version) {
         Some(version) => Ok((name, version)),
         None => Err(PartFault::WrongForm),
@@ -50,10 +53,10 @@ fn version_of(alloc: Global, items: &[Value]) -> Result<(Str, u32), PartFault>
 }
 
 /// A number.
-impl<C> Part<C> for u32 {
+impl Part<InBody> for u32 {
     ghost part_in = { λ _. count_in };
 
-    fn read(_alloc: Global, _context: &C, value: &Value) -> Result<u32, PartFault> {
+    fn read(_alloc: Global, _context: &InBody, value: &Value) -> Result<u32, PartFault> {
         match number(u32::MAX, value) {
             Some(number) => Ok(number),
             None => Err(PartFault::WrongForm),
@@ -62,10 +65,10 @@ impl<C> Part<C> for u32 {
 }
 
 /// A pair of strings of any length.
-impl<C> Part<C> for (Str, Str) {
+impl Part<InBody> for (Str, Str) {
     ghost part_in = { λ _. string_pair_in };
 
-    fn read(alloc: Global, _context: &C, value: &Value) -> Result<(Str, Str), PartFault> {
+    fn read(alloc: Global, _context: &InBody, value: &Value) -> Result<(Str, Str), PartFault> {
         string_pair_of(alloc, items(value)?)
     }
 }
@@ -78,8 +81,8 @@ fn string_pair_of(alloc: Global, items: &[Value]) -> Result<(Str, Str), PartFaul
     let [first, second] = items else {
         return Err(PartFault::WrongForm);
     };
-    let first = Str::read(alloc, &(), first)?;
-    let second = Str::read(alloc, &(), second)?;
+    let first = Str::read(alloc, &InBody, first)?;
+    let second = Str::read(alloc, &InBody, second)?;
     Ok((first, second))
 }
 
@@ -106,10 +109,10 @@ impl Cells {
     }
 }
 
-impl<C> Part<C> for Cells {
+impl Part<InBody> for Cells {
     ghost part_in = { λ _. cells_in };
 
-    fn read(alloc: Global, _context: &C, value: &Value) -> Result<Cells, PartFault> {
+    fn read(alloc: Global, _context: &InBody, value: &Value) -> Result<Cells, PartFault> {
         match value.as_object() {
             Some(members) => Ok(Cells {
                 cells: cells_of(alloc, members)?,
@@ -125,7 +128,7 @@ fn cells_of(alloc: Global, members: &Map<String, Value>) -> Result<List<(Str, St
 {
     let mut cells = List::new(alloc);
     'members: for (key, value) in members.iter() {
-        let text = Str::read(alloc, &(), value)?;
+        let text = Str::read(alloc, &InBody, value)?;
         let name = Str::new(alloc, key.as_str())?;
         cells.push((name, text))?;
     }
@@ -133,10 +136,10 @@ fn cells_of(alloc: Global, members: &Map<String, Value>) -> Result<List<(Str, St
 }
 
 /// Which fixes a commit accepts.
-impl<C> Part<C> for Accept {
+impl Part<InBody> for Accept {
     ghost part_in = { λ _. accept_in };
 
-    fn read(_alloc: Global, _context: &C, value: &Value) -> Result<Accept, PartFault> {
+    fn read(_alloc: Global, _context: &InBody, value: &Value) -> Result<Accept, PartFault> {
         let Some(word) = value.as_str() else {
             return Err(PartFault::WrongForm);
         };

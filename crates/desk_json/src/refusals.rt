@@ -4,7 +4,7 @@ ghost use Rattle.serde_json.specs.Data.{string};
 ghost use Rattle.serde_json.specs.View.{view};
 ghost use Rattle.desk_json.specs.Faults.{fault_at, fault_shown};
 ghost use Rattle.desk_json.specs.Refusals.{error, names, numbers, refusal_shown};
-ghost use Rattle.desk_json.specs.Shapes.{list_of, object_of, whole};
+ghost use Rattle.json_parts.specs.Shapes.{list_of, object_of, whole};
 ghost use Rattle.desk_json.specs.Words.{limit_word, reader_word};
 
 use crate::fault::JsonFault;

@@ -3,7 +3,7 @@ ghost use Rattle.std.specs.Prelude.{◌≡◌, map, IfOk};
 ghost use Rattle.serde_json.specs.Data.{Data, string};
 ghost use Rattle.serde_json.specs.View.{view};
 ghost use Rattle.desk_json.specs.Replies.{gain_shown, offer_shown};
-ghost use Rattle.desk_json.specs.Shapes.{list_of};
+ghost use Rattle.json_parts.specs.Shapes.{list_of};
 ghost use Rattle.desk_json.specs.Viewed.{step_shown};
 
 use desk_base::Text;

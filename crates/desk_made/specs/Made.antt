@@ -3,7 +3,7 @@ use Rattle.std.specs.Prelude.{ℕ, ◌*◌, ◌-◌, ◌%◌, List, [], ◌∷�
 use Rattle.std.specs.List.{range_with_len}
 use Rattle.serde_json.specs.Data.{Data, string}
 use Rattle.serde_json.specs.Written.{compact_text}
-use Rattle.desk_json.specs.Shapes.{list_of, object_of, whole}
+use Rattle.json_parts.specs.Shapes.{list_of, object_of, whole}
 use Rattle.master_rows.specs.Sheet.{sheet_of}
 use Rattle.rule_text.specs.Printing.{printed}
 use Rattle.desk_made.specs.declared.master.TheConstants.{ROWS}

@@ -12,21 +12,21 @@ pub record Request : Type 0 where
 abbrev pub post : List ℕ → List ℕ → Request
 post target body = record { method = codes "POST"; target = target; body = body }
 
--- a line with its end
-abbrev pub line : List ℕ → List ℕ
-line text = text ++ 13 ∷ 10 ∷ []
+-- a line of the head: the text, and then CR and LF
+abbrev pub head_line : List ℕ → List ℕ
+head_line text = text ++ 13 ∷ 10 ∷ []
 
 -- what is asked
 abbrev pub request_line : Request → List ℕ
-request_line request = line (request.method ++ codes " " ++ request.target ++ codes " HTTP/1.1")
+request_line request = head_line (request.method ++ codes " " ++ request.target ++ codes " HTTP/1.1")
 
 -- how many bytes the body has
 abbrev pub length_line : List ℕ → List ℕ
-length_line body = line (codes "Content-Length: " ++ decimal (length body))
+length_line body = head_line (codes "Content-Length: " ++ decimal (length body))
 
 -- the head: these two lines, and an empty one
 abbrev pub head_bytes : Request → List ℕ
-head_bytes request = request_line request ++ length_line request.body ++ line []
+head_bytes request = request_line request ++ length_line request.body ++ head_line []
 
 -- the head, and then the body
 unfoldable pub request_bytes : Request → List ℕ

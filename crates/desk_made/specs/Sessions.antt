@@ -2,7 +2,7 @@
 use Rattle.std.specs.Prelude.{ℕ, ◌%◌, ◌==◌, if◌then◌else◌, List, [], ◌∷◌, map, codes}
 use Rattle.serde_json.specs.Data.{Data, string}
 use Rattle.serde_json.specs.Written.{compact_text}
-use Rattle.desk_json.specs.Shapes.{list_of, object_of}
+use Rattle.json_parts.specs.Shapes.{list_of, object_of}
 use Rattle.desk_made.specs.declared.kind.Kind.{Kind}
 use Rattle.desk_made.specs.declared.kind.Kind.TheVariants.{Certain, Partial, Conflict, Empty}
 

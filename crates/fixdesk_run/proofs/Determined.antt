@@ -1,12 +1,12 @@
 -- The bytes of an input determine what they are answered with.
 use Rattle.std.proofs.Common.{◌≡◌, ◌∙◌, ℕ, List, Option, Some, sym, ap, refl, arith}
 use Rattle.fix_engine.proofs.Once.{IsAnswer-unique}
-use Rattle.desk_json.specs.declared.case.Case.{Case}
+use Rattle.case_json.specs.declared.case.Case.{Case}
 use Rattle.fixdesk_run.specs.declared.reply.InputRefusal.{InputRefusal}
 use Rattle.fixdesk_run.specs.declared.reply.InputRefusal.TheVariants.{TooLong, NotJson, NotACase}
-use Rattle.desk_json.specs.Case.Answer.{IsAnswer}
-use Rattle.desk_json.specs.Case.Cases.{IsCaseIn}
-use Rattle.desk_json.specs.Parts.{json_of}
+use Rattle.case_json.specs.Answer.{IsAnswer}
+use Rattle.case_json.specs.Cases.{IsCaseIn}
+use Rattle.json_parts.specs.Parts.{json_of}
 use Rattle.fixdesk_run.specs.Once.{IsAnswered, IsRefusalOf, IsRefused, refusal_line}
 
 -- what is found is one value

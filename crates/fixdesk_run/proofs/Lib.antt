@@ -1,7 +1,7 @@
+pub mod Accepted
 pub mod Asking
 pub mod Determined
 pub mod Limits
-pub mod Made
 pub mod OneSummary
 pub mod Openings
 pub mod Replies

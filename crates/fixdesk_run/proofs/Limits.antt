@@ -40,22 +40,20 @@ within sessions start is = grind (arith, nat_tests)
 
 -- the numbers of `make`
 of_both : (sessions start : ℕ) (test : Bool) → (nat_le sessions 5000 && nat_lt start (2 ^ 31)) ≡ test
-    → 1 ≤ sessions → IsLimited (if test then Some (Make sessions start) else None)
-of_both sessions start true is least = let both = within sessions start is in (least, both.0, both.1)
-of_both sessions start false is least = tt
+    → IsLimited (if test then Some (Make sessions start) else None)
+of_both sessions start true is = within sessions start is
+of_both sessions start false is = tt
 
-of_numbers : (sessions start : Option ℕ) → ((count : ℕ) → sessions ≡ Some count → 1 ≤ count)
-    → IsLimited (made_from sessions start)
-of_numbers None start least = tt
-of_numbers (Some sessions) None least = tt
-of_numbers (Some sessions) (Some start) least = of_both sessions start _ refl (least sessions refl)
+of_numbers : (sessions start : Option ℕ) → IsLimited (made_from sessions start)
+of_numbers None start = tt
+of_numbers (Some sessions) None = tt
+of_numbers (Some sessions) (Some start) = of_both sessions start _ refl
 
 -- those of the words behind it
 of_make : (words : List (List ℕ)) → IsLimited (make_of words)
 of_make [] = tt
 of_make (sessions ∷ []) = tt
-of_make (sessions ∷ start ∷ []) =
-    of_numbers (positive 4 sessions) (start_of start) (λ count is. (positive-bounds 4 sessions count is).0)
+of_make (sessions ∷ start ∷ []) = of_numbers (positive 4 sessions) (start_of start)
 of_make (sessions ∷ start ∷ word ∷ others) = tt
 
 -- a task that no further word changes

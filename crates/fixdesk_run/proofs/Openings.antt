@@ -1,6 +1,7 @@
 -- What is left where no machine begins.
 use Rattle.std.proofs.Common.{◌≡◌, ◌⊎◌, ◌∙◌, inl, inr, ℕ, List, length, Option, Some, None, refl, sym}
 use Rattle.std.specs.Prelude.{◌≢◌}
+use Rattle.desk_links.specs.Doors.{LinkSeen}
 use Rattle.desk_words.specs.Tables.{Rows}
 use Rattle.desk_valid.specs.declared.damage.Damage.{Damage}
 use Rattle.keeper_core.specs.Keeping.{IsLoaded}
@@ -10,7 +11,6 @@ use Rattle.machine_core.specs.Starting.{IfStillTold, IsUnstarted}
 use Rattle.fixdesk_run.specs.declared.status.Status.{Status}
 use Rattle.fixdesk_run.specs.declared.status.Status.TheVariants.{Done, NoCommand, ReadFault, WriteFault, Unavailable}
 use Rattle.fixdesk_run.specs.declared.status.Status.TheVariants.{NoMemory, Damaged, Refused, Limit}
-use Rattle.fixdesk_run.specs.Link.{Link}
 use Rattle.fixdesk_run.specs.Opening.{IsDamageLine, MayBeDamageLine, StaysShut, TakesFail, TellsDamage, TellsFail}
 use Rattle.fixdesk_run.specs.Opening.{damage_line}
 use Rattle.fixdesk_run.specs.Status.{status_code}
@@ -59,7 +59,7 @@ takes_fail takes old new fail.Unavailable is all = tt
 takes_fail takes old new fail.NoMemory is all = tt
 
 -- where the keeper did not fail, the status does not say so
-available : (old new : Link) (why : StartFail) (status : Status) → TellsFail why old new status
+available : (old new : LinkSeen) (why : StartFail) (status : Status) → TellsFail why old new status
     → why ≢ fail.Unavailable → status ≢ Unavailable
 available old new (fail.Damaged damage) status tells loads is = rw is at tells
 available old new fail.Unavailable status tells loads is = absurd (loads refl)

@@ -11,7 +11,7 @@ use Rattle.desk_words.specs.Tables.{Rows}
 use Rattle.machine_core.specs.declared.machine.Weighed.{Weighed}
 use Rattle.machine_core.specs.Weighing.{IsSettleable, IsWeighed}
 use Rattle.fixdesk_run.specs.Make.{AllAnswered, IsSummary, IsTold, request_count, summary_line}
-use Rattle.fixdesk_run.proofs.Made.{summary_made}
+use Rattle.fixdesk_run.proofs.Accepted.{summary_made}
 use Rattle.fixdesk_run.proofs.Reports.{sheet_given}
 
 -- the summary of the sheet that was weighed

@@ -1,6 +1,6 @@
 -- Links that are served one after another.
-use Rattle.std.proofs.Common.{◌≡◌, ◌∙◌, ℕ, ◌+◌, ◌≤◌, Bool, true, false, List, [], ◌∷◌, ◌++◌, map, refl, ap, sym, subst, arith}
-use Rattle.std.proofs.Common.{append-nil, cond, lit≤}
+use Rattle.std.proofs.Common.{◌≡◌, ◌∙◌, ℕ, ◌+◌, ◌≤◌, Bool, true, false, List, [], ◌∷◌, ◌++◌, map, refl, ap, sym}
+use Rattle.std.proofs.Common.{append-nil, arith, cond, lit≤, subst}
 use Rattle.std.specs.Int.{from_bool}
 use Rattle.std.specs.Prelude.{Option, Some, None}
 use Rattle.std.proofs.lemmas.List.{append_assoc, length_push, map-append}
@@ -14,7 +14,8 @@ use Rattle.fixdesk_run.specs.declared.serving.ServeEnd.{ServeEnd}
 use Rattle.fixdesk_run.specs.declared.serving.ServeEnd.TheVariants.{Done, WriteFault, NoMemory, DoorFault}
 use Rattle.fixdesk_run.specs.Serve.{EndsServing}
 use Rattle.fixdesk_run.specs.Site.{Door, PassesAll, PassesCount, PassesOne, Site}
-use Rattle.fixdesk_run.specs.Visits.{AreClosed, AreFirst, AreHandedOut, AreVisits, IsVisit, Standing, Visit, early_count}
+use Rattle.fixdesk_run.specs.Standing.{Standing}
+use Rattle.fixdesk_run.specs.Visits.{AreClosed, AreFirst, AreHandedOut, AreVisits, IsVisit, Visit, early_count}
 use Rattle.fixdesk_run.specs.Visits.{is_early, last_standing, refusals, with_bytes}
 
 -- a site with another keeper

@@ -1,5 +1,6 @@
 pub mod Link
 pub mod World
+pub mod Standing
 pub mod Status
 pub mod Task
 pub mod Input

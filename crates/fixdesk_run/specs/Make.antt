@@ -2,9 +2,10 @@
 use Rattle.std.specs.Prelude.{◌≡◌, ◌≢◌, ℕ, ◌+◌, ◌<◌, List, [], ◌∷◌, ◌++◌, length, Ok, Some, codes, decimal}
 use Rattle.std.specs.List.{find}
 use Rattle.std.specs.Str.{bytes_eq}
+use Rattle.desk_links.specs.Doors.{LinkSeen}
 use Rattle.desk_made.specs.Made.{made_requests}
 use Rattle.desk_made.specs.Requests.{stream_of}
-use Rattle.desk_json.specs.Shapes.{line}
+use Rattle.json_parts.specs.Shapes.{line}
 use Rattle.desk_valid.specs.Valid.{AreValid}
 use Rattle.desk_words.specs.declared.change.Change.{Change}
 use Rattle.desk_words.specs.declared.command.Command.TheVariants.{DeskReport}
@@ -23,7 +24,7 @@ use Rattle.machine_core.specs.Ticket.{turn_of}
 use Rattle.fixdesk_run.specs.declared.status.Status.{Status}
 use Rattle.fixdesk_run.specs.declared.status.Status.TheVariants.{Done, NoCommand, ReadFault, WriteFault, Unavailable}
 use Rattle.fixdesk_run.specs.declared.status.Status.TheVariants.{NoMemory, Damaged, Refused, Limit}
-use Rattle.fixdesk_run.specs.Link.{IsSilent, Link, Says, SaysPart}
+use Rattle.fixdesk_run.specs.Link.{IsSilent, Says, SaysPart}
 
 -- ---- the desk that is made
 
@@ -75,7 +76,7 @@ abbrev pub IsSummary : ℕ → ℕ → List ℕ → Type 0
 IsSummary sessions start text = (rows : Rows) × IsMade sessions start rows × IsSummaryOf rows text
 
 -- what is left, by the status
-abbrev pub EndsMake : ℕ → ℕ → Link → Link → Status → Type 0
+abbrev pub EndsMake : ℕ → ℕ → LinkSeen → LinkSeen → Status → Type 0
 EndsMake sessions start old new Done = (text : List ℕ) × IsSummary sessions start text × Says text old new
 EndsMake sessions start old new NoCommand = ⊥
 EndsMake sessions start old new ReadFault = ⊥

@@ -2,7 +2,8 @@
 use Rattle.std.specs.Prelude.{◌≡◌, ◌⊎◌, ℕ, ◌<◌, List, length, Option, codes}
 use Rattle.std.specs.Io.KnownBytes.{Appends}
 use Rattle.desk_base.specs.Faults.{AppendsPart, Rose}
-use Rattle.desk_json.specs.declared.case.Case.{Case}
+use Rattle.desk_links.specs.Doors.{LinkSeen}
+use Rattle.case_json.specs.declared.case.Case.{Case}
 use Rattle.fixdesk_run.specs.declared.reply.CaseReply.{CaseReply}
 use Rattle.fixdesk_run.specs.declared.reply.CaseReply.TheVariants as replies
 use Rattle.fixdesk_run.specs.declared.reply.CaseReply.TheVariants.{Answered}
@@ -11,11 +12,10 @@ use Rattle.fixdesk_run.specs.declared.reply.InputRefusal.TheVariants.{TooLong, N
 use Rattle.fixdesk_run.specs.declared.status.Status.{Status}
 use Rattle.fixdesk_run.specs.declared.status.Status.TheVariants.{Done, NoCommand, ReadFault, WriteFault, Unavailable}
 use Rattle.fixdesk_run.specs.declared.status.Status.TheVariants.{NoMemory, Damaged, Refused, Limit}
-use Rattle.desk_json.specs.Case.Answer.{IsAnswer}
-use Rattle.desk_json.specs.Shapes.{line}
-use Rattle.desk_json.specs.Case.Cases.{IsCaseIn, IsNoCase, IsNotJson}
+use Rattle.case_json.specs.Answer.{IsAnswer}
+use Rattle.json_parts.specs.Shapes.{line}
+use Rattle.case_json.specs.Cases.{IsCaseIn, IsNoCase, IsNotJson}
 use Rattle.fixdesk_run.specs.Input.{most, Takes, TakesPart}
-use Rattle.fixdesk_run.specs.Link.{Link}
 
 -- why these bytes are refused
 abbrev pub IsRefusalOf : List ℕ → InputRefusal → Type 0
@@ -63,26 +63,26 @@ pub record IsDue (IsText : List ℕ → List ℕ → Type 0) (old new : Option (
   pub answer : IsText bytes text
 
 -- the text that is due was written
-pub record Tells (IsText : List ℕ → List ℕ → Type 0) (old new : Link) : Type 0 where
+pub record Tells (IsText : List ℕ → List ℕ → Type 0) (old new : LinkSeen) : Type 0 where
   pub text : List ℕ
   pub due : IsDue IsText old.left new.left text
   pub written : Appends old.written new.written text
 
 -- a part of the text that is due was written, as the link failed
-pub record TellsPart (old new : Link) : Type 0 where
+pub record TellsPart (old new : LinkSeen) : Type 0 where
   pub text : List ℕ
   pub due : IsDue IsTold old.left new.left text
   pub written : AppendsPart old.written new.written text
   pub failed : Rose old.write_faults new.write_faults
 
 -- nothing was written, and no more bytes were taken than may be
-pub record IsUnanswered (old new : Link) : Type 0 where
+pub record IsUnanswered (old new : LinkSeen) : Type 0 where
   pub taken : TakesPart old.left new.left
   pub written : new.written ≡ old.written
   pub write_faults : new.write_faults ≡ old.write_faults
 
 -- what is left, by the status
-abbrev pub EndsOnce : Link → Link → Status → Type 0
+abbrev pub EndsOnce : LinkSeen → LinkSeen → Status → Type 0
 EndsOnce old new Done = Tells IsAnswered old new
 EndsOnce old new NoCommand = ⊥
 EndsOnce old new ReadFault = IsUnanswered old new × Rose old.read_faults new.read_faults

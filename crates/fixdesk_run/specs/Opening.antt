@@ -1,7 +1,8 @@
 -- Why no machine begins over a keeper's tables, and what a call leaves then.
 use Rattle.std.specs.Prelude.{◌≡◌, ℕ, List, ◌++◌, length, Option, codes, decimal, ⊤}
 use Rattle.desk_base.specs.Faults.{Rose}
-use Rattle.desk_json.specs.Shapes.{line}
+use Rattle.desk_links.specs.Doors.{LinkSeen}
+use Rattle.json_parts.specs.Shapes.{line}
 use Rattle.desk_words.specs.Tables.{Rows}
 use Rattle.desk_valid.specs.declared.damage.Damage.{Damage}
 use Rattle.desk_valid.specs.Damage.{IsFirstDamage}
@@ -13,7 +14,7 @@ use Rattle.machine_core.specs.Starting.{IfStillTold}
 use Rattle.fixdesk_run.specs.declared.status.Status.{Status}
 use Rattle.fixdesk_run.specs.declared.status.Status.TheVariants.{Done, NoCommand, ReadFault, WriteFault, Unavailable}
 use Rattle.fixdesk_run.specs.declared.status.Status.TheVariants.{NoMemory, Damaged, Refused, Limit}
-use Rattle.fixdesk_run.specs.Link.{IsSilent, Link, Says, SaysPart}
+use Rattle.fixdesk_run.specs.Link.{IsSilent, Says, SaysPart}
 use Rattle.fixdesk_run.specs.World.{World}
 
 -- the tables over which a machine began: valid ones, which the keeper told, if it told any
@@ -56,7 +57,7 @@ StaysShut old new Limit = ⊥
 -- ---- the link alone
 
 -- what is left of the link where a row is damaged, by the status
-abbrev pub TellsDamage : Damage → Link → Link → Status → Type 0
+abbrev pub TellsDamage : Damage → LinkSeen → LinkSeen → Status → Type 0
 TellsDamage damage old new Done = ⊥
 TellsDamage damage old new NoCommand = ⊥
 TellsDamage damage old new ReadFault = ⊥
@@ -68,7 +69,7 @@ TellsDamage damage old new Refused = ⊥
 TellsDamage damage old new Limit = ⊥
 
 -- what is left of the link, by why no machine began
-abbrev pub TellsFail : StartFail → Link → Link → Status → Type 0
+abbrev pub TellsFail : StartFail → LinkSeen → LinkSeen → Status → Type 0
 TellsFail (fail.Damaged damage) old new status = TellsDamage damage old new status
 TellsFail fail.Unavailable old new status = (status ≡ Unavailable) × IsSilent old new
 TellsFail fail.NoMemory old new status = (status ≡ NoMemory) × IsSilent old new

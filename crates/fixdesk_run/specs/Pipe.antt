@@ -8,20 +8,13 @@ use Rattle.http_desk.specs.Streams.{IsFaultless, Streams}
 use Rattle.fixdesk_run.specs.declared.status.Status.{Status}
 use Rattle.fixdesk_run.specs.declared.status.Status.TheVariants.{Done, ReadFault, WriteFault, NoMemory, Refused, Limit}
 use Rattle.fixdesk_run.specs.Opening.{AreOpened, StaysShut}
+use Rattle.fixdesk_run.specs.Standing.{scene_at}
 use Rattle.fixdesk_run.specs.Status.{status_code}
 use Rattle.fixdesk_run.specs.World.{World}
 
 -- a link and a keeper with a machine over these tables
 abbrev pub scene_over : World → Rows → Scene
-scene_over world rows = record {
-  left = world.link.left;
-  written = world.link.written;
-  read_faults = world.link.read_faults;
-  write_faults = world.link.write_faults;
-  tables = rows;
-  told = world.told;
-  faults = world.faults;
-}
+scene_over world rows = scene_at world.link (record { tables = rows; told = world.told; faults = world.faults })
 
 -- the status by which the end of a stream is told
 abbrev pub end_status : Ended → Status

@@ -1,7 +1,7 @@
 -- What a call of `serve` leaves of the output, the keeper and the door, and when no fault comes.
 use Rattle.std.specs.Prelude.{◌≡◌, ◌⊎◌, ℕ, ◌<◌, ◌≤◌, List, ◌++◌, length, Option, Some, None, codes, decimal, ⊤}
 use Rattle.desk_base.specs.Faults.{Rose}
-use Rattle.desk_json.specs.Shapes.{line}
+use Rattle.json_parts.specs.Shapes.{line}
 use Rattle.keeper_core.specs.Keeping.{IfTold}
 use Rattle.machine_core.specs.Starting.{AreStarted}
 use Rattle.http_desk.specs.Answered.{RoseBy}
@@ -14,7 +14,8 @@ use Rattle.fixdesk_run.specs.Opening.{MayBeDamageLine, StaysShut}
 use Rattle.fixdesk_run.specs.Plan.{plan_of}
 use Rattle.fixdesk_run.specs.Site.{Door, IsPassed, IsUnchanged, Later, Site}
 use Rattle.fixdesk_run.specs.Status.{status_code}
-use Rattle.fixdesk_run.specs.Visits.{AreVisits, Standing, Visit, early_count, last_standing, refusals}
+use Rattle.fixdesk_run.specs.Standing.{Standing}
+use Rattle.fixdesk_run.specs.Visits.{AreVisits, Visit, early_count, last_standing, refusals}
 use Rattle.fixdesk_run.specs.World.{IsUncalled}
 
 -- the line that answers words which are no port and count

@@ -6,7 +6,8 @@ use Rattle.desk_words.specs.Tables.{Rows}
 use Rattle.http_desk.specs.declared.serving.Ended.{Ended}
 use Rattle.http_desk.specs.Answered.{RoseBy}
 use Rattle.fixdesk_run.specs.Link.{link_with}
-use Rattle.fixdesk_run.specs.Visits.{AreClosed, AreHandedOut, AreVisits, IsVisit, Standing, Visit, early_count}
+use Rattle.fixdesk_run.specs.Standing.{Standing}
+use Rattle.fixdesk_run.specs.Visits.{AreClosed, AreHandedOut, AreVisits, IsVisit, Visit, early_count}
 use Rattle.fixdesk_run.specs.Visits.{last_standing, refusals}
 use Rattle.fixdesk_run.specs.World.{Later as LaterWorld, World}
 

@@ -51,10 +51,10 @@ task_of (word ∷ others) =
     else if bytes_eq word (codes "make") then make_of others
     else None
 
--- a limit is 1 at least; and so is a number of sessions, which is at most 5,000, with a start below 2 ^ 31
+-- a limit is 1 at least; and at most 5,000 sessions are opened, by draws from a start below 2 ^ 31
 abbrev pub IsLimited : Option Task → Type 0
 IsLimited None = ⊤
 IsLimited (Some Once) = ⊤
 IsLimited (Some (Pipe limit)) = 1 ≤ limit
 IsLimited (Some Report) = ⊤
-IsLimited (Some (Make sessions start)) = (1 ≤ sessions) × (sessions ≤ 5000) × (start < 2 ^ 31)
+IsLimited (Some (Make sessions start)) = (sessions ≤ 5000) × (start < 2 ^ 31)

@@ -1,17 +1,18 @@
 -- What words that are no command leave of the link.
 use Rattle.std.specs.Prelude.{ℕ, List, codes}
+use Rattle.desk_links.specs.Doors.{LinkSeen}
 use Rattle.fixdesk_run.specs.declared.status.Status.{Status}
 use Rattle.fixdesk_run.specs.declared.status.Status.TheVariants.{Done, NoCommand, ReadFault, WriteFault, Unavailable}
 use Rattle.fixdesk_run.specs.declared.status.Status.TheVariants.{NoMemory, Damaged, Refused, Limit}
-use Rattle.desk_json.specs.Shapes.{line}
-use Rattle.fixdesk_run.specs.Link.{Link, Says, SaysPart}
+use Rattle.json_parts.specs.Shapes.{line}
+use Rattle.fixdesk_run.specs.Link.{Says, SaysPart}
 
 -- the line that they are answered with
 abbrev pub usage_line : List ℕ
 usage_line = line (codes "usage: fixdesk once | pipe [--limit N] | report | make N START")
 
 -- what is left, by the status
-abbrev pub EndsUsage : Link → Link → Status → Type 0
+abbrev pub EndsUsage : LinkSeen → LinkSeen → Status → Type 0
 EndsUsage old new Done = ⊥
 EndsUsage old new NoCommand = Says usage_line old new
 EndsUsage old new ReadFault = ⊥

@@ -2,38 +2,14 @@
 use Rattle.std.specs.Prelude.{◌≡◌, ℕ, Bool, true, false, List, [], ◌∷◌, ◌++◌, map, count_by, Option, Some, None, ⊤}
 use Rattle.std.specs.List.{sum_by}
 use Rattle.desk_links.specs.Doors.{IsFresh, LinkSeen}
-use Rattle.desk_words.specs.Tables.{Rows}
 use Rattle.http_desk.specs.declared.serving.Ended.{Ended}
 use Rattle.http_desk.specs.declared.serving.Ended.TheVariants.{Clean, Limit, BadHead, Chunked, BodyLong, Truncated}
 use Rattle.http_desk.specs.declared.serving.Ended.TheVariants.{ReadFault, WriteFault, NoMemory}
 use Rattle.http_desk.specs.Answered.{Answered, failures}
-use Rattle.http_desk.specs.Scenes.{Scene}
 use Rattle.http_desk.specs.Streams.{Streams}
+use Rattle.fixdesk_run.specs.Standing.{Standing, scene_at}
 
 -- ---- one link
-
--- the desk between two links: its tables, those that its keeper tells, and how often the keeper has failed
-pub record Standing : Type 0 where
-  pub tables : Rows
-  pub told : Option Rows
-  pub faults : ℕ
-
--- as a machine and a keeper tell it
-abbrev pub standing : {M K : Type 0} → (M → Rows) → (K → Option Rows) → (K → ℕ) → M → K → Standing
-standing rows told faults machine keeper =
-    record { tables = rows machine; told = told keeper; faults = faults keeper }
-
--- a link with the desk
-abbrev pub scene_at : LinkSeen → Standing → Scene
-scene_at link desk = record {
-  left = link.left;
-  written = link.written;
-  read_faults = link.read_faults;
-  write_faults = link.write_faults;
-  tables = desk.tables;
-  told = desk.told;
-  faults = desk.faults;
-}
 
 -- a link that was served: as it was handed out and as it was closed, how its stream ended, what was answered, and the
 -- desk after it

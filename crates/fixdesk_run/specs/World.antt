@@ -1,12 +1,12 @@
 -- What a clause of `run` sees: a link, and a keeper.
 use Rattle.std.specs.Prelude.{◌≡◌, ℕ, ◌≤◌, List, Option}
 use Rattle.desk_base.specs.declared.both.Both.{Both}
+use Rattle.desk_links.specs.Doors.{LinkSeen, link_seen}
 use Rattle.desk_words.specs.Tables.{Rows}
-use Rattle.fixdesk_run.specs.Link.{Link, seen}
 
 -- a link, the tables that a keeper tells, if it tells any, and how often the keeper failed
 pub record World : Type 0 where
-  pub link : Link
+  pub link : LinkSeen
   pub told : Option Rows
   pub faults : ℕ
 
@@ -14,7 +14,7 @@ pub record World : Type 0 where
 abbrev pub world : {S W K : Type 0} → (S → Option (List ℕ)) → (S → ℕ) → (W → Option (List ℕ)) → (W → ℕ)
     → (K → Option Rows) → (K → ℕ) → Both S W → K → World
 world left read_faults written write_faults told faults link keeper = record {
-  link = seen left read_faults written write_faults link;
+  link = link_seen left read_faults written write_faults link;
   told = told keeper;
   faults = faults keeper;
 }

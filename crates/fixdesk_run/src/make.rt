@@ -3,11 +3,11 @@ ghost use Rattle.std.specs.Prelude.{◌≡◌, ◌++◌, ◌⊎◌, ◌^◌, ◌
 ghost use Rattle.std.specs.Prelude.{option_copied, IfOk, OnOk};
 ghost use Rattle.std.specs.List.{find};
 ghost use Rattle.std.specs.Str.{bytes_eq};
+ghost use Rattle.desk_links.specs.Doors.{link_seen};
 ghost use Rattle.desk_made.specs.Made.{made_requests};
 ghost use Rattle.desk_made.specs.Requests.{stream_of};
 ghost use Rattle.desk_words.specs.Tables.{empty_rows};
 ghost use Rattle.machine_core.specs.Starting.{AreStarted};
-ghost use Rattle.fixdesk_run.specs.Link.{seen};
 ghost use Rattle.fixdesk_run.specs.Make.{AllAnswered, EndsMake, IsSummary, IsTold, summary_line};
 ghost use Rattle.fixdesk_run.specs.Status.{status_code};
 
@@ -32,10 +32,9 @@ pub fn make<M: Machine + Drop, S: Source, W: Sink>(
     start: u32,
     link: &mut Both<S, W>,
 ) -> Status
-    requires some { 1 ≤ sessions }
     requires most { sessions ≤ 5000 }
     requires start { start < 2 ^ 31 }
-    ensures ended { let seen = seen S.left S.read_faults W.written W.write_faults in
+    ensures ended { let seen = link_seen S.left S.read_faults W.written W.write_faults in
         EndsMake sessions start (seen link.old) (seen link.new) result }
     ensures read_faults { S.read_faults link.old.source ≤ S.read_faults link.new.source }
     ensures write_faults { W.write_faults link.old.sink ≤ W.write_faults link.new.sink }
@@ -59,7 +58,6 @@ fn summary<M: Machine + Drop>(
     sessions: u32,
     start: u32,
 ) -> Result<List<u8>, NoMemory>
-    requires some { 1 ≤ sessions }
     requires most { sessions ≤ 5000 }
     requires start { start < 2 ^ 31 }
     ensures { IfOk result (IsSummary sessions start) }
@@ -72,7 +70,6 @@ fn summary<M: Machine + Drop>(
 
 /// A machine that has answered all requests of the stream over an empty desk.
 fn serve_made<M: Machine + Drop>(alloc: Global, sessions: u32, start: u32) -> Result<M, NoMemory>
-    requires some { 1 ≤ sessions }
     requires most { sessions ≤ 5000 }
     requires start { start < 2 ^ 31 }
     ensures { IfOk result (λ machine. AllAnswered sessions start (M.rows machine)) }
@@ -93,7 +90,6 @@ fn link_over(
     sessions: u32,
     start: u32,
 ) -> Result<Both<MemSource, DropSink>, NoMemory>
-    requires some { 1 ≤ sessions }
     requires most { sessions ≤ 5000 }
     requires start { start < 2 ^ 31 }
     ensures { IfOk result (λ link. link.source.left ≡ stream_of (made_requests sessions start)) }

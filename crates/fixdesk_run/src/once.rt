@@ -2,18 +2,18 @@
 ghost use Rattle.std.specs.Prelude.{◌≡◌, ◌≤◌, length, IfOk};
 ghost use Rattle.fix_model.specs.States.{Fits};
 ghost use Rattle.fix_model.specs.Valid.{IsValid};
-ghost use Rattle.desk_json.specs.Case.Answer.{IsAnswer};
-ghost use Rattle.desk_json.specs.Case.Cases.{PartsFit};
+ghost use Rattle.desk_links.specs.Doors.{link_seen};
+ghost use Rattle.case_json.specs.Answer.{IsAnswer};
+ghost use Rattle.case_json.specs.Cases.{PartsFit};
 ghost use Rattle.fixdesk_run.specs.Input.{most};
-ghost use Rattle.fixdesk_run.specs.Link.{seen};
 ghost use Rattle.fixdesk_run.specs.Once.{EndsOnce, IsOnceCode, IsReplyTo, TakesTold};
 ghost use Rattle.fixdesk_run.specs.Status.{status_code};
 
 use crate::input::{InputFault, MOST, input_of};
 use crate::reply::{CaseReply, InputRefusal};
 use crate::status::Status;
+use case_json::{Case, CaseFault, case_of, case_text};
 use desk_base::{Both, Failed, List, NoMemory, Sink, Source, Steps, Text, write_all};
-use desk_json::{Case, CaseFault, case_of, case_text};
 use fix_engine::{Work, decide};
 use fix_model::{Book, ListBook, State};
 use std::alloc::Global;
@@ -69,7 +69,7 @@ pub fn answer_over<B: Book<()>>(
 
 /// Answers the case that the link has left.
 pub fn once<S: Source, W: Sink>(alloc: Global, link: &mut Both<S, W>) -> Status
-    ensures ended { let seen = seen S.left S.read_faults W.written W.write_faults in
+    ensures ended { let seen = link_seen S.left S.read_faults W.written W.write_faults in
         EndsOnce (seen link.old) (seen link.new) result }
     ensures read_faults { S.read_faults link.old.source ≤ S.read_faults link.new.source }
     ensures write_faults { W.write_faults link.old.sink ≤ W.write_faults link.new.sink }

@@ -9,8 +9,8 @@ use desk_valid::Damage;
 use machine_core::StartFail;
 use std::alloc::Global;
 
-/// Tells why no machine began: a line that names the first damaged row, and nothing else. Of a link with this output the
-/// input stays, whatever it is.
+/// Tells why no machine began: a line that names the first damaged row, and nothing else. Of a link with this output
+/// the input stays, whatever it is.
 pub fn stay_shut<W: Sink>(alloc: Global, fail: StartFail, out: &mut W) -> Status
     ensures told { (left : Option (List ℕ)) (read_faults : ℕ)
         → let seen = link_with W.written W.write_faults left read_faults in

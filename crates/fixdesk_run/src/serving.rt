@@ -7,7 +7,7 @@ ghost use Rattle.fixdesk_run.specs.Serve.{AreSteadyFor, EndsServing, IsServedFau
 ghost use Rattle.fixdesk_run.specs.Serve.{TakesTally, end_code, serve_usage};
 ghost use Rattle.fixdesk_run.specs.Site.{Later, site};
 ghost use Rattle.fixdesk_run.specs.Status.{status_code};
-ghost use Rattle.fixdesk_run.specs.Visits.{standing};
+ghost use Rattle.fixdesk_run.specs.Standing.{standing};
 
 use crate::opening::stay_shut;
 use crate::plan::{Plan, plan_of};
@@ -50,15 +50,15 @@ impl ServeEnd {
     }
 }
 
-/// Serves the links of a door, as the words say, which are without the program's name: a port, from 1 to 65,535, and how
-/// many links, from 1 to 1,000,000. Answers the exit status (docs/formats.md, *Statuses of `fixdeskd`*).
+/// Serves the links of a door, as the words say, which are without the program's name: a port, from 1 to 65,535, and
+/// how many links, from 1 to 1,000,000. Answers the exit status (docs/formats.md, *Statuses of `fixdeskd`*).
 ///
-/// A machine `M` begins over the keeper's tables, and the door is bound to the port. Then the links are served one after
-/// another, each with at most one request, and closed. A link whose stream ends otherwise than behind its request, or at
-/// once, ends alone. Behind the last a line is written that says how many links there were and how many ended so, with
-/// status 0. All other words are answered with the usage line, with status 1. An output that fails gives 3, a keeper that
-/// fails at the beginning 4, want of memory 5, damaged tables a line that names the first damaged row, with status 6, and
-/// a door that fails 9. At 1, 4, 5 and 6 the door was not called.
+/// A machine `M` begins over the keeper's tables, and the door is bound to the port. Then the links are served one
+/// after another, each with at most one request, and closed. A link whose stream ends otherwise than behind its
+/// request, or at once, ends alone. Behind the last a line is written that says how many links there were and how many
+/// ended so, with status 0. All other words are answered with the usage line, with status 1. An output that fails gives
+/// 3, a keeper that fails at the beginning 4, want of memory 5, damaged tables a line that names the first damaged row,
+/// with status 6, and a door that fails 9. At 1, 4, 5 and 6 the door was not called.
 pub fn serve<M: Machine + Drop, K: Keeper, L: Listener, W: Sink>(
     alloc: Global,
     words: &[String],

@@ -14,7 +14,7 @@ pub const MAX_LIMIT: u32 = 1_000_000;
 const LIMIT_DIGITS: usize = 7;
 
 /// The most sessions that `make` opens.
-pub const MAX_SESSIONS: u32 = 5_000;
+pub const MAX_MADE_SESSIONS: u32 = 5_000;
 
 /// The most digits of their number.
 const SESSION_DIGITS: usize = 4;
@@ -117,7 +117,7 @@ fn made_from(sessions: Option<u64>, start: Option<u64>) -> Option<Task>
 {
     match (sessions, start) {
         (Some(sessions), Some(start))
-            if sessions <= u64::from(MAX_SESSIONS) && start <= u64::from(MAX_START) => {
+            if sessions <= u64::from(MAX_MADE_SESSIONS) && start <= u64::from(MAX_START) => {
             Some(Task::Make {
                 sessions: sessions as u32,
                 start: start as u32,

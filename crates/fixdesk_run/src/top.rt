@@ -1,6 +1,6 @@
 //! The top call of the program `fixdesk`.
 ghost use Rattle.std.specs.Prelude.{◌≡◌, ◌≤◌, length, map, string_bytes};
-ghost use Rattle.fixdesk_run.specs.Link.{seen};
+ghost use Rattle.desk_links.specs.Doors.{link_seen};
 ghost use Rattle.fixdesk_run.specs.Run.{AreSteady, Ends, IsFaultless, Leaves, TakesText};
 ghost use Rattle.fixdesk_run.specs.Status.{status_code};
 ghost use Rattle.fixdesk_run.specs.Task.{IsLimited, task_of};
@@ -79,7 +79,7 @@ fn perform<M: Machine + Drop, K: Keeper, S: Source, W: Sink>(
 
 /// Writes the usage line.
 fn tell_usage<S: Source, W: Sink>(link: &mut Both<S, W>) -> Status
-    ensures ended { let seen = seen S.left S.read_faults W.written W.write_faults in
+    ensures ended { let seen = link_seen S.left S.read_faults W.written W.write_faults in
         EndsUsage (seen link.old) (seen link.new) result }
     ensures read_faults { S.read_faults link.old.source ≤ S.read_faults link.new.source }
     ensures write_faults { W.write_faults link.old.sink ≤ W.write_faults link.new.sink }

@@ -4,7 +4,8 @@ ghost use Rattle.desk_base.specs.Faults.{Rose};
 ghost use Rattle.desk_links.specs.Doors.{MayAccept};
 ghost use Rattle.keeper_core.specs.Keeping.{IfTold};
 ghost use Rattle.fixdesk_run.specs.Site.{IsUnchanged, PassesCount, PassesFewer, PassesOne, door_seen};
-ghost use Rattle.fixdesk_run.specs.Visits.{is_early, standing};
+ghost use Rattle.fixdesk_run.specs.Standing.{standing};
+ghost use Rattle.fixdesk_run.specs.Visits.{is_early};
 
 use desk_base::Failed;
 use desk_links::Listener;

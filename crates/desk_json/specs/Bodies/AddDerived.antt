@@ -7,9 +7,11 @@ use Rattle.desk_json.specs.Body.{object_in, at_key}
 use Rattle.desk_json.specs.Checked.{Checked, ◌>>=◌}
 use Rattle.desk_json.specs.Forms.{count_in, string_pairs_in}
 
+-- the keys that the body has, in byte order
 abbrev pub keys : List (List ℕ)
 keys = codes "from" ∷ codes "master" ∷ codes "pairs" ∷ []
 
+-- the work that adds a region of the rows that a master gives, from a place on, to the version of the edition
 abbrev pub add_derived : List ℕ → ℕ → List ℕ → Checked StewardWork
 add_derived edition version body = do
   fields ← object_in keys body

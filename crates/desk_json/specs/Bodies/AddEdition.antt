@@ -5,11 +5,13 @@ use Rattle.desk_words.specs.declared.steward_work.StewardWork.TheVariants.{AddEd
 use Rattle.desk_json.specs.Body.{object_in, at_key, at_key_or}
 use Rattle.desk_json.specs.Checked.{Checked, ◌>>=◌}
 use Rattle.desk_json.specs.Forms.{strings_in, version_in}
-use Rattle.desk_json.specs.Parts.{list_in}
+use Rattle.json_parts.specs.Parts.{list_in}
 
+-- the keys that the body may have, in byte order
 abbrev pub keys : List (List ℕ)
 keys = codes "folded" ∷ codes "masters" ∷ codes "rulebook" ∷ []
 
+-- the work that adds a version of the edition; no attribute is folded where `folded` is left out
 abbrev pub add_edition : List ℕ → List ℕ → Checked StewardWork
 add_edition name body = do
   fields ← object_in keys body

@@ -6,9 +6,11 @@ use Rattle.desk_json.specs.Body.{object_in, at_key}
 use Rattle.desk_json.specs.Checked.{Checked, ◌>>=◌}
 use Rattle.desk_json.specs.Forms.{strings_in, string_rows_in}
 
+-- the keys that the body has, in byte order
 abbrev pub keys : List (List ℕ)
 keys = codes "attributes" ∷ codes "rows" ∷ []
 
+-- the work that adds a region, with its rows, to the version of the edition
 abbrev pub add_region : List ℕ → ℕ → List ℕ → Checked StewardWork
 add_region edition version body = do
   fields ← object_in keys body

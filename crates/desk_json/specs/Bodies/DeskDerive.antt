@@ -7,9 +7,11 @@ use Rattle.desk_json.specs.Body.{object_in, at_key}
 use Rattle.desk_json.specs.Checked.{Checked, ◌>>=◌}
 use Rattle.desk_json.specs.Forms.{string_pairs_in}
 
+-- the keys that the body has, in byte order
 abbrev pub keys : List (List ℕ)
 keys = codes "master" ∷ codes "pairs" ∷ []
 
+-- the command that asks which rows a master of the version of the edition gives
 abbrev pub desk_derive : List ℕ → ℕ → List ℕ → Checked Command
 desk_derive edition version body = do
   fields ← object_in keys body

@@ -6,9 +6,11 @@ use Rattle.desk_json.specs.Body.{object_in, at_key}
 use Rattle.desk_json.specs.Checked.{Checked, ◌>>=◌}
 use Rattle.desk_json.specs.Forms.{strings_in}
 
+-- the key that the body has
 abbrev pub keys : List (List ℕ)
 keys = codes "names" ∷ []
 
+-- the write that withdraws the confirmation of these attributes of the session
 abbrev pub withdraw : ℕ → List ℕ → Checked ClerkWork
 withdraw session body = do
   fields ← object_in keys body

@@ -1,5 +1,5 @@
 use Rattle.std.proofs.Common.{rules}
-use Rattle.desk_json.proofs.Keys.{keys_of-members_view}
+use Rattle.json_parts.proofs.Keys.{keys_of-members_view}
 use Rattle.desk_json.proofs.body.first_unknown.Goals as goal
 
 pub names-init : goal.names-init

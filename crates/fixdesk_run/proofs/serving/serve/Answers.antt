@@ -4,7 +4,7 @@ use Rattle.fixdesk_run.specs.Plan.{plan_of}
 use Rattle.fixdesk_run.specs.Serve.{TakesTally, serve_usage, served_line}
 use Rattle.fixdesk_run.specs.Site.{Site, site}
 use Rattle.fixdesk_run.specs.Status.{status_code}
-use Rattle.fixdesk_run.specs.Visits.{standing}
+use Rattle.fixdesk_run.specs.Standing.{standing}
 use Rattle.fixdesk_run.proofs.Openings.{is_shut, shut_code, stays_shut, takes_fail}
 use Rattle.fixdesk_run.proofs.Visiting.{EndsServing-before}
 use Rattle.fixdesk_run.proofs.serving.serve.Goals as goal

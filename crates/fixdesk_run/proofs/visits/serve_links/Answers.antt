@@ -1,6 +1,6 @@
 use Rattle.std.proofs.Common.{◌≡◌, ℕ, ◌+◌, ◌-◌, arith, subst}
 use Rattle.fixdesk_run.specs.Site.{door_seen}
-use Rattle.fixdesk_run.specs.Visits.{standing}
+use Rattle.fixdesk_run.specs.Standing.{standing}
 use Rattle.fixdesk_run.proofs.Visiting.{PassesCount-none, PassesCount-push, early_once}
 use Rattle.fixdesk_run.proofs.visits.serve_links.Goals as goal
 

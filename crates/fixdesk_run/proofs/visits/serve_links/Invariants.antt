@@ -1,7 +1,7 @@
 use Rattle.std.proofs.Common.{◌-◌, ◌≤◌}
 use Rattle.keeper_core.specs.Keeping.{IfTold}
 use Rattle.fixdesk_run.specs.Site.{PassesCount, door_seen}
-use Rattle.fixdesk_run.specs.Visits.{standing}
+use Rattle.fixdesk_run.specs.Standing.{standing}
 use Rattle.fixdesk_run.proofs.visits.serve_links.Given as goal
 
 abbrev pub invariant-links : goal.invariant-links

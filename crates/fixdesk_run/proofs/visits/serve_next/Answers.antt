@@ -1,6 +1,6 @@
 use Rattle.std.proofs.Common.{◌∙◌, refl}
 use Rattle.desk_links.specs.Doors.{link_seen}
-use Rattle.fixdesk_run.specs.Visits.{standing}
+use Rattle.fixdesk_run.specs.Standing.{standing}
 use Rattle.fixdesk_run.proofs.visits.serve_next.Goals as goal
 
 -- the link was served

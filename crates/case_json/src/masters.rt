@@ -1,0 +1,86 @@
+//! The master data of a case.
+ghost use Rattle.std.specs.Prelude.{◌≡◌, ◌+◌, ◌≤◌, ◌++◌, length, option_map, map, IfOk, OnOk, IsErrOf, Some, None};
+ghost use Rattle.serde_json.specs.View.{view};
+ghost use Rattle.case_json.specs.Masters.{columns_of, row_in, table_in};
+ghost use Rattle.json_parts.specs.Parts.{each, text_in};
+
+use crate::attributes::Attributes;
+use desk_base::{Grid, List, MAX_COLUMNS, MAX_ROWS, Text};
+use json_parts::{Part, PartFault, items};
+use serde_json::Value;
+use std::alloc::Global;
+
+impl Part<Attributes> for Grid {
+    ghost part_in = { λ _. table_in };
+
+    fn read(alloc: Global, _attributes: &Attributes, value: &Value) -> Result<Grid, PartFault> {
+        let rows = items(value)?;
+        if rows.len() > MAX_ROWS as usize {
+            return Err(PartFault::WrongForm);
+        }
+        let columns = columns_of(rows)?;
+        grid_of(alloc, columns, rows)
+    }
+}
+
+/// How many columns the rows have, by the first of them. Where there is none they have the most.
+fn columns_of(rows: &[Value]) -> Result<u16, PartFault>
+    ensures columns { IfOk result (λ columns. columns_of (map view rows.now) ≡ Some columns) }
+    ensures none { IsErrOf result PartFault.WrongForm → columns_of (map view rows.now) ≡ None }
+{
+    let [first, ..] = rows else {
+        return Ok(MAX_COLUMNS as u16);
+    };
+    let count = items(first)?.len();
+    if 1 <= count && count <= MAX_COLUMNS {
+        Ok(count as u16)
+    } else {
+        Err(PartFault::WrongForm)
+    }
+}
+
+/// The rows of so many texts. Each text is put straight behind those before it.
+fn grid_of(alloc: Global, columns: u16, rows: &[Value]) -> Result<Grid, PartFault>
+    requires { length rows.now ≤ MAX_ROWS }
+    ensures rows { IfOk result (λ grid. (grid.columns ≡ columns)
+        × (each (row_in columns) (map view rows.now) ≡ Some grid.rows)) }
+    ensures none { IsErrOf result PartFault.WrongForm → each (row_in columns) (map view rows.now) ≡ None }
+{
+    let mut cells = List::new(alloc);
+    'rows: for row in rows {
+        push_row(alloc, &mut cells, columns, row)?;
+    }
+    Ok(Grid::from_cells(columns, rows.len() as u32, cells))
+}
+
+/// Puts the texts of a row behind the cells.
+fn push_row(
+    alloc: Global,
+    cells: &mut List<Text>,
+    columns: u16,
+    row: &Value,
+) -> Result<(), PartFault>
+    ensures pushed { OnOk result
+        (option_map (λ texts. cells.old ++ texts) (row_in columns (view row.now)) ≡ Some cells.new) }
+    ensures full { OnOk result (length cells.new ≡ length cells.old + columns) }
+    ensures none { IsErrOf result PartFault.WrongForm → row_in columns (view row.now) ≡ None }
+{
+    let texts = items(row)?;
+    if texts.len() != usize::from(columns) {
+        return Err(PartFault::WrongForm);
+    }
+    push_texts(alloc, cells, texts)
+}
+
+/// Puts a text for each value behind the cells.
+fn push_texts(alloc: Global, cells: &mut List<Text>, values: &[Value]) -> Result<(), PartFault>
+    ensures pushed { OnOk result
+        (option_map (λ texts. cells.old ++ texts) (each text_in (map view values.now)) ≡ Some cells.new) }
+    ensures full { OnOk result (length cells.new ≡ length cells.old + length values.now) }
+    ensures none { IsErrOf result PartFault.WrongForm → each text_in (map view values.now) ≡ None }
+{
+    'values: for value in values {
+        cells.push(Text::read(alloc, &(), value)?)?;
+    }
+    Ok(())
+}

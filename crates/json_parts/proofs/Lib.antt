@@ -1,0 +1,4 @@
+pub mod Floats
+pub mod Keys
+pub mod Reading
+pub mod Values

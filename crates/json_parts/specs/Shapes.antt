@@ -1,0 +1,25 @@
+-- The shapes of the JSON values that are printed.
+use Rattle.std.specs.Prelude.{ℕ, List, [], ◌∷◌, ◌++◌}
+use Rattle.serde_json.specs.Data.{Data, Members, member, no_members, array, number, object, unsigned}
+use Rattle.serde_json.specs.View.{items_of}
+
+-- an array of these values
+abbrev pub list_of : List Data → Data
+list_of values = array (items_of values)
+
+-- the members of an object, from its keys with their values
+abbrev pub members_from : List (List ℕ × Data) → Members
+members_from [] = no_members
+members_from (pair ∷ others) = member pair.0 pair.1 (members_from others)
+
+-- an object of these keys, which are given in byte order, with their values
+abbrev pub object_of : List (List ℕ × Data) → Data
+object_of pairs = object (members_from pairs)
+
+-- a whole number
+abbrev pub whole : ℕ → Data
+whole n = number (unsigned n)
+
+-- a line: the text, and then LF
+abbrev pub line : List ℕ → List ℕ
+line text = text ++ 10 ∷ []
