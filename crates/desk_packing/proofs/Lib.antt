@@ -11,4 +11,5 @@ pub mod Parts
 pub mod Permutations
 pub mod Putting
 pub mod Standing
+pub mod Steward
 pub mod Stood

@@ -35,7 +35,7 @@ whole format bytes =
 abbrev pub has_bytes : ℕ → List ℕ → Bool
 has_bytes count bytes = nat_le count (length bytes) && list_all (λ byte. nat_lt byte 256) (take count bytes)
 
--- a number of 2, 4 or 8 bytes, the greatest first
+-- a number of two bytes, the greatest first
 abbrev pub u16 : Format ℕ
 u16 = record {
   print = to_be_bytes w16;
@@ -43,6 +43,7 @@ u16 = record {
   parse = λ bytes. if has_bytes 2 bytes then Some (from_be_bytes w16 (take 2 bytes), drop 2 bytes) else None;
 }
 
+-- a number of four bytes, the greatest first
 abbrev pub u32 : Format ℕ
 u32 = record {
   print = to_be_bytes w32;
@@ -50,6 +51,7 @@ u32 = record {
   parse = λ bytes. if has_bytes 4 bytes then Some (from_be_bytes w32 (take 4 bytes), drop 4 bytes) else None;
 }
 
+-- a number of eight bytes, the greatest first
 abbrev pub u64 : Format ℕ
 u64 = record {
   print = to_be_bytes w64;
@@ -123,10 +125,11 @@ formed format into back = record {
   parse = λ bytes. option_map (λ found. (into found.0, found.1)) (format.parse bytes);
 }
 
--- a text of a cell
+-- the bytes are UTF-8, and no more than a text has
 abbrev pub is_text : List ℕ → Bool
 is_text bytes = nat_le (length bytes) MAX_TEXT && is_utf8 bytes
 
+-- a text of a cell, behind its length in two bytes
 abbrev pub text : Format (List ℕ)
 text = passing is_text (sized u16)
 
@@ -134,6 +137,7 @@ text = passing is_text (sized u16)
 abbrev pub bytes : Format (List ℕ)
 bytes = sized u32
 
+-- items behind their number in four bytes
 abbrev pub list : {A : Type 0} → Format A → Format (List A)
 list = counted u32
 
@@ -141,10 +145,11 @@ list = counted u32
 abbrev pub none : {A : Type 0} → Format (List A)
 none = record { print = λ items. []; Fits = λ items. items ≡ []; parse = λ bytes. Some ([], bytes) }
 
--- 1 where the flag is set
+-- a flag as a number: 1 where it is set
 abbrev pub flag_code : Bool → ℕ
 flag_code false = 0
 flag_code true = 1
 
+-- a flag in one byte
 abbrev pub flag : Format Bool
 flag = coded (false ∷ true ∷ []) flag_code

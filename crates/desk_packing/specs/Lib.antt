@@ -1,4 +1,5 @@
 pub mod Lines
+pub mod Faults
 pub mod Formats
 pub mod RowFormats
 pub mod Stands

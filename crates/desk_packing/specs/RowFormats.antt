@@ -22,6 +22,7 @@ abbrev pub acts : List Act
 acts = act.Nothing ∷ act.Clerk ∷ act.Schema ∷ act.Master ∷ act.Rulebook ∷ act.Edition ∷ act.Region ∷ act.Opened
     ∷ act.Changed ∷ act.Committed ∷ act.Batched ∷ []
 
+-- the place of an act among them
 abbrev pub act_code : Act → ℕ
 act_code act.Nothing = 0
 act_code act.Clerk = 1
@@ -35,6 +36,7 @@ act_code act.Changed = 8
 act_code act.Committed = 9
 act_code act.Batched = 10
 
+-- an act in one byte
 abbrev pub act_format : Format Act
 act_format = coded acts act_code
 
@@ -42,43 +44,51 @@ act_format = coded acts act_code
 abbrev pub stages : List Stage
 stages = stage.Active ∷ stage.Committed ∷ stage.Abandoned ∷ []
 
+-- the place of a stage among them
 abbrev pub stage_code : Stage → ℕ
 stage_code stage.Active = 0
 stage_code stage.Committed = 1
 stage_code stage.Abandoned = 2
 
+-- a stage in one byte
 abbrev pub stage_format : Format Stage
 stage_format = coded stages stage_code
 
+-- a digest: its 32 bytes
 abbrev pub digest : Format Digest
 digest = formed (fixed 32) (λ found. record { bytes = found }) (λ row. row.bytes)
 
+-- a clerk: the name, and the number, digest, act and target of the last request
 abbrev pub clerk : Format ClerkRow
 clerk = formed (both text (both u64 (both digest (both act_format u32))))
     (λ f. record { name = f.0; last = f.1.0; digest = f.1.1.0; act = f.1.1.1.0; target = f.1.1.1.1 })
     (λ row. (row.name, (row.last, (row.digest, (row.act, row.target)))))
 
+-- a schema: name, version and text
 abbrev pub schema : Format SchemaRow
 schema = formed (both text (both u32 bytes))
     (λ f. record { name = f.0; version = f.1.0; body = f.1.1 })
     (λ row. (row.name, (row.version, row.body)))
 
+-- a master: name, version and sheet
 abbrev pub master : Format MasterRow
 master = formed (both text (both u32 bytes))
     (λ f. record { name = f.0; version = f.1.0; body = f.1.1 })
     (λ row. (row.name, (row.version, row.body)))
 
+-- a rulebook: name, version, the place of its schema, and text
 abbrev pub rulebook : Format RulebookRow
 rulebook = formed (both text (both u32 (both u32 bytes)))
     (λ f. record { name = f.0; version = f.1.0; schema = f.1.1.0; body = f.1.1.1 })
     (λ row. (row.name, (row.version, (row.schema, row.body))))
 
--- the folded attributes last, in the format given
+-- an edition: name, version, the places of its rulebook and masters, and the folded attributes in the format given
 abbrev pub edition_with : Format (List ℕ) → Format EditionRow
 edition_with folded = formed (both text (both u32 (both u32 (both (list u32) folded))))
     (λ f. record { name = f.0; version = f.1.0; rulebook = f.1.1.0; masters = f.1.1.1.0; folded = f.1.1.1.1 })
     (λ row. (row.name, (row.version, (row.rulebook, (row.masters, row.folded)))))
 
+-- an edition of this version
 abbrev pub edition : Format EditionRow
 edition = edition_with (list u16)
 
@@ -86,26 +96,31 @@ edition = edition_with (list u16)
 abbrev pub old_edition : Format EditionRow
 old_edition = edition_with none
 
+-- a region: its attributes, and its rows
 abbrev pub region_format : Format Region
 region_format = formed (both (list u16) (list (list text)))
     (λ f. record { attrs = f.0; rows = f.1 })
     (λ row. (row.attrs, row.rows))
 
+-- a region of an edition, behind the place of that
 abbrev pub region : Format RegionRow
 region = formed (both u32 region_format)
     (λ f. record { edition = f.0; region = f.1 })
     (λ row. (row.edition, row.region))
 
+-- a session: the place of its edition, the typed texts, the flags of what is confirmed, the stage and the batch
 abbrev pub session : Format SessionRow
 session = formed (both u32 (both (list text) (both (list flag) (both stage_format u32))))
     (λ f. record { edition = f.0; typed = f.1.0; confirmed = f.1.1.0; stage = f.1.1.1.0; batch = f.1.1.1.1 })
     (λ row. (row.edition, (row.typed, (row.confirmed, (row.stage, row.batch)))))
 
+-- a record: the place of its session, the texts, and whether they are certain
 abbrev pub committed : Format RecordRow
 committed = formed (both u32 (both (list text) flag))
     (λ f. record { session = f.0; texts = f.1.0; certain = f.1.1 })
     (λ row. (row.session, (row.texts, row.certain)))
 
+-- a batch: the place of its edition, the place of its first session, and how many they are
 abbrev pub batch : Format BatchRow
 batch = formed (both u32 (both u32 u32))
     (λ f. record { edition = f.0; first = f.1.0; count = f.1.1 })

@@ -47,9 +47,11 @@ lines_in is_old rows = version_line is_old ∷ (list_lines clerk CLERKS 0 0 rows
     ++ (own_lines committed RECORDS 0 rows.records
     ++ own_lines batch BATCHES 0 rows.batches))))))))
 
+-- the lines of tables in this version
 abbrev pub lines_of : Rows → List Line
 lines_of = lines_in false
 
+-- the lines of tables in the old version
 abbrev pub old_lines_of : Rows → List Line
 old_lines_of = lines_in true
 

@@ -1,7 +1,7 @@
 //! Digests, acts and stages.
 ghost use Rattle.desk_packing.specs.RowFormats.{act_format, digest, stage_format};
 
-use crate::error::{PackFault, UnpackFault};
+use crate::error::{FieldFault, UnpackFault};
 use crate::packs::Packs;
 use crate::texts::split;
 use desk_words::{Act, Digest, Stage};
@@ -10,7 +10,7 @@ use std::alloc::Global;
 impl Packs for Digest {
     ghost format = { digest };
 
-    fn pack(&self, bytes: &mut Vec<u8>) -> Result<(), PackFault> {
+    fn pack(&self, bytes: &mut Vec<u8>) -> Result<(), FieldFault> {
         Ok(bytes.extend_from_slice(&self.bytes)?)
     }
 
@@ -25,7 +25,7 @@ impl Packs for Digest {
 impl Packs for Act {
     ghost format = { act_format };
 
-    fn pack(&self, bytes: &mut Vec<u8>) -> Result<(), PackFault> {
+    fn pack(&self, bytes: &mut Vec<u8>) -> Result<(), FieldFault> {
         bytes.push(*self as u8)?;
         Ok(())
     }
@@ -51,7 +51,7 @@ impl Packs for Act {
 impl Packs for Stage {
     ghost format = { stage_format };
 
-    fn pack(&self, bytes: &mut Vec<u8>) -> Result<(), PackFault> {
+    fn pack(&self, bytes: &mut Vec<u8>) -> Result<(), FieldFault> {
         bytes.push(*self as u8)?;
         Ok(())
     }

@@ -1,7 +1,9 @@
 //! Why rows are not packed, and why they are not read back.
 ghost use Rattle.std.specs.Prelude.{◌≡◌};
+ghost use Rattle.desk_packing.specs.declared.error.FieldFault.TheVariants as field;
 ghost use Rattle.desk_packing.specs.declared.error.PackFault.TheVariants as pack;
 ghost use Rattle.desk_packing.specs.declared.error.UnpackFault.TheVariants as unpack;
+ghost use Rattle.desk_packing.specs.Faults.{fault_of};
 
 use desk_base::NoMemory;
 use std::alloc::{AllocError, AllocFailed};
@@ -18,6 +20,17 @@ pub enum PackFault {
     TooLong,
     /// There was no memory for the packed rows.
     #[error("there was no memory for the packed rows")]
+    NoMemory,
+}
+
+/// Why a value is not packed.
+#[derive(Clone, Copy, Debug, PartialEq, Eq, Error)]
+pub enum FieldFault {
+    /// A list in it has more than 4,294,967,295 items.
+    #[error("a list has more items than a packed row can count")]
+    TooLong,
+    /// There was no memory for its bytes.
+    #[error("there was no memory for the packed value")]
     NoMemory,
 }
 
@@ -40,20 +53,31 @@ impl From<NoMemory> for PackFault {
     }
 }
 
-impl From<AllocError> for PackFault {
-    ghost from_gives = { λ _ result. result ≡ pack.NoMemory };
+impl From<FieldFault> for PackFault {
+    ghost from_gives = { λ fault result. result ≡ fault_of fault };
 
-    fn from(_want: AllocError) -> PackFault {
-        PackFault::NoMemory
+    fn from(fault: FieldFault) -> PackFault {
+        match fault {
+            FieldFault::TooLong => PackFault::TooLong,
+            FieldFault::NoMemory => PackFault::NoMemory,
+        }
+    }
+}
+
+impl From<AllocError> for FieldFault {
+    ghost from_gives = { λ _ result. result ≡ field.NoMemory };
+
+    fn from(_want: AllocError) -> FieldFault {
+        FieldFault::NoMemory
     }
 }
 
 /// What was to be stored is dropped.
-impl<T: Drop> From<AllocFailed<T>> for PackFault {
-    ghost from_gives = { λ _ result. result ≡ pack.NoMemory };
+impl<T: Drop> From<AllocFailed<T>> for FieldFault {
+    ghost from_gives = { λ _ result. result ≡ field.NoMemory };
 
-    fn from(_refused: AllocFailed<T>) -> PackFault {
-        PackFault::NoMemory
+    fn from(_refused: AllocFailed<T>) -> FieldFault {
+        FieldFault::NoMemory
     }
 }
 

@@ -2,7 +2,7 @@
 ghost use Rattle.std.specs.Prelude.{◌≡◌, Some, None, IfOk, IsErrOf};
 ghost use Rattle.desk_packing.specs.Formats.{items_in, list};
 
-use crate::error::{PackFault, UnpackFault};
+use crate::error::{FieldFault, UnpackFault};
 use crate::packs::Packs;
 use crate::texts::count_of;
 use desk_base::List;
@@ -11,7 +11,7 @@ use std::alloc::Global;
 impl<T: Packs + Drop> Packs for List<T> {
     ghost format = { list T.format };
 
-    fn pack(&self, bytes: &mut Vec<u8>) -> Result<(), PackFault> {
+    fn pack(&self, bytes: &mut Vec<u8>) -> Result<(), FieldFault> {
         let count = count_of(self.len())?;
         count.pack(bytes)?;
         'items: for item in self.as_slice() {

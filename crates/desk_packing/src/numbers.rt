@@ -1,14 +1,14 @@
 //! Numbers, the greatest byte first, and flags.
 ghost use Rattle.desk_packing.specs.Formats.{flag, u16, u32, u64};
 
-use crate::error::{PackFault, UnpackFault};
+use crate::error::{FieldFault, UnpackFault};
 use crate::packs::Packs;
 use std::alloc::Global;
 
 impl Packs for u16 {
     ghost format = { u16 };
 
-    fn pack(&self, bytes: &mut Vec<u8>) -> Result<(), PackFault> {
+    fn pack(&self, bytes: &mut Vec<u8>) -> Result<(), FieldFault> {
         Ok(bytes.extend_from_slice(&self.to_be_bytes())?)
     }
 
@@ -23,7 +23,7 @@ impl Packs for u16 {
 impl Packs for u32 {
     ghost format = { u32 };
 
-    fn pack(&self, bytes: &mut Vec<u8>) -> Result<(), PackFault> {
+    fn pack(&self, bytes: &mut Vec<u8>) -> Result<(), FieldFault> {
         Ok(bytes.extend_from_slice(&self.to_be_bytes())?)
     }
 
@@ -41,7 +41,7 @@ impl Packs for u32 {
 impl Packs for u64 {
     ghost format = { u64 };
 
-    fn pack(&self, bytes: &mut Vec<u8>) -> Result<(), PackFault> {
+    fn pack(&self, bytes: &mut Vec<u8>) -> Result<(), FieldFault> {
         Ok(bytes.extend_from_slice(&self.to_be_bytes())?)
     }
 
@@ -71,7 +71,7 @@ impl Packs for u64 {
 impl Packs for bool {
     ghost format = { flag };
 
-    fn pack(&self, bytes: &mut Vec<u8>) -> Result<(), PackFault> {
+    fn pack(&self, bytes: &mut Vec<u8>) -> Result<(), FieldFault> {
         bytes.push(if *self { 1 } else { 0 })?;
         Ok(())
     }

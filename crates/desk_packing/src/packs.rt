@@ -2,7 +2,7 @@
 ghost use Rattle.std.specs.Prelude.{◌≡◌, ◌++◌, Some, None, IfOk, OnOk, IsErrOf};
 ghost use Rattle.desk_packing.specs.Formats.{Format, whole};
 
-use crate::error::{PackFault, UnpackFault};
+use crate::error::{FieldFault, UnpackFault};
 use std::alloc::Global;
 
 /// A value with a format (`specs/Formats.antt`).
@@ -11,10 +11,10 @@ pub trait Packs: Sized {
     ghost format: { Format Self };
 
     /// Writes the value behind the bytes.
-    fn pack(&self, bytes: &mut Vec<u8>) -> Result<(), PackFault>
+    fn pack(&self, bytes: &mut Vec<u8>) -> Result<(), FieldFault>
         ensures packed { OnOk result (bytes.new.items ≡ bytes.old.items ++ format.print self.now) }
         ensures fits { OnOk result (format.Fits self.now) }
-        ensures too_long { IsErrOf result PackFault.TooLong → format.Fits self.now → ⊥ };
+        ensures too_long { IsErrOf result FieldFault.TooLong → format.Fits self.now → ⊥ };
 
     /// Reads the value in front of the bytes, and answers it with the bytes behind it.
     fn unpack(alloc: Global, bytes: &[u8]) -> Result<(Self, &[u8]), UnpackFault>

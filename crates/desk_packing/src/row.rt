@@ -6,7 +6,7 @@ ghost use Rattle.desk_packing.specs.Reading.{is_of, row_at};
 ghost use Rattle.desk_packing.specs.RowFormats.{batch, clerk, committed, master, region, rulebook, schema, session};
 ghost use Rattle.desk_packing.specs.Stands.{edition_in, row_line};
 
-use crate::error::{PackFault, UnpackFault};
+use crate::error::{FieldFault, UnpackFault};
 use crate::line::PackedRow;
 use crate::packs::{Packs, unpack_whole};
 use crate::rows::unpack_old_edition;
@@ -114,23 +114,19 @@ pub fn pack_row<T: Packs>(
     owner: u32,
     place: u32,
     row: &T,
-) -> Result<PackedRow, PackFault>
+) -> Result<PackedRow, FieldFault>
     ensures line { IfOk result (λ packed. line_of packed ≡ row_line T.format kind owner place row.now) }
     ensures fits { OnOk result (T.format.Fits row.now) }
-    ensures misfit { IsErrOf result PackFault.Misfit → ⊥ }
-    ensures too_long { IsErrOf result PackFault.TooLong → T.format.Fits row.now → ⊥ }
+    ensures too_long { IsErrOf result FieldFault.TooLong → T.format.Fits row.now → ⊥ }
 {
     let mut body = Vec::new(alloc);
-    match row.pack(&mut body) {
-        Ok(()) => Ok(PackedRow {
-            kind,
-            owner,
-            place,
-            body: List::from_vec(body),
-        }),
-        Err(PackFault::TooLong) => Err(PackFault::TooLong),
-        Err(_) => Err(PackFault::NoMemory),
-    }
+    row.pack(&mut body)?;
+    Ok(PackedRow {
+        kind,
+        owner,
+        place,
+        body: List::from_vec(body),
+    })
 }
 
 /// Whether the packed row is one of this list.

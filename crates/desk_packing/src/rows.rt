@@ -4,7 +4,7 @@ ghost use Rattle.desk_packing.specs.Formats.{whole};
 ghost use Rattle.desk_packing.specs.RowFormats.{batch, clerk, committed, edition, master, old_edition, region};
 ghost use Rattle.desk_packing.specs.RowFormats.{region_format, rulebook, schema, session};
 
-use crate::error::{PackFault, UnpackFault};
+use crate::error::{FieldFault, UnpackFault};
 use crate::packs::Packs;
 use crate::texts::{pack_bytes, unpack_bytes};
 use desk_base::{List, Text};
@@ -18,7 +18,7 @@ use std::alloc::Global;
 impl Packs for ClerkRow {
     ghost format = { clerk };
 
-    fn pack(&self, bytes: &mut Vec<u8>) -> Result<(), PackFault> {
+    fn pack(&self, bytes: &mut Vec<u8>) -> Result<(), FieldFault> {
         self.name.pack(bytes)?;
         self.last.pack(bytes)?;
         self.digest.pack(bytes)?;
@@ -46,7 +46,7 @@ impl Packs for ClerkRow {
 impl Packs for SchemaRow {
     ghost format = { schema };
 
-    fn pack(&self, bytes: &mut Vec<u8>) -> Result<(), PackFault> {
+    fn pack(&self, bytes: &mut Vec<u8>) -> Result<(), FieldFault> {
         self.name.pack(bytes)?;
         self.version.pack(bytes)?;
         pack_bytes(&self.body, bytes)
@@ -68,7 +68,7 @@ impl Packs for SchemaRow {
 impl Packs for MasterRow {
     ghost format = { master };
 
-    fn pack(&self, bytes: &mut Vec<u8>) -> Result<(), PackFault> {
+    fn pack(&self, bytes: &mut Vec<u8>) -> Result<(), FieldFault> {
         self.name.pack(bytes)?;
         self.version.pack(bytes)?;
         pack_bytes(&self.body, bytes)
@@ -90,7 +90,7 @@ impl Packs for MasterRow {
 impl Packs for RulebookRow {
     ghost format = { rulebook };
 
-    fn pack(&self, bytes: &mut Vec<u8>) -> Result<(), PackFault> {
+    fn pack(&self, bytes: &mut Vec<u8>) -> Result<(), FieldFault> {
         self.name.pack(bytes)?;
         self.version.pack(bytes)?;
         self.schema.pack(bytes)?;
@@ -115,7 +115,7 @@ impl Packs for RulebookRow {
 impl Packs for EditionRow {
     ghost format = { edition };
 
-    fn pack(&self, bytes: &mut Vec<u8>) -> Result<(), PackFault> {
+    fn pack(&self, bytes: &mut Vec<u8>) -> Result<(), FieldFault> {
         self.name.pack(bytes)?;
         self.version.pack(bytes)?;
         self.rulebook.pack(bytes)?;
@@ -164,7 +164,7 @@ pub fn unpack_old_edition(alloc: Global, bytes: &[u8]) -> Result<EditionRow, Unp
 impl Packs for Region {
     ghost format = { region_format };
 
-    fn pack(&self, bytes: &mut Vec<u8>) -> Result<(), PackFault> {
+    fn pack(&self, bytes: &mut Vec<u8>) -> Result<(), FieldFault> {
         self.attrs.pack(bytes)?;
         self.rows.pack(bytes)
     }
@@ -179,7 +179,7 @@ impl Packs for Region {
 impl Packs for RegionRow {
     ghost format = { region };
 
-    fn pack(&self, bytes: &mut Vec<u8>) -> Result<(), PackFault> {
+    fn pack(&self, bytes: &mut Vec<u8>) -> Result<(), FieldFault> {
         self.edition.pack(bytes)?;
         self.region.pack(bytes)
     }
@@ -194,7 +194,7 @@ impl Packs for RegionRow {
 impl Packs for SessionRow {
     ghost format = { session };
 
-    fn pack(&self, bytes: &mut Vec<u8>) -> Result<(), PackFault> {
+    fn pack(&self, bytes: &mut Vec<u8>) -> Result<(), FieldFault> {
         self.edition.pack(bytes)?;
         self.typed.pack(bytes)?;
         self.confirmed.pack(bytes)?;
@@ -222,7 +222,7 @@ impl Packs for SessionRow {
 impl Packs for RecordRow {
     ghost format = { committed };
 
-    fn pack(&self, bytes: &mut Vec<u8>) -> Result<(), PackFault> {
+    fn pack(&self, bytes: &mut Vec<u8>) -> Result<(), FieldFault> {
         self.session.pack(bytes)?;
         self.texts.pack(bytes)?;
         self.certain.pack(bytes)
@@ -244,7 +244,7 @@ impl Packs for RecordRow {
 impl Packs for BatchRow {
     ghost format = { batch };
 
-    fn pack(&self, bytes: &mut Vec<u8>) -> Result<(), PackFault> {
+    fn pack(&self, bytes: &mut Vec<u8>) -> Result<(), FieldFault> {
         self.edition.pack(bytes)?;
         self.first.pack(bytes)?;
         self.count.pack(bytes)

@@ -7,7 +7,7 @@ ghost use Rattle.desk_packing.specs.Lines.{line_of};
 ghost use Rattle.desk_packing.specs.Shapes.{FitLengths, FitsFields, FitsIn, FitsPlace, grown, grown_all};
 ghost use Rattle.desk_packing.specs.Shapes.{line_of_change, lines_of_changes, shape_of};
 
-use crate::error::PackFault;
+use crate::error::{FieldFault, PackFault};
 use crate::kinds::{
     BATCHES, CLERKS, EDITIONS, MASTERS, RECORDS, REGIONS, RULEBOOKS, SCHEMAS, SESSIONS,
 };
@@ -137,12 +137,11 @@ impl Shape {
     }
 
     /// The row of a change for the place where it goes.
-    fn row_of(&self, alloc: Global, change: &Change) -> Result<PackedRow, PackFault>
+    fn row_of(&self, alloc: Global, change: &Change) -> Result<PackedRow, FieldFault>
         requires { FitsIn self.now change.now }
         ensures line { IfOk result (λ row. line_of row ≡ line_of_change self.now change.now) }
         ensures fields { OnOk result (FitsFields change.now) }
-        ensures misfit { IsErrOf result PackFault.Misfit → ⊥ }
-        ensures too_long { IsErrOf result PackFault.TooLong → FitsFields change.now → ⊥ }
+        ensures too_long { IsErrOf result FieldFault.TooLong → FitsFields change.now → ⊥ }
     {
         match change {
             Change::Clerk(place, row) => pack_row(alloc, CLERKS, 0, *place, row),

@@ -3,16 +3,16 @@ ghost use Rattle.std.specs.Prelude.{◌≡◌, ◌++◌, ◌<◌, ◌≤◌, ◌
 ghost use Rattle.std.specs.Prelude.{option_map, length};
 ghost use Rattle.desk_packing.specs.Formats.{bytes, is_text, split, text};
 
-use crate::error::{PackFault, UnpackFault};
+use crate::error::{FieldFault, UnpackFault};
 use crate::packs::Packs;
 use desk_base::{List, Text, TextFault};
 use std::alloc::Global;
 
 /// Writes the number of bytes and then the bytes, behind what is there.
-pub fn pack_bytes(body: &List<u8>, out: &mut Vec<u8>) -> Result<(), PackFault>
+pub fn pack_bytes(body: &List<u8>, out: &mut Vec<u8>) -> Result<(), FieldFault>
     ensures packed { OnOk result (out.new.items ≡ out.old.items ++ bytes.print body.now) }
     ensures fits { OnOk result (bytes.Fits body.now) }
-    ensures too_long { IsErrOf result PackFault.TooLong → bytes.Fits body.now → ⊥ }
+    ensures too_long { IsErrOf result FieldFault.TooLong → bytes.Fits body.now → ⊥ }
 {
     let count = count_of(body.len())?;
     count.pack(out)?;
@@ -20,14 +20,14 @@ pub fn pack_bytes(body: &List<u8>, out: &mut Vec<u8>) -> Result<(), PackFault>
 }
 
 /// A number of items as it is packed.
-pub fn count_of(count: usize) -> Result<u32, PackFault>
+pub fn count_of(count: usize) -> Result<u32, FieldFault>
     ensures count { IfOk result (λ made. made ≡ count) }
     ensures fits { OnOk result (count < 2 ^ 32) }
-    ensures too_long { IsErrOf result PackFault.TooLong → 2 ^ 32 ≤ count }
+    ensures too_long { IsErrOf result FieldFault.TooLong → 2 ^ 32 ≤ count }
 {
     match u32::try_from(count) {
         Ok(count) => Ok(count),
-        Err(_) => Err(PackFault::TooLong),
+        Err(_) => Err(FieldFault::TooLong),
     }
 }
 
@@ -56,7 +56,7 @@ pub fn split(count: usize, bytes: &[u8]) -> Result<(&[u8], &[u8]), UnpackFault>
 impl Packs for Text {
     ghost format = { text };
 
-    fn pack(&self, bytes: &mut Vec<u8>) -> Result<(), PackFault> {
+    fn pack(&self, bytes: &mut Vec<u8>) -> Result<(), FieldFault> {
         let content = self.as_str().as_bytes();
         let count = content.len() as u16;
         count.pack(bytes)?;

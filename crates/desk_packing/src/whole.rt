@@ -8,7 +8,7 @@ ghost use Rattle.desk_packing.specs.RowFormats.{clerk, edition};
 ghost use Rattle.desk_packing.specs.Shapes.{migration_lines};
 ghost use Rattle.desk_packing.specs.Stands.{lines_of, row_line, version_line};
 
-use crate::error::PackFault;
+use crate::error::{FieldFault, PackFault};
 use crate::kinds::{CLERKS, EDITIONS, VERSION};
 use crate::line::PackedRow;
 use crate::row::pack_row;
@@ -37,7 +37,8 @@ fn steward_row(alloc: Global) -> Result<PackedRow, NoMemory>
     let steward = ClerkRow::new(Text::of(alloc, "steward")?);
     match pack_row(alloc, CLERKS, 0, 0, &steward) {
         Ok(row) => Ok(row),
-        Err(_) => Err(NoMemory),
+        Err(FieldFault::NoMemory) => Err(NoMemory),
+        Err(FieldFault::TooLong) => unreachable!(),
     }
 }
 

@@ -76,7 +76,7 @@ keeps_then a b c first stays_up next = record {
 -- the table is made where nothing stands
 pub make_tells : (s : State) → footing_of s.now.schema ≡ Blank → TellsAs MakesTable s
 make_tells s blank = λ clean db made.
-    told_holding age.Blank db empty_rows (record { lines = []; stand = made.0; tables = (refl, refl) })
+    told_holding age.Blank db empty_rows (record { lines = []; stand = made.stands; tables = (refl, refl) })
     ∙ sym (ap (λ footing. told_under footing s.now.trees) blank)
 
 module _ (a : Age) (s : State) (rows : Rows) (more : List Line) (found : IsFound a s rows)

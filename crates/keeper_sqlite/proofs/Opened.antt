@@ -1,5 +1,6 @@
 -- What the files held at first is told.
 use Rattle.std.proofs.Common.{◌≡◌, IsSome, true≢false, List, Option, Some, None, IsPermutation, refl, sym, ap, ◌∙◌}
+use Rattle.std.proofs.Common.{subst}
 use Rattle.std.proofs.lemmas.List.Sorted.{IsPermutation-sym}
 use Rattle.desk_packing.proofs.Stood.{rows_in-StandFor}
 use Rattle.desk_packing.specs.Lines.{Line}
@@ -13,7 +14,7 @@ use Rattle.sqlite.specs.Files.{file_state}
 use Rattle.sqlite_disk.specs.declared.Disk.{Ghosts}
 use Rattle.sqlite_store.specs.declared.store.FileStore.{FileStore}
 use Rattle.keeper_sqlite.specs.Keeping.{Kept}
-use Rattle.keeper_sqlite.specs.Files.{Finds, IfOpen, IfOpened, KeepsFound}
+use Rattle.keeper_sqlite.specs.Files.{FailsClean, Finds, IfOpen, IfOpened, IfUnloaded, KeepsFound}
 use Rattle.keeper_sqlite.specs.Steps.{KeepsTold}
 use Rattle.keeper_sqlite.specs.Telling.{told_in, told_under}
 use Rattle.keeper_sqlite.proofs.Told.{footing_desk, lines_held, stand_moved}
@@ -53,3 +54,11 @@ found_loaded image None new there finds keeps = absurd (true≢false (sym there)
 found_loaded image (Some kept) None there finds keeps = absurd keeps
 found_loaded image (Some old) (Some new) there finds keeps =
     keeps_found image (file_state old.connection) (file_state new.connection) finds keeps
+
+-- the first load over files that were open fails as over their connection
+pub fails_open : {D : Type 0} {g : Ghosts D} (before old new : Option (Kept (FileStore D g)))
+    → (IsSome before → old ≡ before) → IfUnloaded old new FailsClean → IfUnloaded before new FailsClean
+fails_open None old new same fails = tt
+fails_open {D} {g} (Some early) old new same fails =
+    let is : ◌≡◌ {A = Option (Kept (FileStore D g))} old (Some early) = same refl in
+    subst (λ x. IfUnloaded x new FailsClean) is fails

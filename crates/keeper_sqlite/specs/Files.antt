@@ -12,6 +12,7 @@ use Rattle.sqlite.specs.State.{State, HasCleanDisk}
 use Rattle.sqlite_wal.specs.Recovery.{Image}
 use Rattle.sqlite_disk.specs.declared.Disk.{Ghosts}
 use Rattle.sqlite_store.specs.declared.store.FileStore.{FileStore}
+use Rattle.keeper_sqlite.specs.Causes.{FailsToLoad}
 use Rattle.keeper_sqlite.specs.Keeping.{Kept}
 use Rattle.keeper_sqlite.specs.Steps.{told_loaded}
 use Rattle.keeper_sqlite.specs.Telling.{told_in}
@@ -41,6 +42,14 @@ IfLoaded (Some kept) None R = ⊥
 IfLoaded (Some old) (Some new) R =
     IsSome old.lengths → R old.lengths (file_state old.connection) (file_state new.connection)
 
+-- the same, where they were open and no tables were loaded from them
+abbrev pub IfUnloaded : {D : Type 0} {g : Ghosts D}
+    → Option (Kept (FileStore D g)) → Option (Kept (FileStore D g)) → (State → State → Type 0) → Type 0
+IfUnloaded None after R = ⊤
+IfUnloaded (Some kept) None R = ⊥
+IfUnloaded (Some old) (Some new) R =
+    old.lengths ≡ None → R (file_state old.connection) (file_state new.connection)
+
 -- no transaction is under way, and the lines that the files held at first stand in the open connection
 abbrev pub Finds : Image → State → Type 0
 Finds image s = (s.in_transaction ≡ false)
@@ -51,3 +60,7 @@ abbrev pub KeepsFound : Image → State → Type 0
 KeepsFound image s = HasCleanDisk s → (lines : List Line) → StartsWith image lines
     → (IsTrue s.is_open → told_in s.now ≡ rows_in lines)
     × ((db : Database) → MayFind s db → told_in db ≡ rows_in lines)
+
+-- a load over a connection of files fails, where the store is clean then
+abbrev pub FailsClean : State → State → Type 0
+FailsClean old new = HasCleanDisk new → FailsToLoad old new

@@ -33,13 +33,14 @@ IsFound age s rows = HasCleanDisk s → IsTrue s.is_open × HoldsAs age s.now ro
 abbrev pub IsHeld : State → Rows → Type 0
 IsHeld s rows = HasCleanDisk s → IsTrue s.is_open × HoldsTables s.now rows
 
--- where the lists of tables are known to be so long, a connection that is up holds tables of these lengths, and an open
--- after a crash finds what it holds
+-- a connection holds tables whose lists are so long
 pub record Known (s : State) (lengths : Lengths) : Type 0 where
   pub rows : Rows
   pub holds : HoldsTables s.now rows
   pub long : shape_of rows ≡ lengths
 
+-- where the lists of tables are known to be so long, a connection that is up holds tables of these lengths, and an open
+-- after a crash finds what it holds
 abbrev pub Knows : State → Option Lengths → Type 0
 Knows s None = ⊤
 Knows s (Some lengths) = Lasts s × (IsUp s → Known s lengths)

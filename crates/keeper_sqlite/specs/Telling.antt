@@ -3,7 +3,7 @@ use Rattle.std.specs.Prelude.{◌≡◌, ℕ, ℤ, pos, negsuc, Bool, true, fals
 use Rattle.std.specs.Prelude.{Some, None, option_map, option_and_then}
 use Rattle.desk_words.specs.Tables.{Rows, empty_rows}
 use Rattle.desk_packing.specs.Lines.{Line}
-use Rattle.desk_packing.specs.Reading.{rows_in}
+use Rattle.desk_packing.specs.Reading.{rows_in, ◌>>=◌}
 use Rattle.desk_packing.specs.Stands.{StandIn}
 use Rattle.row_store.specs.declared.footing.Footing.{Footing}
 use Rattle.row_store.specs.declared.footing.Footing.TheVariants.{Blank, Desk, Other}
@@ -40,10 +40,12 @@ bytes_in _ = None
 
 -- the line that the columns of a stored row are, where they are one
 abbrev pub columns_in : Row → Option Line
-columns_in row =
-    option_and_then (λ kind. option_and_then (λ owner. option_and_then (λ place. option_map
-    (λ body. record { kind = kind; owner = owner; place = place; body = body })
-    (bytes_in (column row 4))) (number_in (column row 3))) (number_in (column row 2))) (number_in (column row 1))
+columns_in row = do
+  kind ← number_in (column row 1)
+  owner ← number_in (column row 2)
+  place ← number_in (column row 3)
+  body ← bytes_in (column row 4)
+  Some (record { kind = kind; owner = owner; place = place; body = body })
 
 -- the line that a stored row is, where it is one
 abbrev pub line_in : Row → Option Line

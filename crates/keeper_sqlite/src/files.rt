@@ -1,5 +1,5 @@
 //! A keeper over the files at a path. It opens them with its first `load`.
-ghost use Rattle.std.specs.Prelude.{◌≡◌, ◌≤◌, None, Some, IfOk, IsErrOf, IsSome, OnOk, OnErr};
+ghost use Rattle.std.specs.Prelude.{◌≡◌, ◌≤◌, None, Some, Err, IfOk, IsErrOf, IsSome, OnOk, OnErr};
 ghost use Rattle.desk_words.specs.Tables.{AreTables, rows_of};
 ghost use Rattle.keeper_core.specs.Keeping.{ChangeTold, CountsFailures, FailsRise, FitTold};
 ghost use Rattle.keeper_core.specs.Keeping.{IsLoaded, NeverFails, StayTold};
@@ -7,7 +7,9 @@ ghost use Rattle.row_store.specs.Calls.{Becomes, Lasts, Leaves, Stays};
 ghost use Rattle.sqlite.specs.State.{HasCleanDisk};
 ghost use Rattle.sqlite.specs.WalFiles.{image_at};
 ghost use Rattle.keeper_sqlite.specs.Causes.{FailsToCommit};
-ghost use Rattle.keeper_sqlite.specs.Files.{Finds, IfLoaded, IfOpen, IfOpened, KeepsFound, told_opened};
+ghost use Rattle.keeper_sqlite.specs.Files.{FailsClean, Finds, IfLoaded, IfOpen, IfOpened};
+ghost use Rattle.keeper_sqlite.specs.Files.{IfUnloaded, KeepsFound, told_opened};
+ghost use Rattle.keeper_sqlite.specs.Keeping.{connection_of, lengths_of};
 ghost use Rattle.keeper_sqlite.specs.Steps.{ChangesTables, IsHeld, KeepsTold};
 
 use crate::fault::{count, store_fail};
@@ -16,6 +18,7 @@ use desk_base::{List, Str};
 use desk_words::{Change, Tables};
 use keeper_core::{KeepFail, Keeper};
 use sqlite::{Alter, FileFrom, FileStore, Start, Unknown};
+use std::marker::Model;
 
 /// What keeps tables in the files of `S`, once they are open.
 type Opened<S> = OpenTables<FileStore<FileFrom<S>>>;
@@ -30,6 +33,16 @@ pub struct FileKeeper<'r, S: Start, T: Alter> {
     faults: u64,
 }
 
+impl<'r, S: Start, T: Alter> Model for FileKeeper<'r, S, T> {
+    ghost use Rattle.keeper_sqlite.specs.Keeping.{Filed, filed_code};
+
+    ghost Value = { Filed S T };
+
+    ghost coded = { filed_code S.code T.code };
+
+    ghost view = { λ k. record { path = k.path; start = k.start; tables = k.tables; faults = k.faults } };
+}
+
 /// The keeper of a program. Of the files it says nothing that a clause could use (`Unknown`): what it does is what
 /// `FileKeeper` does over any files.
 pub type SqlKeeper<'r> = FileKeeper<'r, Unknown, FileStore<FileFrom<Unknown>>>;
@@ -37,7 +50,8 @@ pub type SqlKeeper<'r> = FileKeeper<'r, Unknown, FileStore<FileFrom<Unknown>>>;
 impl<'r> FileKeeper<'r, Unknown, FileStore<FileFrom<Unknown>>> {
     /// The keeper over the files at this path, none of which is touched yet.
     pub fn at(rt: &'r HostRuntime, path: Str) -> SqlKeeper<'r>
-        ensures { (result.tables ≡ None) × (result.faults ≡ 0) }
+        ensures new { (result.path ≡ path) × IsSome result.start }
+        ensures shut { (result.tables ≡ None) × (result.faults ≡ 0) }
     {
         FileKeeper::over(rt, path, Unknown)
     }
@@ -50,7 +64,7 @@ impl<'r, S: Start> FileKeeper<'r, S, FileStore<FileFrom<S>>> {
         path: Str,
         start: S,
     ) -> FileKeeper<'r, S, FileStore<FileFrom<S>>>
-        ensures { (result.tables ≡ None) × (result.faults ≡ 0) }
+        ensures { result ≡ record { path = path; start = Some start; tables = None; faults = 0 } }
     {
         FileKeeper {
             rt,
@@ -82,7 +96,7 @@ impl<'r, S: Start> FileKeeper<'r, S, FileStore<FileFrom<S>>> {
                 self.tables = Some(OpenTables::over(connection));
                 Ok(())
             }
-            Err(error) => Err(store_fail(error)),
+            Err((error, _left)) => Err(store_fail(error)),
         }
     }
 }
@@ -104,12 +118,13 @@ impl<'r, S: Start> Keeper for FileKeeper<'r, S, FileStore<FileFrom<S>>> {
         ensures cause { FailsRise self.old.faults self.new.faults result }
         ensures steady { ⊥ → NeverFails result × ⊥ }
 
-        // What stands in the table then, what a crash leaves, what of it stood in the files at first, and the count of
-        // faults.
+        // What stands in the table then, what a crash leaves, what of it stood in the files at first, why it fails, and
+        // the count of faults.
         ensures held { IfOk result (λ made. IfOpened self.new.tables (λ s. IsHeld s (rows_of made))) }
         ensures keeps { IfOpen self.old.tables self.new.tables KeepsTold }
         ensures found { self.old.tables ≡ None → IfOpened self.new.tables (KeepsFound (image_at S.Start)) }
         ensures lasts { OnOk result (IfOpened self.new.tables Lasts) }
+        ensures fails { IsErrOf result KeepFail.Failed → IfUnloaded self.old.tables self.new.tables FailsClean }
         ensures faults { CountsFailures self.old.faults self.new.faults result }
     {
         if let Err(fail) = self.open_once() {
@@ -137,6 +152,8 @@ impl<'r, S: Start> Keeper for FileKeeper<'r, S, FileStore<FileFrom<S>>> {
         ensures stays { OnErr result (IfOpen self.old.tables self.new.tables Stays) }
         ensures crash { IfLoaded self.old.tables self.new.tables (λ _. Leaves (ChangesTables changes.now)) }
         ensures lasts { OnOk result (IfOpened self.new.tables Lasts) }
+        ensures early { lengths_of self.old.tables ≡ None
+            → (result ≡ Err KeepFail.Failed) × (connection_of self.new.tables ≡ connection_of self.old.tables) }
         ensures fails { IsErrOf result KeepFail.Failed → IfLoaded self.old.tables self.new.tables (λ lengths old new.
             HasCleanDisk new → FailsToCommit lengths changes.now old new) }
         ensures faults { CountsFailures self.old.faults self.new.faults result }
@@ -156,6 +173,7 @@ fn load_opened<S: Start>(tables: &mut Option<Opened<S>>) -> Result<Tables, KeepF
     ensures held { IfOk result (λ made. IfOpened tables.new (λ s. IsHeld s (rows_of made))) }
     ensures keeps { IfOpen tables.old tables.new KeepsTold }
     ensures lasts { OnOk result (IfOpened tables.new Lasts) }
+    ensures fails { IsErrOf result KeepFail.Failed → IfUnloaded tables.old tables.new FailsClean }
 {
     match tables {
         Some(tables) => tables.load(),
@@ -175,6 +193,8 @@ fn commit_opened<S: Start>(
     ensures stays { OnErr result (IfOpen tables.old tables.new Stays) }
     ensures crash { IfLoaded tables.old tables.new (λ _. Leaves (ChangesTables changes.now)) }
     ensures lasts { OnOk result (IfOpened tables.new Lasts) }
+    ensures early { lengths_of tables.old ≡ None
+        → (result ≡ Err KeepFail.Failed) × (connection_of tables.new ≡ connection_of tables.old) }
     ensures fails { IsErrOf result KeepFail.Failed → IfLoaded tables.old tables.new (λ lengths old new.
         HasCleanDisk new → FailsToCommit lengths changes.now old new) }
 {

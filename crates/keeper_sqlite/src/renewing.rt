@@ -77,11 +77,11 @@ fn migrate<S: Alter>(
         → IsStopped (state S.Store conn.old) (state S.Store conn.new)
         ⊎ LacksRoomToRenew Age.Old (rows_of tables.now) (state S.Store conn.old).now }
 {
-    let rows = match migrated(alloc, tables) {
-        Ok(rows) => rows,
+    let renewed = match migrated(alloc, tables) {
+        Ok(renewed) => renewed,
         Err(fault) => return Err(pack_fail(fault)),
     };
-    match put_rows(conn, rows.as_slice()) {
+    match put_rows(conn, renewed.as_slice()) {
         Ok(()) => Ok(()),
         Err(error) => Err(store_fail(error)),
     }

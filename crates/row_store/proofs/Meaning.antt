@@ -71,13 +71,19 @@ creates old new (Ok count) blank h =
     let now : new.now ≡ first.0 =
     ap (λ (p : Tally × Database). p.1) (same_value all.2) ∙ same_value (rw plain at first.2) in
     let empty : new.now.trees 0 ≡ [] =
-    ap (λ (d : Database). d.trees 0) now ∙ subst (λ s. first.0.trees (next_tree s) ≡ []) has made.empty in (
-      (
+    ap (λ (d : Database). d.trees 0) now ∙ subst (λ s. first.0.trees (next_tree s) ≡ []) has made.empty in
+    record {
+      adds = record {
+        table = made.table;
+        defined = made.defined;
+        added = ap (λ (d : Database). d.schema) now ∙ made.is;
+      };
+      stands = (
         subst (λ s. IsTrue (is_desk s)) (sym (ap (λ (d : Database). d.schema) now ∙ schema)) refl,
         record { keyed = rw empty tt; same = rw empty (IsPermutation-refl []) },
-      ),
-      w.sound,
-    )
+      );
+      sound = w.sound;
+    }
 
 -- the first three columns that an output shows are what it is sorted by
 abbrev Agrees : Output → Type 0

@@ -2,3 +2,4 @@ pub mod Table
 pub mod Stored
 pub mod Calls
 pub mod Refusals
+pub mod Opening

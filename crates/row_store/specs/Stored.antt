@@ -1,9 +1,11 @@
 -- The table's rows as lines, and what rows that are put make of them.
-use Rattle.std.specs.Prelude.{◌≡◌, ◌≢◌, ℤ, pos, IsTrue, List, [], ◌∷◌, map, IsPermutation, IsSorted}
+use Rattle.std.specs.Prelude.{◌≡◌, ◌≢◌, ℤ, pos, IsTrue, List, [], ◌∷◌, map, Ok, IsPermutation, IsSorted}
 use Rattle.std.specs.List.{AllByRecursion}
 use Rattle.std.specs.declared.cmp.Ordering.{Ordering}
 use Rattle.desk_packing.specs.Lines.{Line, put_lines}
 use Rattle.sqlite.specs.declared.types.Value.TheVariants.{Int, Blob}
+use Rattle.sqlite.specs.Change.{created}
+use Rattle.sqlite.specs.Compile.{table_defined_by}
 use Rattle.sqlite.specs.Effect.{Database, IsDatabase}
 use Rattle.sqlite.specs.Files.{HoldsDatabase}
 use Rattle.sqlite.specs.Order.{Row, column}
@@ -13,7 +15,7 @@ use Rattle.sqlite.specs.Tree.{Trees, rowid}
 use Rattle.sqlite_catalog.specs.Listing.{IsSound}
 use Rattle.sqlite_sql.specs.Query.{key_cmp}
 use Rattle.sqlite_wal.specs.Recovery.{Image}
-use Rattle.row_store.specs.Table.{ascending, is_desk}
+use Rattle.row_store.specs.Table.{ascending, create_text, is_desk}
 
 -- the four columns of a stored row, which begins with its rowid
 abbrev pub shown_row : Row → Row
@@ -62,9 +64,17 @@ Puts more old new = (lines : List Line) → Stands old lines → Stands new (put
 abbrev pub PutsIn : List Line → Database → Trees → Type 0
 PutsIn more old trees = (now : Database) × Puts more old now × (trees ≡ now.trees)
 
--- the table is made, and no row stands in it
-abbrev pub MakesTable : Database → Database → Type 0
-MakesTable old new = Stands new [] × IsDatabase new
+-- the schema is what the text of the table makes of the one before
+pub record AddsTable (old new : Schema) : Type 0 where
+  pub table : Table
+  pub defined : table_defined_by create_text ≡ Ok table
+  pub added : new ≡ created old table
+
+-- the table is made and nothing else, and no row stands in it
+pub record MakesTable (old new : Database) : Type 0 where
+  pub adds : AddsTable old.schema new.schema
+  pub stands : Stands new []
+  pub sound : IsDatabase new
 
 -- trees in which it is made so
 abbrev pub MakesTableIn : Database → Trees → Type 0

@@ -1,7 +1,7 @@
 //! The desk's one SQL table as lines: found, made, put and read over any store.
 //!
 //! A clause sees of a connection the database that it holds, where its store is clean and it is open
-//! (`specs/Seen.antt`), and of that database which lines stand in its table (`specs/Stored.antt`).
+//! (`specs/Calls.antt`), and of that database which lines stand in its table (`specs/Stored.antt`).
 #![tactic(auto)]
 
 mod footing;
@@ -13,6 +13,6 @@ mod rest;
 
 pub use footing::{Footing, footing_of};
 pub use making::make_table;
-pub use opening::open;
+pub use opening::{Opening, open};
 pub use putting::put_rows;
 pub use reading::all_rows;

@@ -28,6 +28,13 @@ struct Runs {
 }
 
 impl Subject for Runs {
+    fn reads(&self, _kind: &str, _case: &Case, part: &Part) -> bool {
+        matches!(
+            part.name.as_str(),
+            "request" | "sent" | "sent 2" | "sent 3" | "rows" | "words" | "words 2" | "requests"
+        )
+    }
+
     fn answer(&mut self, alloc: Global, kind: &str, case: &Case) -> Result<Vec<Part>, Fail> {
         match kind {
             "desk" => {

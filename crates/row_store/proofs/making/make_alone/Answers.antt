@@ -12,6 +12,10 @@ use Rattle.row_store.proofs.Refused.{passed_on, stopped_within, uncommitted}
 abbrev Crash : {S : Type 0} → Ghosts S → Held S → Held S → Type 0
 Crash g old end = Survives (state g old) (state g end) (MakesTableIn (state g old).now)
 
+-- the table was made of what this connection held
+abbrev Made : {S : Type 0} → Ghosts S → Held S → Held S → Type 0
+Made g end old = HasCleanDisk (state g end) → MakesTable (state g old).now (state g end).now
+
 after_crash : {S : Type 0} (g : Ghosts S) (old last end : Held S)
     → Survives (state g (record old { in_transaction = true })) (state g last) (λ _. ⊥)
     → (HasCleanDisk (state g last) → MakesTable (state g old).now (state g last).now)
@@ -27,9 +31,11 @@ returns-clause-survives g c =
     let begun =
     subst (λ h. Survives (state g.S.Store h) (state g.S.Store c.make_in.new.tx.conn.now) (λ _. ⊥))
     c.transaction-tx.ensures.begun c.make_in.ensures.survives in
+    let made =
+    subst (Made g.S.Store c.make_in.new.tx.conn.now) c.transaction-tx.ensures.begun c.in_ok-make_in.ensures.made in
     let crash =
-    after_crash g.S.Store c.args.conn.now c.make_in.new.tx.conn.now c.commit.new.self.0 begun
-    c.in_ok-make_in.ensures.made c.commit.ensures.survives in
+    after_crash g.S.Store c.args.conn.now c.make_in.new.tx.conn.now c.commit.new.self.0 begun made
+    c.commit.ensures.survives in
     let same : c.commit.new.self.0 ≡ c.conn-2-1.given.0 = search rules in
     subst (Crash g.S.Store c.args.conn.now) same crash
 
@@ -38,9 +44,11 @@ returns-in_err-commit-clause-survives g c =
     let begun =
     subst (λ h. Survives (state g.S.Store h) (state g.S.Store c.make_in.new.tx.conn.now) (λ _. ⊥))
     c.transaction-tx.ensures.begun c.make_in.ensures.survives in
+    let made =
+    subst (Made g.S.Store c.make_in.new.tx.conn.now) c.transaction-tx.ensures.begun c.in_ok-make_in.ensures.made in
     let crash =
-    after_crash g.S.Store c.args.conn.now c.make_in.new.tx.conn.now c.commit.new.self.0 begun
-    c.in_ok-make_in.ensures.made c.commit.ensures.survives in
+    after_crash g.S.Store c.args.conn.now c.make_in.new.tx.conn.now c.commit.new.self.0 begun made
+    c.commit.ensures.survives in
     let same : c.commit.new.self.0 ≡ c.conn-2-1.given.0 = search rules in
     subst (Crash g.S.Store c.args.conn.now) same crash
 

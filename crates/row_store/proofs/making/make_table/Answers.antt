@@ -14,7 +14,7 @@ returns-clause-crash g c =
     (state g.S.Store c.make_alone.new.conn)
     (λ trees opened left. g.met.S.Store.settled c.args.conn.now.store trees opened left) c.in_ok-at_rest.ensures.rests
     c.make_alone.ensures.survives
-    (λ opened clean db found obeys. let same = same_database db found.0 found.2 obeys found.1.1 in rw same found.1)
+    (λ opened clean db found obeys. let same = same_database db found.0 found.2 obeys found.1.sound in rw same found.1)
 
 pub returns-clause-goes_on : goal.returns-clause-goes_on
 returns-clause-goes_on g c =

@@ -4,8 +4,8 @@ use Rattle.keeper_sqlite.proofs.files.FileKeeper+S+FileStore+FileFrom+S.open_onc
 
 pub returns-in-Ok-clause-told : goal.returns-in-Ok-clause-told
 returns-in-Ok-clause-told g c =
-    let none = none_of c.args.self.now.tables (sym c.is_some.ensures ∙ c.if-is_some.false) in
-    rw (none, c.over.ensures) refl
+    let none = none_of c.self.inside.tables (sym c.is_some.ensures ∙ c.if-is_some.false) in
+    rw (← c.self.view_is) (rw (none, c.over.ensures) refl)
 
 pub returns-in-Ok-clause-found : goal.returns-in-Ok-clause-found
 returns-in-Ok-clause-found g c first =
