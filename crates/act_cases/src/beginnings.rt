@@ -2,9 +2,9 @@
 ghost use Rattle.std.specs.Prelude.{IfOk};
 ghost use Rattle.desk_words.specs.Tables.{AreTables, rows_of};
 
-use crate::kept_desk::KeptDesk;
 use desk_base::NoMemory;
 use desk_cases::Case;
+use desk_trials::KeptDesk;
 use desk_words::Tables;
 use keeper_core::{Keeper, MemKeeper};
 use std::alloc::Global;

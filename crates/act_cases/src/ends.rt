@@ -1,15 +1,14 @@
 //! What is asked of a desk behind the steps of a case.
-use crate::kept_desk::KeptDesk;
 use crate::showing::{counts, sessions};
-use crate::trace::Trace;
 use desk_cases::{Case, Part};
+use desk_trials::KeptDesk;
 use std::alloc::Global;
 use std::test::Fail;
 
 /// What is told of the tables in the end, where a case has such a part.
 const ASKED: [&str; 3] = ["rows", "sessions", "turn"];
 
-/// Tells what a case asks of the tables in the end, and where the keeper has others than the desk.
+/// Tells what a case asks of the tables in the end, and has the book of the first edition held.
 pub fn tell_end(
     alloc: Global,
     desk: &mut KeptDesk,
@@ -21,7 +20,7 @@ pub fn tell_end(
             answer.push(told(alloc, desk, name)?)?;
         }
     }
-    tell_keeper(alloc, desk, answer)
+    desk.hold(0)
 }
 
 fn told(alloc: Global, desk: &KeptDesk, name: &str) -> Result<Part, Fail> {
@@ -35,13 +34,4 @@ fn text_of(alloc: Global, desk: &KeptDesk, name: &str) -> Result<String, Fail> {
         "sessions" => sessions(alloc, desk.tables()),
         _ => Ok(format!(in alloc; "{}", desk.turn())?),
     }
-}
-
-/// Tells where the keeper has not the tables of the desk, and has the first edition's book held.
-fn tell_keeper(alloc: Global, desk: &mut KeptDesk, answer: &mut Vec<Part>) -> Result<(), Fail> {
-    let kept = desk.load()?;
-    if Trace::of(&kept) != Trace::of(desk.tables()) {
-        answer.push(Part::new(alloc, "keeper", b"has other tables")?)?;
-    }
-    desk.hold(0)
 }

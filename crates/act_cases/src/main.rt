@@ -5,7 +5,6 @@
 
 mod beginnings;
 mod ends;
-mod kept_desk;
 mod numbering;
 mod replies;
 mod requests;
@@ -16,10 +15,10 @@ mod trace;
 
 use crate::beginnings::Beginnings;
 use crate::ends::tell_end;
-use crate::kept_desk::KeptDesk;
-use crate::steps::make_steps;
+use crate::steps::{is_step, make_steps};
 use desk_base::List;
 use desk_cases::{Case, Part, Subject, try_files};
+use desk_trials::KeptDesk;
 use http_cut::Routes;
 use machine_core::StartFail;
 use std::alloc::Global;
@@ -49,6 +48,10 @@ impl Desks {
 }
 
 impl Subject for Desks {
+    fn reads(&self, _kind: &str, _case: &Case, part: &Part) -> bool {
+        is_step(part) || matches!(part.name.as_str(), "from" | "named" | "fails")
+    }
+
     fn answer(&mut self, alloc: Global, kind: &str, case: &Case) -> Result<Vec<Part>, Fail> {
         if kind != "desk" {
             return Err(Fail::new("a file of cases has an unknown kind"));

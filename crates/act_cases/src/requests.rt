@@ -1,14 +1,11 @@
 //! The request of a step, and the reply to it.
-ghost use Rattle.std.specs.Prelude.{IsTrue};
-ghost use Rattle.machine_core.specs.Ticket.{IsNumbered};
-
-use crate::kept_desk::KeptDesk;
 use crate::replies::{told, unread};
 use crate::targets::route_of;
-use desk_base::MAX_REQUEST;
 use desk_json::command_of;
+use desk_trials::KeptDesk;
 use desk_words::{Command, Digest};
 use http_cut::Routes;
+use machine_core::is_numbered;
 use std::alloc::Global;
 use std::test::Fail;
 
@@ -60,16 +57,4 @@ fn digest_of(name: &str) -> Digest {
         *slot = *byte;
     }
     Digest { bytes }
-}
-
-/// Whether a write has a number that a write may have.
-fn is_numbered(command: &Command) -> bool
-    ensures { IsTrue result → IsNumbered command.now }
-{
-    match command {
-        Command::Steward(ticket, _) | Command::Clerk(_, ticket, _) => {
-            1 <= ticket.number && ticket.number <= MAX_REQUEST
-        }
-        Command::Look(_, _) | Command::DeskReport | Command::DeskDerive { .. } => true,
-    }
 }

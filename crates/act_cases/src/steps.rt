@@ -1,9 +1,9 @@
 //! The steps of a case: each part that is a request, in their order.
-use crate::kept_desk::KeptDesk;
 use crate::numbering::numbered;
 use crate::requests::replied;
 use crate::trace::Trace;
 use desk_cases::{Case, Part};
+use desk_trials::KeptDesk;
 use http_cut::Routes;
 use std::alloc::Global;
 use std::test::Fail;
@@ -25,7 +25,7 @@ pub fn make_steps(
 }
 
 /// Whether a part is a step: it begins with a target.
-fn is_step(part: &Part) -> bool {
+pub fn is_step(part: &Part) -> bool {
     part.content.as_slice().starts_with(b"/")
 }
 

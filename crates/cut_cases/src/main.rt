@@ -23,6 +23,10 @@ struct Cutting {
 }
 
 impl Subject for Cutting {
+    fn reads(&self, _kind: &str, _case: &Case, part: &Part) -> bool {
+        part.name.as_str() != "wanted"
+    }
+
     fn answer(&mut self, alloc: Global, kind: &str, case: &Case) -> Result<Vec<Part>, Fail> {
         let wanted = match kind {
             "stream" => streams::cut(alloc, &self.routes, case)?,

@@ -1,5 +1,5 @@
 //! What the generator makes: its draws, and the requests of its stream.
-ghost use Rattle.std.specs.Prelude.{◌^◌, ◌<◌, ◌≤◌, IfOk};
+ghost use Rattle.std.specs.Prelude.{◌^◌, ◌<◌, IfOk};
 ghost use Rattle.http_cut.specs.declared.step.Step.TheVariants as steps;
 ghost use Rattle.http_cut.specs.Looks.{IsStep};
 
@@ -37,9 +37,7 @@ pub fn request(alloc: Global, routes: &Routes, case: &Case) -> Result<String, Fa
 }
 
 /// How many sessions are opened.
-fn count(case: &Case) -> Result<u32, Fail>
-    ensures { IfOk result (λ count. (1 ≤ count) × (count ≤ 5000)) }
-{
+fn count(case: &Case) -> Result<u32, Fail> {
     match case.number("count") {
         Some(count) if (1..=5_000).contains(&count) => Ok(count as u32),
         _ => Err(Fail::new("a case has no number of sessions that is allowed")),

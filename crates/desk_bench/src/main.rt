@@ -10,9 +10,9 @@ ghost use Rattle.fix_model.specs.Valid.{IsValid};
 mod desk;
 mod looks;
 mod sessions;
-mod sitting;
 mod sizes;
 mod texts;
+mod writes;
 
 use crate::desk::{clock, kit_of, tell};
 use crate::looks::{LOOKS, rows_found};

@@ -1,9 +1,10 @@
 //! A clerk who enters sessions on a desk with one edition, without a store.
 use crate::desk::{clock, tell};
-use crate::sitting::Sitting;
 use crate::sizes::Sizes;
 use crate::texts::{SCHEMA, rules_text, sheet_text};
+use crate::writes::{publish, write};
 use desk_base::{List, NoMemory, Str};
+use desk_trials::KeptDesk;
 use desk_words::{ClerkWork, StewardWork};
 use std::alloc::Global;
 use std::test::Fail;
@@ -21,8 +22,8 @@ pub fn enter_sessions<R: Print + Eprint + CpuClock>(
     alloc: Global,
     sizes: Sizes,
 ) -> Result<(), Fail> {
-    let mut sitting = Sitting::begin(alloc)?;
-    publish_and_enter(rt, alloc, &mut sitting, sizes)
+    let mut desk = KeptDesk::fresh(alloc)?;
+    publish_and_enter(rt, alloc, &mut desk, sizes)
 }
 
 /// Publishes the edition, and enters the sessions. The desk is lent, since a function with many ways out that lets it
@@ -30,25 +31,25 @@ pub fn enter_sessions<R: Print + Eprint + CpuClock>(
 fn publish_and_enter<R: Print + Eprint + CpuClock>(
     rt: &R,
     alloc: Global,
-    sitting: &mut Sitting,
+    desk: &mut KeptDesk,
     sizes: Sizes,
 ) -> Result<(), Fail> {
-    publish(alloc, sitting, sizes)?;
-    enter_first(rt, alloc, sitting, sizes)?;
-    enter_last(rt, alloc, sitting, sizes)?;
-    tell_count(rt, sitting.turn())
+    publish_edition(alloc, desk, sizes)?;
+    enter_first(rt, alloc, desk, sizes)?;
+    enter_last(rt, alloc, desk, sizes)?;
+    tell_count(rt, desk.turn())
 }
 
 /// Enters all sessions but the last fifty.
 fn enter_first<R: Eprint + CpuClock>(
     rt: &R,
     alloc: Global,
-    sitting: &mut Sitting,
+    desk: &mut KeptDesk,
     sizes: Sizes,
 ) -> Result<(), Fail> {
     let count = sizes.sessions.saturating_sub(TIMED);
     let start = clock(rt)?;
-    enter_all(alloc, sitting, sizes.rows, 0, count)?;
+    enter_all(alloc, desk, sizes.rows, 0, count)?;
     Ok(tell(rt, "the sessions before the last 50", start)?)
 }
 
@@ -56,12 +57,12 @@ fn enter_first<R: Eprint + CpuClock>(
 fn enter_last<R: Eprint + CpuClock>(
     rt: &R,
     alloc: Global,
-    sitting: &mut Sitting,
+    desk: &mut KeptDesk,
     sizes: Sizes,
 ) -> Result<(), Fail> {
     let first = sizes.sessions.saturating_sub(TIMED);
     let start = clock(rt)?;
-    enter_all(alloc, sitting, sizes.rows, first, sizes.sessions)?;
+    enter_all(alloc, desk, sizes.rows, first, sizes.sessions)?;
     Ok(tell(rt, "the last 50 sessions", start)?)
 }
 
@@ -72,14 +73,14 @@ fn tell_count<R: Print>(rt: &R, turn: u64) -> Result<(), Fail> {
 }
 
 /// Makes the clerk, and publishes the edition.
-fn publish(alloc: Global, sitting: &mut Sitting, sizes: Sizes) -> Result<(), Fail> {
+fn publish_edition(alloc: Global, desk: &mut KeptDesk, sizes: Sizes) -> Result<(), Fail> {
     let sheet = sheet_text(alloc, sizes.rows)?;
     let rules = rules_text(alloc, sizes.rules)?;
-    sitting.publish(1, clerk(alloc)?)?;
-    sitting.publish(2, schema(alloc)?)?;
-    sitting.publish(3, master(alloc, sheet.as_bytes())?)?;
-    sitting.publish(4, rulebook(alloc, rules.as_bytes())?)?;
-    sitting.publish(5, edition(alloc)?)
+    publish(desk, 1, clerk(alloc)?)?;
+    publish(desk, 2, schema(alloc)?)?;
+    publish(desk, 3, master(alloc, sheet.as_bytes())?)?;
+    publish(desk, 4, rulebook(alloc, rules.as_bytes())?)?;
+    publish(desk, 5, edition(alloc)?)
 }
 
 fn clerk(alloc: Global) -> Result<StewardWork, NoMemory> {
@@ -128,7 +129,7 @@ fn list_of(alloc: Global, bytes: &[u8]) -> Result<List<u8>, NoMemory> {
 /// Enters the sessions behind the first ones, up to so many.
 fn enter_all(
     alloc: Global,
-    sitting: &mut Sitting,
+    desk: &mut KeptDesk,
     rows: u32,
     first: u32,
     count: u32,
@@ -137,7 +138,7 @@ fn enter_all(
         // The rows of one session and the next lie far apart.
         let row = u64::from(place) * 7_919 % u64::from(rows.max(1));
         let work = enter(alloc, row)?;
-        sitting.write(Str::new(alloc, "amy")?, u64::from(place) + 1, work)?;
+        write(desk, Str::new(alloc, "amy")?, u64::from(place) + 1, work)?;
     }
     Ok(())
 }

@@ -22,6 +22,34 @@ impl Part {
     pub fn truth(alloc: Global, name: &str, holds: bool) -> Result<Part, NoMemory> {
         Part::new(alloc, name, if holds { b"yes" } else { b"no" })
     }
+
+    /// A part that is a number.
+    pub fn number(alloc: Global, name: &str, number: u64) -> Result<Part, Fail> {
+        let number = format!(in alloc; "{number}")?;
+        Ok(Part::new(alloc, name, number.as_str().as_bytes())?)
+    }
+
+    /// Whether a part that is text has this word.
+    pub fn has_word(&self, word: &str) -> bool {
+        match std::str::from_utf8(self.content.as_slice()) {
+            Ok(text) => text.split_whitespace().any(|other| other == word),
+            Err(_) => false,
+        }
+    }
+}
+
+/// Adds a part to an answer, unless a part of this name and content is there: what is answered alike many times is told
+/// once.
+pub fn add_once(answer: &mut Vec<Part>, part: Part) -> Result<(), NoMemory> {
+    for other in answer.as_slice() {
+        if other.name.as_str() == part.name.as_str()
+            && other.content.as_slice() == part.content.as_slice()
+        {
+            return Ok(());
+        }
+    }
+    answer.push(part)?;
+    Ok(())
 }
 
 /// A case.
@@ -50,6 +78,16 @@ impl Case {
             Some(content) => Ok(content),
             None => Err(Fail::new("a case has not a part that is wanted")),
         }
+    }
+
+    /// Whether one of the parts with these names has a word.
+    pub fn has_word(&self, names: &[&str], word: &str) -> bool {
+        for part in &self.parts {
+            if (&*names).contains(&part.name.as_str()) && part.has_word(word) {
+                return true;
+            }
+        }
+        false
     }
 
     /// A part that is one text.

@@ -7,10 +7,12 @@
 mod case;
 mod escapes;
 mod fault;
+mod judging;
 mod reading;
 mod trying;
 
-pub use case::{Case, Part};
+pub use case::{Case, Part, add_once};
 pub use fault::CaseFault;
+pub use judging::{Difference, differences};
 pub use reading::cases;
 pub use trying::{Subject, Tally, try_files};

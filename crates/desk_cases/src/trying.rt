@@ -2,6 +2,7 @@
 ghost use Rattle.std.specs.Prelude.{◌≡◌, ◌+◌, ◌^◌, ◌-◌, min, if◌then◌else◌};
 
 use crate::case::{Case, Part};
+use crate::judging::{Difference, differences};
 use crate::reading::cases;
 use std::alloc::Global;
 use std::env::Env;
@@ -9,10 +10,12 @@ use std::rt::Files;
 use std::test::Fail;
 use std::{env, fs};
 
-/// What answers cases.
+/// What answers cases. The kind of a case is the name of its file up to its first `-` or `.`.
 pub trait Subject {
-    /// The answer to a case, as the parts that the case should have. The kind is the name of the case's file
-    /// up to its first `-` or `.`.
+    /// Whether a part of a case is read as input. Every other part is wanted.
+    fn reads(&self, kind: &str, case: &Case, part: &Part) -> bool;
+
+    /// The answer to a case, as the parts that are wanted of it.
     fn answer(&mut self, alloc: Global, kind: &str, case: &Case) -> Result<Vec<Part>, Fail>;
 }
 
@@ -69,14 +72,45 @@ fn try_file<R: Files + Print + AllocGlobal, S: Subject>(
     file: &str,
 ) -> Result<(), Fail> {
     let bytes = fs::read(rt, file)?;
-    let kind = kind_of(file);
     let found = cases(rt.alloc(), bytes.as_slice())?;
     for case in &found {
-        let answer = subject.answer(rt.alloc(), kind, case)?;
-        let is_as_wanted = tell_differences(rt, file, case, answer.as_slice())?;
+        let is_as_wanted = try_case(rt, subject, file, case)?;
         tally.count(is_as_wanted);
     }
     Ok(())
+}
+
+/// Tries a case, tells each difference, and answers whether there is none.
+fn try_case<R: Print + AllocGlobal, S: Subject>(
+    rt: &R,
+    subject: &mut S,
+    file: &str,
+    case: &Case,
+) -> Result<bool, Fail> {
+    let kind = kind_of(file);
+    let answer = subject.answer(rt.alloc(), kind, case)?;
+    let wanted = wanted_of(rt.alloc(), subject, kind, case)?;
+    let found = differences(rt.alloc(), wanted.as_slice(), answer)?;
+    for difference in &found {
+        tell(rt, file, case, difference)?;
+    }
+    Ok(found.is_empty())
+}
+
+/// The parts of a case that are wanted: those that are not read.
+fn wanted_of<'c, S: Subject>(
+    alloc: Global,
+    subject: &S,
+    kind: &str,
+    case: &'c Case,
+) -> Result<Vec<&'c Part>, Fail> {
+    let mut wanted = Vec::new(alloc);
+    for part in &case.parts {
+        if !subject.reads(kind, case, part) {
+            wanted.push(part)?;
+        }
+    }
+    Ok(wanted)
 }
 
 /// The name of a file, behind its folders, up to its first `-` or `.`.
@@ -85,25 +119,26 @@ fn kind_of(file: &str) -> &str {
     name.split(['-', '.']).next().unwrap_or(name)
 }
 
-/// Tells each part of an answer that the case has not, or has otherwise, and answers whether there is none.
-fn tell_differences<R: Print + AllocGlobal>(
+/// Tells a difference: the part, what is wanted of it, and what was answered.
+fn tell<R: Print + AllocGlobal>(
     rt: &R,
     file: &str,
     case: &Case,
-    answer: &[Part],
-) -> Result<bool, Fail> {
-    let mut is_as_wanted = true;
-    for part in answer {
-        let name = part.name.as_str();
-        let wanted = case.part(name).unwrap_or(b"(no such part)");
-        if wanted != part.content.as_slice() {
-            is_as_wanted = false;
-            let wanted = String::from_utf8_lossy(rt.alloc(), wanted)?;
-            let got = String::from_utf8_lossy(rt.alloc(), part.content.as_slice())?;
-            println!(rt; "{file}: {}: {name}", case.title)?;
-            println!(rt; "  wanted {:?}", wanted.as_str())?;
-            println!(rt; "  got    {:?}", got.as_str())?;
+    difference: &Difference<'_>,
+) -> Result<(), Fail> {
+    println!(rt; "{file}: {}: {}", case.title, difference.name())?;
+    tell_side(rt, "wanted", difference.wanted)?;
+    tell_side(rt, "got   ", difference.got.as_ref())
+}
+
+/// Tells the content of a part behind a word, or that there is no such part.
+fn tell_side<R: Print + AllocGlobal>(rt: &R, word: &str, part: Option<&Part>) -> Result<(), Fail> {
+    match part {
+        Some(part) => {
+            let content = String::from_utf8_lossy(rt.alloc(), part.content.as_slice())?;
+            println!(rt; "  {word} {:?}", content.as_str())?;
         }
+        None => println!(rt; "  {word} no such part")?,
     }
-    Ok(is_as_wanted)
+    Ok(())
 }

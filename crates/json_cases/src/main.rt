@@ -21,6 +21,13 @@ use std::test::Fail;
 struct Desk;
 
 impl Subject for Desk {
+    fn reads(&self, kind: &str, _case: &Case, part: &Part) -> bool {
+        match kind {
+            "body" => matches!(part.name.as_str(), "route" | "body"),
+            _ => part.name.as_str() != "text",
+        }
+    }
+
     fn answer(&mut self, alloc: Global, kind: &str, case: &Case) -> Result<Vec<Part>, Fail> {
         let part = match kind {
             "body" => bodies::read(alloc, case)?,

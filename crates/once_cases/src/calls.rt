@@ -146,8 +146,7 @@ fn add_other(
 
 /// The part that tells a status.
 pub fn status_part(alloc: Global, status: u8) -> Result<Part, Fail> {
-    let status = format!(in alloc; "{status}")?;
-    Ok(Part::new(alloc, "status", status.as_str().as_bytes())?)
+    Part::number(alloc, "status", u64::from(status))
 }
 
 /// A line without the LF at its end.

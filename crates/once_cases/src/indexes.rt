@@ -1,6 +1,6 @@
 //! The answer to a case over the indexes of its masters.
+use case_json::{Case, case_of};
 use desk_base::List;
-use desk_json::{Case, case_of};
 use fixdesk_run::answer_over;
 use master_index::{MapBook, SortedBook};
 use std::alloc::Global;

@@ -9,8 +9,8 @@ use std::test::Fail;
 /// How many rows the master has.
 const ROWS: u32 = 20_000;
 
-/// `built`, or why there is no index over 20,000 rows of five columns and rules of so many triples, one of which two rules
-/// have. Both indexes have to tell the same.
+/// `built`, or why there is no index over 20,000 rows of five columns and rules of so many triples, one of which two
+/// rules have. Both indexes have to tell the same.
 pub fn told(alloc: Global, case: &Case) -> Result<Vec<Part>, Fail> {
     let Some(triples) = case.number("triples") else {
         return Err(Fail::new("a case has no number of triples"));

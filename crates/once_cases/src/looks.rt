@@ -3,9 +3,9 @@ ghost use Rattle.std.specs.Prelude.{◌<◌, length};
 ghost use Rattle.fix_model.specs.States.{Fits};
 ghost use Rattle.fix_model.specs.Valid.{IsValid};
 
+use case_json::case_of;
 use desk_base::{Duplicate, Steps};
 use desk_cases::{Case, Part};
-use desk_json::case_of;
 use fix_model::{Book, Hit, Kit, ListBook, State, enabled};
 use master_index::{MapBook, SortedBook};
 use std::alloc::Global;
@@ -76,7 +76,7 @@ fn look<B: Book<()>>(book: &B, state: &State) -> Look
 }
 
 /// The first row and the other one, counted from 1.
-fn shown(alloc: Global, found: Option<Hit>) -> Result<String, Fail> {
+pub fn shown(alloc: Global, found: Option<Hit>) -> Result<String, Fail> {
     let Some(hit) = found else {
         return Ok(String::from_str(alloc, "none")?);
     };

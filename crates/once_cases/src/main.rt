@@ -6,6 +6,7 @@
 #![tactic(auto)]
 
 mod calls;
+mod finds;
 mod indexes;
 mod limits;
 mod looks;
@@ -21,8 +22,16 @@ use std::test::Fail;
 struct Runs;
 
 impl Subject for Runs {
+    fn reads(&self, _kind: &str, _case: &Case, part: &Part) -> bool {
+        matches!(
+            part.name.as_str(),
+            "word" | "words" | "input" | "cut" | "triples" | "keys" | "sought" | "put" | "get"
+        )
+    }
+
     fn answer(&mut self, alloc: Global, kind: &str, case: &Case) -> Result<Vec<Part>, Fail> {
         match kind {
+            "find" => finds::told(alloc, case),
             "index" => limits::told(alloc, case),
             "look" => looks::told(alloc, case),
             "once" => calls::answer(alloc, case),

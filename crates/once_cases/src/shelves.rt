@@ -6,8 +6,8 @@ use master_index::{Shelf, Shelved, SortedBook};
 use std::alloc::Global;
 use std::test::Fail;
 
-/// What is held of each edition that is got, in turn, behind those that were put: as many attributes as its number says,
-/// or `none`.
+/// What is held of each edition that is got, in turn, behind those that were put: as many attributes as its number
+/// says, or `none`.
 pub fn told(alloc: Global, case: &Case) -> Result<Vec<Part>, Fail> {
     let mut shelf = Shelf::new(alloc)?;
     for number in case.numbers(alloc, "put")?.as_slice() {

@@ -1,4 +1,5 @@
-//! Tries the cases in `data/`: texts, lists and streams of the base, files of cases, schemas and sheets.
+//! Tries the cases in `data/`: texts, lists and streams of the base, files of cases and their judge, schemas and
+//! sheets.
 //!
 //! The words are the files of cases; a file's name up to its first `-` says what is tried. `docs/cases.md` says
 //! how a case is written.
@@ -6,6 +7,7 @@
 
 mod base;
 mod files;
+mod judging;
 mod lists;
 mod schemas;
 mod sheets;
@@ -19,11 +21,27 @@ use std::test::Fail;
 struct Readers;
 
 impl Subject for Readers {
+    fn reads(&self, kind: &str, _case: &Case, part: &Part) -> bool {
+        match (kind, part.name.as_str()) {
+            ("adapter" | "text", name) => name == "bytes",
+            ("file" | "judge", name) => name == "file",
+            ("grid", name) => name == "cells",
+            ("list", name) => name == "numbers",
+            ("places", name) => matches!(name, "texts" | "sought" | "listed"),
+            ("word", name) => name == "text",
+            ("source", name) => matches!(name, "cut" | "fails" | "calls"),
+            ("sink", name) => matches!(name, "cut" | "room" | "fails"),
+            ("schema", name) => name == "toml",
+            (_, name) => name == "sheet",
+        }
+    }
+
     fn answer(&mut self, alloc: Global, kind: &str, case: &Case) -> Result<Vec<Part>, Fail> {
         match kind {
             "adapter" => lists::adapter(alloc, case),
             "file" => files::file(alloc, case),
             "grid" => lists::grid(alloc, case),
+            "judge" => judging::judge(alloc, case),
             "list" => lists::list(alloc, case),
             "places" => lists::places(alloc, case),
             "text" => base::text(alloc, case),

@@ -20,6 +20,13 @@ use std::test::Fail;
 struct Suggester;
 
 impl Subject for Suggester {
+    fn reads(&self, _kind: &str, _case: &Case, part: &Part) -> bool {
+        matches!(
+            part.name.as_str(),
+            "input" | "attribute" | "region" | "step"
+        )
+    }
+
     fn answer(&mut self, alloc: Global, kind: &str, case: &Case) -> Result<Vec<Part>, Fail> {
         match kind {
             "reason" => reasons::told(alloc, case),

@@ -6,9 +6,9 @@ ghost use Rattle.fix_explain.specs.Reasons.{IsFixed};
 
 use crate::runs::steps;
 use crate::telling::{or_none, word, work_for};
+use case_json::case_of;
 use desk_base::{Duplicate, List, Steps, Text, place_of};
 use desk_cases::{Case, Part};
-use desk_json::case_of;
 use fix_engine::{apply, least};
 use fix_explain::{reason, uses};
 use fix_model::{ListBook, State, Step};

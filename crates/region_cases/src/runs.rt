@@ -1,8 +1,8 @@
 //! The first run of a record.
 use crate::telling::{or_none, word, work_for};
+use case_json::case_of;
 use desk_base::{Steps, Text};
 use desk_cases::{Case, Part};
-use desk_json::case_of;
 use fix_engine::{apply, least};
 use fix_model::{ListBook, State, Step};
 use std::alloc::Global;

@@ -1,7 +1,7 @@
 //! Whether a step may be made.
+use case_json::case_of;
 use desk_base::Steps;
 use desk_cases::{Case, Part};
-use desk_json::case_of;
 use fix_model::{Book, ListBook, Step, fires};
 use std::alloc::Global;
 use std::test::Fail;

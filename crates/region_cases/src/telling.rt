@@ -5,9 +5,9 @@ ghost use Rattle.fix_model.specs.States.{Fits};
 ghost use Rattle.fix_engine.specs.WorkSeen.{IsRoomFor};
 
 use crate::regions::{are_regions_of, regions_of};
+use case_json::case_of;
 use desk_base::{List, Steps, Text};
 use desk_cases::{Case, Part};
-use desk_json::case_of;
 use fix_engine::Work;
 use fix_model::{Book, ListBook, Region, RowVerdict, State};
 use region_suggest::{Suggestion, check, suggest};

@@ -16,6 +16,10 @@ use std::test::Fail;
 struct Rules;
 
 impl Subject for Rules {
+    fn reads(&self, _kind: &str, _case: &Case, part: &Part) -> bool {
+        matches!(part.name.as_str(), "attributes" | "text")
+    }
+
     fn answer(&mut self, alloc: Global, kind: &str, case: &Case) -> Result<Vec<Part>, Fail> {
         match kind {
             "read" => texts::answer(alloc, case),

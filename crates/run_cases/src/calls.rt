@@ -1,5 +1,6 @@
 //! Calls of `run` over links in memory.
 use desk_base::{Both, List, MemLink, MemSink, MemSource};
+use desk_trials::words_of;
 use fixdesk_run::run;
 use keeper_core::MemKeeper;
 use session_machine::Desk;
@@ -36,7 +37,7 @@ impl Call {
     /// The call with the words of a text, over no input.
     pub fn of_words(alloc: Global, text: &[u8]) -> Result<Call, Fail> {
         Ok(Call {
-            words: words(alloc, text)?,
+            words: words_of(alloc, text)?,
             input: Vec::new(alloc),
             cut: USUAL_CUT,
             room: USUAL_ROOM,
@@ -77,18 +78,6 @@ impl Call {
 /// What a stream of these bytes is answered over a keeper.
 pub fn serve(alloc: Global, keeper: &mut MemKeeper, input: Vec<u8>) -> Result<Told, Fail> {
     Call::pipe(alloc, input)?.make(alloc, keeper)
-}
-
-/// The words of a text, with blanks between.
-pub fn words(alloc: Global, text: &[u8]) -> Result<Vec<String>, Fail> {
-    let Ok(text) = std::str::from_utf8(text) else {
-        return Err(Fail::new("words are no UTF-8"));
-    };
-    let mut words = Vec::new(alloc);
-    for word in text.split_whitespace() {
-        words.push(String::from_str(alloc, word)?)?;
-    }
-    Ok(words)
 }
 
 fn numbers(alloc: Global, number: Option<u64>) -> Result<List<u64>, Fail> {

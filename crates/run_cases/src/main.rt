@@ -6,15 +6,12 @@
 #![tactic(auto)]
 
 mod calls;
-mod keeping;
 mod making;
-mod script;
 mod streams;
 mod sweeps;
-mod table;
 
-use crate::script::Script;
 use desk_cases::{Case, Part, Subject, try_files};
+use desk_trials::Script;
 use std::alloc::Global;
 use std::test::Fail;
 
@@ -25,6 +22,17 @@ struct Runs {
 }
 
 impl Subject for Runs {
+    fn reads(&self, kind: &str, case: &Case, part: &Part) -> bool {
+        let name = part.name.as_str();
+        match kind {
+            "desk" => name == "request",
+            "stream" => streams::reads(case, name),
+            "each" => matches!(name, "request" | "words"),
+            "made" => matches!(name, "sessions" | "start"),
+            _ => matches!(name, "bytes" | "cut" | "requests"),
+        }
+    }
+
     fn answer(&mut self, alloc: Global, kind: &str, case: &Case) -> Result<Vec<Part>, Fail> {
         match kind {
             "desk" => {

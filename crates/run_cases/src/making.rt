@@ -1,9 +1,8 @@
 //! The stream that the generator makes, served over a keeper, and the desk's report over that keeper then.
 use crate::calls::Call;
-use crate::keeping::fresh;
-use crate::streams::status_part;
 use desk_cases::{Case, Part};
-use desk_made::made;
+use desk_trials::fresh;
+use fixdesk_run::made;
 use keeper_core::MemKeeper;
 use std::alloc::Global;
 use std::test::Fail;
@@ -22,7 +21,7 @@ pub fn told(alloc: Global, case: &Case) -> Result<Vec<Part>, Fail> {
 fn told_over(alloc: Global, case: &Case, keeper: &mut MemKeeper) -> Result<Vec<Part>, Fail> {
     let mut answer = Vec::new(alloc);
     let status = served(alloc, case, keeper)?;
-    answer.push(status_part(alloc, "status", status)?)?;
+    answer.push(Part::number(alloc, "status", u64::from(status))?)?;
     add_report(alloc, &mut answer, keeper)?;
     Ok(answer)
 }
@@ -36,7 +35,7 @@ fn served(alloc: Global, case: &Case, keeper: &mut MemKeeper) -> Result<u8, Fail
 /// Adds what `report` is answered.
 fn add_report(alloc: Global, answer: &mut Vec<Part>, keeper: &mut MemKeeper) -> Result<(), Fail> {
     let told = Call::of_words(alloc, b"report")?.make(alloc, keeper)?;
-    answer.push(status_part(alloc, "status 2", told.status)?)?;
+    answer.push(Part::number(alloc, "status 2", u64::from(told.status))?)?;
     answer.push(Part::new(alloc, "report", told.output.as_slice())?)?;
     Ok(())
 }

@@ -1,11 +1,10 @@
 //! Calls of `run` as cases state them, in turn over one keeper.
 ghost use Rattle.std.specs.Prelude.{◌≡◌, length};
 
-use crate::calls::{Call, Told, USUAL_CUT, serve, words};
-use crate::keeping::{fresh, keeper_of, shown};
-use crate::script::Script;
+use crate::calls::{Call, Told, USUAL_CUT, serve};
 use desk_base::{MemSource, Source};
-use desk_cases::{Case, Part};
+use desk_cases::{Case, Part, add_once};
+use desk_trials::{Script, fresh, keeper_of, shown, words_of};
 use keeper_core::MemKeeper;
 use std::alloc::Global;
 use std::test::Fail;
@@ -44,6 +43,26 @@ const CALLS: [Names; 3] = [
     },
 ];
 
+/// The parts whose words name other parts.
+const NAMING: [&str; 7] = [
+    "sent",
+    "sent 2",
+    "sent 3",
+    "answered",
+    "answered 2",
+    "answered 3",
+    "tables",
+];
+
+/// Whether a part of a case of streams is read: it says how calls are made, or is named by one that does or that is
+/// wanted.
+pub fn reads(case: &Case, name: &str) -> bool {
+    matches!(
+        name,
+        "words" | "words 2" | "words 3" | "sent" | "sent 2" | "sent 3" | "cut" | "fails" | "steward"
+    ) || case.has_word(&NAMING, name)
+}
+
 /// What the request of a case is answered in a stream of its own, over the tables that the script left so far.
 pub fn next(alloc: Global, script: &Script, case: &Case) -> Result<Vec<Part>, Fail> {
     let mut keeper = fresh(alloc)?;
@@ -61,14 +80,14 @@ fn next_over(alloc: Global, case: &Case, keeper: &mut MemKeeper) -> Result<Vec<P
 fn answer_parts(alloc: Global, told: &Told) -> Result<Vec<Part>, Fail> {
     let mut answer = Vec::new(alloc);
     if told.status != 0 {
-        answer.push(status_part(alloc, "status", told.status)?)?;
+        answer.push(Part::number(alloc, "status", u64::from(told.status))?)?;
     }
     answer.push(Part::new(alloc, "response", told.output.as_slice())?)?;
     Ok(answer)
 }
 
 /// What each part `request` of a case is answered in a stream of its own by an empty desk, and what the words of each
-/// part `words` are. What is not answered as is wanted is a part besides.
+/// part `words` are, told once where it is the same. What is not answered as is wanted is a part besides.
 pub fn each(alloc: Global, case: &Case) -> Result<Vec<Part>, Fail> {
     let mut answer = Vec::new(alloc);
     for part in &case.parts {
@@ -95,6 +114,8 @@ pub fn alone(alloc: Global, call: &Call) -> Result<Told, Fail> {
     call.make(alloc, &mut keeper)
 }
 
+/// Adds what a call was answered, unless another was answered so before it, and the part where it is answered otherwise
+/// than is wanted.
 fn add_one(
     alloc: Global,
     answer: &mut Vec<Part>,
@@ -107,8 +128,11 @@ fn add_one(
     if case.part("response") != Some(output) {
         answer.push(Part::new(alloc, "answered otherwise", part.content.as_slice())?)?;
     }
-    answer.push(status_part(alloc, "status", told.status)?)?;
-    answer.push(Part::new(alloc, "response", output)?)?;
+    add_once(
+        answer,
+        Part::number(alloc, "status", u64::from(told.status))?,
+    )?;
+    add_once(answer, Part::new(alloc, "response", output)?)?;
     Ok(())
 }
 
@@ -127,7 +151,7 @@ fn told_over(
 ) -> Result<Vec<Part>, Fail> {
     let mut answer = Vec::new(alloc);
     for names in &CALLS {
-        if case.part(names.status).is_some() {
+        if is_made(case, names) {
             add_call(alloc, &mut answer, script, case, keeper, names)?;
         }
     }
@@ -135,6 +159,13 @@ fn told_over(
         answer.push(tables_part(alloc, script, case, words, keeper)?)?;
     }
     Ok(answer)
+}
+
+/// Whether a case has a call: it says its words, what is sent or what is wanted.
+fn is_made(case: &Case, names: &Names) -> bool {
+    case.part(names.words).is_some()
+        || case.part(names.sent).is_some()
+        || case.part(names.status).is_some()
 }
 
 /// Makes a call, and adds what it was answered.
@@ -147,12 +178,11 @@ fn add_call(
     names: &Names,
 ) -> Result<(), Fail> {
     let mut told = call_of(alloc, script, case, names)?.make(alloc, keeper)?;
-    answer.push(status_part(alloc, names.status, told.status)?)?;
+    answer.push(Part::number(alloc, names.status, u64::from(told.status))?)?;
     answer.push(answered_part(alloc, script, case, names, &told)?)?;
     if case.part(names.left).is_some() {
-        let left = left(alloc, &mut told.source)?;
-        let left = format!(in alloc; "{left}")?;
-        answer.push(Part::new(alloc, names.left, left.as_str().as_bytes())?)?;
+        let left = left(alloc, &mut told.source)? as u64;
+        answer.push(Part::number(alloc, names.left, left)?)?;
     }
     Ok(())
 }
@@ -162,7 +192,7 @@ fn call_of(alloc: Global, script: &Script, case: &Case, names: &Names) -> Result
     let sent = case.text(names.sent).unwrap_or("");
     let mut call = Call::pipe(alloc, script.named(alloc, case, sent)?)?;
     if let Some(text) = case.part(names.words) {
-        call.words = words(alloc, text)?;
+        call.words = words_of(alloc, text)?;
     }
     call.cut = cut(case);
     Ok(call)
@@ -234,10 +264,4 @@ fn count_left(source: &mut MemSource, piece: &mut [u8]) -> Result<usize, Fail>
         }
     }
     Ok(count)
-}
-
-/// The part that tells a status.
-pub fn status_part(alloc: Global, name: &str, status: u8) -> Result<Part, Fail> {
-    let status = format!(in alloc; "{status}")?;
-    Ok(Part::new(alloc, name, status.as_str().as_bytes())?)
 }

@@ -1,10 +1,8 @@
 //! The script, cut off after each of its first bytes, and over links of which each call fails in turn.
 use crate::calls::{Call, Told, serve};
-use crate::keeping::{fresh, shown};
-use crate::script::Script;
 use crate::streams::{alone, cut, leave};
-use crate::table::Table;
 use desk_cases::{Case, Part};
+use desk_trials::{Script, Table, fresh, shown};
 use keeper_core::MemKeeper;
 use std::alloc::Global;
 use std::test::Fail;

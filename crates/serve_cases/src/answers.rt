@@ -1,30 +1,28 @@
 //! What calls left, as parts of an answer.
 use crate::calls::Served;
 use desk_base::MemLink;
-use desk_cases::{Case, Part};
+use desk_cases::{Case, Part, add_once};
+use desk_trials::add_word;
 use std::alloc::Global;
 use std::test::Fail;
 
-/// Adds the status, what was said, how many links were handed out and how many are open.
+/// Adds the status, what was said and how many links were handed out, each unless it was told so before.
 pub fn add_end(alloc: Global, answer: &mut Vec<Part>, served: &Served) -> Result<(), Fail> {
-    answer.push(number_part(alloc, "status", u64::from(served.status))?)?;
-    answer.push(Part::new(alloc, "said", served.out.bytes())?)?;
-    answer.push(accepted_part(alloc, served.door.accepted())?)?;
-    answer.push(number_part(alloc, "live", u64::from(served.door.live()))?)?;
+    add_once(
+        answer,
+        Part::number(alloc, "status", u64::from(served.status))?,
+    )?;
+    add_once(answer, Part::new(alloc, "said", served.out.bytes())?)?;
+    add_once(answer, accepted_part(alloc, served.door.accepted())?)?;
     Ok(())
 }
 
 /// How many links were handed out, or `none` where the door was not bound.
 fn accepted_part(alloc: Global, accepted: Option<u32>) -> Result<Part, Fail> {
     match accepted {
-        Some(count) => number_part(alloc, "accepted", u64::from(count)),
+        Some(count) => Part::number(alloc, "accepted", u64::from(count)),
         None => Ok(Part::new(alloc, "accepted", b"none")?),
     }
-}
-
-fn number_part(alloc: Global, name: &str, number: u64) -> Result<Part, Fail> {
-    let number = format!(in alloc; "{number}")?;
-    Ok(Part::new(alloc, name, number.as_str().as_bytes())?)
 }
 
 /// Adds what each closed link was written.
@@ -59,13 +57,4 @@ fn name_of<'a>(case: &'a Case, bytes: &'a [u8]) -> &'a [u8] {
         }
     }
     bytes
-}
-
-/// Adds a word, with a space between it and those before.
-fn add_word(words: &mut Vec<u8>, word: &[u8]) -> Result<(), Fail> {
-    if !words.is_empty() {
-        words.push(b' ')?;
-    }
-    words.extend_from_slice(word)?;
-    Ok(())
 }

@@ -3,6 +3,7 @@ use crate::doors::door_of;
 use desk_base::{List, MemSink, NoMemory};
 use desk_cases::Case;
 use desk_links::MemDoor;
+use desk_trials::words_of;
 use fixdesk_run::serve;
 use keeper_core::MemKeeper;
 use session_machine::Desk;
@@ -54,16 +55,4 @@ fn room(case: &Case) -> usize {
         Some(room) => usize::try_from(room).unwrap_or(USUAL_ROOM),
         None => USUAL_ROOM,
     }
-}
-
-/// The words of a text, with blanks between.
-pub fn words_of(alloc: Global, text: &[u8]) -> Result<Vec<String>, Fail> {
-    let Ok(text) = std::str::from_utf8(text) else {
-        return Err(Fail::new("words are no UTF-8"));
-    };
-    let mut words = Vec::new(alloc);
-    for word in text.split_whitespace() {
-        words.push(String::from_str(alloc, word)?)?;
-    }
-    Ok(words)
 }

@@ -8,7 +8,6 @@
 mod answers;
 mod calls;
 mod doors;
-mod keeping;
 mod tables;
 mod visits;
 
@@ -16,11 +15,22 @@ use desk_cases::{Case, Part, Subject, try_files};
 use std::alloc::Global;
 use std::test::Fail;
 
+/// The parts whose words name other parts.
+const NAMING: [&str; 3] = ["links", "answers", "tables"];
+
 /// What calls `serve`.
 #[derive(Drop)]
 struct Serves;
 
 impl Subject for Serves {
+    fn reads(&self, kind: &str, case: &Case, part: &Part) -> bool {
+        let name = part.name.as_str();
+        match kind {
+            "serve" => is_setting(name) || case.has_word(&NAMING, name),
+            _ => name == "words",
+        }
+    }
+
     fn answer(&mut self, alloc: Global, kind: &str, case: &Case) -> Result<Vec<Part>, Fail> {
         match kind {
             "serve" => visits::told(alloc, case),
@@ -28,6 +38,14 @@ impl Subject for Serves {
             _ => Err(Fail::new("a file of cases has an unknown kind")),
         }
     }
+}
+
+/// Whether a part says how a call is made.
+fn is_setting(name: &str) -> bool {
+    matches!(
+        name,
+        "words" | "links" | "cut" | "reads" | "writes" | "door" | "fails" | "steward" | "room"
+    )
 }
 
 fn main(rt: HostRuntime) -> Result<(), Fail> {

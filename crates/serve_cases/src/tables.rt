@@ -1,8 +1,7 @@
 //! The tables that a call left, told by requests that leave the same.
-use crate::calls::words_of;
-use crate::keeping::{fresh, shown};
 use desk_base::{Both, List, MemLink, MemSink, MemSource, NoMemory};
 use desk_cases::{Case, Part};
+use desk_trials::{fresh, shown, words_of};
 use fixdesk_run::run;
 use keeper_core::MemKeeper;
 use session_machine::Desk;

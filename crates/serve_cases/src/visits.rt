@@ -1,9 +1,9 @@
 //! Calls of `serve` as cases state them.
 use crate::answers::{add_answers, add_end};
 use crate::calls::{Served, call};
-use crate::keeping::{fresh, keeper_of};
 use crate::tables::add_tables;
 use desk_cases::{Case, Part};
+use desk_trials::{fresh, keeper_of};
 use keeper_core::MemKeeper;
 use std::alloc::Global;
 use std::test::Fail;

@@ -1,4 +1,5 @@
 //! The script: requests to an empty desk, each with its response. Other cases name both by the request's number.
+use crate::words::add_word;
 use desk_cases::Case;
 use std::alloc::Global;
 use std::test::Fail;
@@ -124,13 +125,4 @@ fn behind<'b>(bytes: &'b [u8], front: &[u8]) -> Option<&'b [u8]> {
     } else {
         None
     }
-}
-
-/// Adds a word, with a space between it and those before. An empty word adds nothing.
-fn add_word(words: &mut Vec<u8>, word: &[u8]) -> Result<(), Fail> {
-    if !words.is_empty() && !word.is_empty() {
-        words.push(b' ')?;
-    }
-    words.extend_from_slice(word)?;
-    Ok(())
 }

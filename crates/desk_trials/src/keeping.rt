@@ -41,8 +41,8 @@ fn rename(alloc: Global, keeper: &mut MemKeeper, name: &str) -> Result<(), Fail>
     }
 }
 
-/// What the keeper's tables show: each row in a line, and an empty line behind each list.
-pub fn shown(alloc: Global, keeper: &mut MemKeeper) -> Result<String, Fail> {
+/// What a keeper's tables show: each row in a line, and an empty line behind each list.
+pub fn shown<K: Keeper>(alloc: Global, keeper: &mut K) -> Result<String, Fail> {
     let Ok(tables) = keeper.load() else {
         return Err(Fail::new("a keeper did not load its tables"));
     };

@@ -1,11 +1,11 @@
-//! A desk with its keeper. A clause sees the rows of the tables, which the keeper tells too.
+//! A desk with its keeper in memory. A clause sees the rows of the tables, which the keeper tells too.
 ghost use Rattle.std.specs.Prelude.{◌≡◌};
 ghost use Rattle.desk_words.specs.Tables.{AreTables, rows_of};
 ghost use Rattle.machine_core.specs.Ticket.{IsNumbered};
 
 use desk_base::List;
 use desk_words::{Command, Reply, Tables};
-use keeper_core::{Keeper, MemKeeper};
+use keeper_core::MemKeeper;
 use machine_core::{Machine, StartFail};
 use session_machine::Desk;
 use std::alloc::Global;
@@ -31,6 +31,11 @@ impl Model for KeptDesk {
 }
 
 impl KeptDesk {
+    /// A new desk, none of whose keeper's calls fails.
+    pub fn fresh(alloc: Global) -> Result<KeptDesk, Fail> {
+        Ok(KeptDesk::begin(alloc, Tables::empty(alloc)?, List::new(alloc))?)
+    }
+
     /// The desk over these tables, with a keeper of whose calls these fail.
     pub fn begin(alloc: Global, tables: Tables, fails: List<u64>) -> Result<KeptDesk, StartFail>
         requires { AreTables (rows_of tables) }
@@ -55,11 +60,6 @@ impl KeptDesk {
     /// The numbers of all callers' last accepted requests, added up.
     pub fn turn(&self) -> u64 {
         self.desk.turn()
-    }
-
-    /// The tables of the keeper.
-    pub fn load(&mut self) -> Result<Tables, Fail> {
-        Ok(self.keeper.load()?)
     }
 
     /// Has the book of the edition at a place, counted from 0, stand first on the shelf, where there is that edition.
