@@ -1,5 +1,6 @@
-use Rattle.std.proofs.Common.{◌≡◌, ◌-◌, ◌∷◌, ◌++◌, [], length, get_or, set}
+use Rattle.std.proofs.Common.{◌≡◌, ◌-◌, ◌∷◌, ◌++◌, ◌∙◌, [], length, get_or, set, sym}
 use Rattle.std.specs.Prelude.{None}
+use Rattle.std.proofs.lemmas.Bool.{false≢true}
 use Rattle.std.proofs.lemmas.Result.{on_ok_weaker}
 use Rattle.fix_model.specs.declared.book.Hit.{Hit}
 use Rattle.fix_model.specs.Comparison.{row_key}
@@ -16,9 +17,8 @@ returns-then-not-ends_with_key c =
     let rows = c.args.rows.now in
     let entries = c.args.entries.now in
     let not_before = not_before-sorted key rows c.requires.rows.sorted c.args.place c.requires.place_within in
-    let other_key : ¬ EndsWithKey key entries (get_or rows c.args.place 0) = λ ends. (let
-    told = c.ends_with_key.ensures.1 (rw c.as_slice.ensures ends)
-    in absurd (let is = c.if-not-ends_with_key.true in cc)) in
+    let other_key : ¬ EndsWithKey key entries (get_or rows c.args.place 0) = λ ends.
+    false≢true (sym c.if-not-ends_with_key.true ∙ c.ends_with_key.ensures.1 (rw c.as_slice.ensures ends)) in
     let ahead = ahead-other_key key text rows c.args.place entries c.requires.before not_before other_key in
     let own : Hit = record { first = get_or rows c.args.place 0; other = None } in
     on_ok_weaker c.push.result (λ (pushed : c.push.new.self ≡ entries ++ own ∷ []). rw pushed

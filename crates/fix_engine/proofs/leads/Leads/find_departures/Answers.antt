@@ -1,6 +1,8 @@
-use Rattle.std.proofs.Common.{◌≡◌, ◌≢◌, ◌<◌, ◌≤◌, ◌∙◌, ℕ, Bool, length, length-set, false, inl, inr, arith, below_more}
+use Rattle.std.proofs.Common.{◌≡◌, ◌≢◌, ◌<◌, ◌≤◌, ◌∙◌, ℕ, Bool, length, length-set, false, inl, inr, sym, arith}
+use Rattle.std.proofs.Common.{below_more}
 use Rattle.std.specs.Prelude.{◌↔◌, IsTrue}
 use Rattle.std.proofs.Math.ListN.{get_or-eq_default}
+use Rattle.std.proofs.lemmas.Bool.{false≢true}
 use Rattle.std.proofs.lemmas.List.{get_or-set_other}
 use Rattle.fix_model.proofs.Deciding.{decide_less}
 use Rattle.fix_engine.specs.Departures.{CanDepart}
@@ -39,8 +41,8 @@ attributes-preserved g c =
             reach_stays = omega (arith, before.reach_stays, w.can_depart-departs.ensures.room);
           })
       | else-is_flagged w ↦
-          let unflagged : ¬ IsFlagged flags here = λ flagged. (let told = c.is_flagged.ensures.1
-          (rw c.deref.ensures.value flagged) in absurd (let is = w.if-is_flagged.false in cc)) in
+          let unflagged : ¬ IsFlagged flags here = λ flagged. false≢true (sym w.if-is_flagged.false
+          ∙ c.is_flagged.ensures.1 (rw c.deref.ensures.value flagged)) in
           rw (w.departures-is, w.reach-is) (record {
             whole = before.whole;
             each = λ end led. below_more
@@ -76,7 +78,7 @@ returns-clause-departures g c = λ end led.
         | inr past ↦
             let beyond : length flags ≤ attribute = past_end attribute kit.width (length flags) whole past in
             let none = get_or-eq_default flags false beyond in (
-              (λ flagged. absurd cc),
+              (λ flagged. absurd (false≢true (sym none ∙ flagged))),
               λ depart. absurd
                   (past (CanDepart-within kit c.requires.valid end c.args.state.now attribute depart)),
             )

@@ -4,7 +4,7 @@ use Rattle.fix_model.specs.Valid.{IsValidRule}
 use Rattle.fix_model.proofs.Counts.{length-filter-set}
 use Rattle.fix_engine.specs.Departures.{IsNextRule}
 use Rattle.fix_engine.specs.declared.leads.Lead.TheVariants.{Nothing}
-use Rattle.fix_engine.proofs.Reach.{IsReach-set, Supports-keeping}
+use Rattle.fix_engine.proofs.Reach.{IsClosed-none, IsReach-set, Supports-keeping}
 use Rattle.fix_engine.proofs.leads.Leads.find_reach.Goals as goal
 
 -- one flag more is set
@@ -45,3 +45,11 @@ rules-preserved g c =
           c.args.left_out flags (c.rules.invariant.reached end led) rule c.in-Some.ensures.0 supports
           next.goes_on.apart next.goes_on.unflagged next.goes_on.flagged;
     })
+
+-- where no rule goes on, nothing more is reached
+pub returns-clause-reach : goal.returns-clause-reach
+returns-clause-reach g c = λ end led. (
+  c.rules.invariant.reached end led,
+  IsClosed-none (g.B.Book.kit c.args.book.now) c.requires.valid end c.args.self.now.leads.items c.args.left_out
+      c.rules.reach.items led.leads_there (rw c.deref.ensures.value at c.in_default.ensures),
+)

@@ -1,4 +1,5 @@
-use Rattle.std.proofs.Common.{◌∙◌, sym}
+use Rattle.std.proofs.Common.{◌∙◌, ap, sym, arith}
+use Rattle.desk_base.specs.Counts.{Counts}
 use Rattle.fix_model.specs.Rules.{master_of, rule_at}
 use Rattle.fix_model.specs.Sought.{aims_of, Meets}
 use Rattle.fix_model.specs.States.{IsCovered}
@@ -33,3 +34,17 @@ returns-clause-agrees g c =
       λ told. let some = iff.0 (sym c.is_some.ensures ∙ told) in (some.0, RowAgreesAt-met kit state rule some.0 some.1),
       λ some. c.is_some.ensures ∙ iff.1 (some.0, Meets-agreeing kit state rule some.0 some.1),
     )
+
+-- where the first key is not covered, the rows are gone through
+pub returns-then-not-covers : goal.returns-then-not-covers
+returns-then-not-covers g c = record {
+  agrees = rw (c.rule-this.ensures.rule, c.self.view_is) at c.some_row_agrees.ensures;
+  looks = ap (λ (counts : Counts). counts.looks) c.look.ensures;
+  compares = omega (arith, ap (λ (counts : Counts). counts.compares) c.look.ensures);
+}
+
+pub rows_alike-rows-requires-clause-fits : goal.rows_alike-rows-requires-clause-fits
+rows_alike-rows-requires-clause-fits g c = rw c.self.view_is c.requires.fits
+
+pub rows_alike-rows-requires-clause-index : goal.rows_alike-rows-requires-clause-index
+rows_alike-rows-requires-clause-index g c = c.self.invariant.1

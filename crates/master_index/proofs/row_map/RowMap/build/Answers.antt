@@ -1,4 +1,5 @@
 use Rattle.std.proofs.Common.{◌≡◌, ◌∙◌, not, true, [], refl, sym}
+use Rattle.std.proofs.lemmas.Bool.{false≢true}
 use Rattle.desk_base.specs.Grid.{cell_text}
 use Rattle.master_index.proofs.Ascending.{filter-range-next}
 use Rattle.master_index.proofs.Rows.{not_blank}
@@ -13,7 +14,7 @@ rows-preserved c key =
     elim c.if-not-is_blank.branch [
       | then-not-is_blank+in_ok-key_of+in_ok-add w ↦
           let given : not (is_blank text) ≡ true = not_blank text
-          (λ none. let told = c.is_blank.ensures.1 (c.cell-text.ensures ∙ none) in cc) in
+          (λ none. false≢true (sym w.if-not-is_blank.true ∙ c.is_blank.ensures.1 (c.cell-text.ensures ∙ none))) in
           let added = rw (w.in_ok-key_of.ensures, c.cell-text.ensures, c.rows.invariant key)
           at (w.in_ok-add.ensures key) in
           rw w.map-is (added ∙ sym (rw given at next))
