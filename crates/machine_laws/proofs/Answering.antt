@@ -34,7 +34,7 @@ module _ (kit : Kit) (state : State) (valid : IsValid kit) (fits : Fits kit stat
 some-dissent : (kit : Kit) (state : State) → (dissent : Option Step) × IsDissent kit state dissent
 some-dissent kit state = elim (least_step kit (Dissents kit state) (decide_dissents kit state)
     (λ step dissents. (dissents.rule_within, dissents.agrees.usable.row_within))) [
-      | inl least ↦ (Some least.0, record { holds = least.1.holds; least = least.1.least })
+      | inl least ↦ (Some least.0, least.1)
       | inr none ↦ (None, none)
     ]
 

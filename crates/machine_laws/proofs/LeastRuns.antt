@@ -5,6 +5,7 @@ use Rattle.fix_model.specs.declared.kit.Kit.{Kit}
 use Rattle.fix_model.specs.declared.state.State.{State}
 use Rattle.fix_model.specs.declared.state.Step.{Step}
 use Rattle.fix_model.specs.Application.{Fires, after}
+use Rattle.fix_model.specs.Least.{IsLeast}
 use Rattle.fix_model.specs.Order.{IsBefore, IsRunBefore}
 use Rattle.fix_model.specs.Rules.{IsStepOf, master_of, rule_at}
 use Rattle.fix_model.specs.Run.{IsFinal, IsMaximalRun, end_of}
@@ -28,11 +29,6 @@ least_below P decide (suc bound) = elim (least_below P decide bound) [
     ])
   ]
 ]
-
--- the step has a property, and comes before every other that has it
-pub record IsLeast (P : Step → Type 0) (step : Step) : Type 0 where
-  pub holds : P step
-  pub least : (other : Step) → P other → (step ≡ other) ⊎ IsBefore step other
 
 module _ (kit : Kit) (P : Step → Type 0) (decide : (step : Step) → Decided (P step))
     (of : (step : Step) → P step → IsStepOf kit step) where
@@ -74,7 +70,7 @@ module _ (kit : Kit) (P : Step → Type 0) (decide : (step : Step) → Decided (
       ]
 
   -- the least step that has the property, or none has it
-  pub least_step : ((step : Step) × IsLeast P step) ⊎ ((step : Step) → ¬ P step)
+  pub least_step : ((step : Step) × IsLeast IsBefore P step) ⊎ ((step : Step) → ¬ P step)
   least_step = elim (least_below (λ place. (row : ℕ) × P (record { rule = place; row = row })) decide_place
       (length kit.rules)) [
         | inr none ↦ inr (λ step holds. none step.rule (of step holds).0 (step.row, holds))
@@ -160,7 +156,7 @@ module _ (kit : Kit) (P : State → Type 0) (state : State) (fired : Step) (fire
       none step (record { fires = maximal.0.0; rest = rest; maximal = (maximal.0.1, maximal.1); passes = passes })
 
   -- the least such step with the least run behind it comes before every other run
-  IsRunBefore-least : (step : Step) (rest : List Step) → IsLeast (BeginsRun kit P state) step
+  IsRunBefore-least : (step : Step) (rest : List Step) → IsLeast IsBefore (BeginsRun kit P state) step
       → IsLeastRun kit P (after kit state step) rest → (other : List Step) → IsMaximalRun kit state other
       → P (end_of kit state other) → ((step ∷ rest) ≡ other) ⊎ IsRunBefore (step ∷ rest) other
   IsRunBefore-least step rest least run [] maximal passes = absurd (maximal.1 fired fires)

@@ -131,7 +131,8 @@ module _ (rows : Rows) (valid : AreValid rows) where
   region-good place within =
       let row = slice_get-there rows.regions place within in
       let good : IsRegionRow (published_of rows) place row.0 = valid.regions place row.0 row.1 in
-      let is : get_or rows.regions place no_region ≡ row.0 = slice_get-read rows.regions place row.0 no_region row.1 in (
+      let is : get_or rows.regions place no_region ≡ row.0 =
+      slice_get-read rows.regions place row.0 no_region row.1 in (
         omega (arith, good.edition, ap (λ (one : RegionRow). one.edition) is),
         omega (
           arith,
