@@ -114,7 +114,7 @@ made sessions start rows all is =
       requests = requests all.answers;
       cut = all.cut;
       accepted = subst (AreAccepted empty_rows (requests all.answers)) (sym all.leaves)
-          (all_accepted all.limit 0 empty_rows all.answers all.served all.valid rose);
+          (all_accepted (request_count sessions + 1) 0 empty_rows all.answers all.served all.valid rose);
     }
 
 -- the summary of the desk

@@ -15,7 +15,7 @@ use Rattle.machine_core.specs.Look.Report.{report_of}
 use Rattle.machine_core.specs.Machine.{answered, machine}
 use Rattle.machine_core.specs.Weighing.{IsWeighed}
 use Rattle.machine_core.proofs.Chains.{Gives-bind_ok, done-value}
-use Rattle.fixdesk_run.specs.Report.{IsReport}
+use Rattle.fixdesk_run.specs.Report.{IsReport, TellsReply}
 
 -- a reply without changes is given without changes
 unchanged : {A : Type 0} (checked : Checked A) (reply_of : A → Reply) (found : Reply) (changes : List Change)
@@ -57,8 +57,13 @@ is_report rows weighed sheet text step is shows =
     record { sheet = sheet; gives = sheet_given rows weighed sheet step is; is = shows }
 
 -- and what is made of it, where there is memory
-pub reported : {E : Type 0} (rows : Rows) (weighed : Weighed) (sheet : ReportSheet) (result : Result (List ℕ) E)
-    → IsWeighed rows DeskReport weighed → weighed.reply ≡ reply.Report sheet
-    → IfOk result (λ text. text ≡ report_text sheet) → IfOk result (IsReport rows)
-reported rows weighed sheet (Ok text) step is shows = is_report rows weighed sheet text step is shows
-reported rows weighed sheet (Err why) step is shows = tt
+pub reported : {E : Type 0} (rows : Rows) (weighed : Weighed) (result : Result (List ℕ) E)
+    → IsWeighed rows DeskReport weighed → IfOk result (TellsReply weighed.reply) → IfOk result (IsReport rows)
+reported rows weighed (Ok text) step (sheet, is, shows) = is_report rows weighed sheet text step is shows
+reported rows weighed (Err why) step tells = tt
+
+-- the text of a sheet that is replied, where there is memory
+pub tells_reply : {E : Type 0} (replied : Reply) (sheet : ReportSheet) (result : Result (List ℕ) E)
+    → replied ≡ reply.Report sheet → IfOk result (λ text. text ≡ report_text sheet) → IfOk result (TellsReply replied)
+tells_reply replied sheet (Ok text) is shows = (sheet, is, shows)
+tells_reply replied sheet (Err why) is shows = tt

@@ -18,6 +18,7 @@ use Rattle.desk_words.specs.Tables.{Rows, empty_rows}
 use Rattle.http_cut.specs.Cut.{IsCut, WholeRequest, clean}
 use Rattle.http_desk.specs.Answered.{Answered, IsAsked, Served, last_tables, requests}
 use Rattle.http_desk.specs.Commands.{command_for}
+use Rattle.machine_core.specs.declared.machine.Weighed.{Weighed}
 use Rattle.machine_core.specs.Checked.{Gives}
 use Rattle.machine_core.specs.Machine.{machine}
 use Rattle.machine_core.specs.Ticket.{turn_of}
@@ -93,16 +94,33 @@ EndsMake sessions start old new Limit = ⊥
 abbrev pub request_count : ℕ → ℕ
 request_count sessions = sessions + 5
 
--- an empty desk has answered all requests that the generator makes, and has these tables. That there are no more than
--- this is known by the limit of the stream; whether they were accepted is not known yet
-pub record AllAnswered (sessions start : ℕ) (rows : Rows) : Type 0 where
+-- a desk over tables has answered all requests of a stream, fewer than the limit, and has these tables then; whether
+-- they were accepted is not known yet
+pub record AllServed (limit : ℕ) (bytes : List ℕ) (before after : Rows) : Type 0 where
   pub answers : List Answered
-  pub limit : ℕ
-  pub cut : IsCut (stream_of (made_requests sessions start)) (requests answers) [] clean
-  pub served : Served limit 0 empty_rows answers
-  pub few : length answers < request_count sessions + 1
-  pub valid : AreValid empty_rows
-  pub leaves : rows ≡ last_tables empty_rows answers
+  pub cut : IsCut bytes (requests answers) [] clean
+  pub served : Served limit 0 before answers
+  pub few : length answers < limit
+  pub valid : AreValid before
+  pub leaves : after ≡ last_tables before answers
+
+-- an empty desk has answered all requests that the generator makes, and no more
+abbrev pub AllAnswered : ℕ → ℕ → Rows → Type 0
+AllAnswered sessions start =
+    AllServed (request_count sessions + 1) (stream_of (made_requests sessions start)) empty_rows
+
+-- the summary of a sheet's line for the edition `e`
+abbrev pub TellsSheet : ReportSheet → List ℕ → Type 0
+TellsSheet sheet text =
+    (counted : ReportLine) × (find (λ line. bytes_eq line.edition (codes "e")) sheet.lines ≡ Some counted)
+    × (text ≡ summary_line counted)
+
+-- the summary of a report that was weighed over tables in which so many requests were accepted
+pub record TellsReport (sessions : ℕ) (weighed : Weighed) (text : List ℕ) : Type 0 where
+  pub turn : weighed.turn ≡ request_count sessions
+  pub sheet : ReportSheet
+  pub is : weighed.reply ≡ reply.Report sheet
+  pub tells : TellsSheet sheet text
 
 -- the tables' turn says that so many requests were accepted, and this is their summary
 pub record IsTold (sessions : ℕ) (rows : Rows) (text : List ℕ) : Type 0 where

@@ -2,6 +2,7 @@
 use Rattle.std.specs.Prelude.{◌≡◌, ◌⊎◌, List, [], Option, Ok, ℕ}
 use Rattle.desk_sheets.specs.Report.{report_text}
 use Rattle.desk_words.specs.declared.command.Command.TheVariants.{DeskReport}
+use Rattle.desk_words.specs.declared.reply.Reply.{Reply}
 use Rattle.desk_words.specs.declared.reply.Reply.TheVariants as reply
 use Rattle.desk_words.specs.declared.report.ReportSheet.{ReportSheet}
 use Rattle.desk_words.specs.Tables.{Rows}
@@ -14,6 +15,10 @@ use Rattle.fixdesk_run.specs.declared.status.Status.TheVariants.{NoMemory, Damag
 use Rattle.fixdesk_run.specs.Link.{IsSilent, Says, SaysPart}
 use Rattle.fixdesk_run.specs.Opening.{AreOpened, StaysShut}
 use Rattle.fixdesk_run.specs.World.{World}
+
+-- the text of the report that is replied
+abbrev pub TellsReply : Reply → List ℕ → Type 0
+TellsReply replied text = (sheet : ReportSheet) × (replied ≡ reply.Report sheet) × (text ≡ report_text sheet)
 
 -- the text of the desk's report over these tables
 pub record IsReport (rows : Rows) (text : List ℕ) : Type 0 where

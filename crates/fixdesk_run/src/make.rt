@@ -8,7 +8,8 @@ ghost use Rattle.desk_made.specs.Made.{made_requests};
 ghost use Rattle.desk_made.specs.Requests.{stream_of};
 ghost use Rattle.desk_words.specs.Tables.{empty_rows};
 ghost use Rattle.machine_core.specs.Starting.{AreStarted};
-ghost use Rattle.fixdesk_run.specs.Make.{AllAnswered, EndsMake, IsSummary, IsTold, summary_line};
+ghost use Rattle.fixdesk_run.specs.Make.{AllAnswered, AllServed, EndsMake, IsSummary, IsTold, TellsReport, TellsSheet};
+ghost use Rattle.fixdesk_run.specs.Make.{summary_line};
 ghost use Rattle.fixdesk_run.specs.Status.{status_code};
 
 use crate::status::Status;
@@ -19,7 +20,7 @@ use desk_words::{Command, Reply, ReportLine, ReportSheet, Tables};
 use http_cut::PIECE;
 use http_desk::{Ended, serve_stream};
 use keeper_core::MemKeeper;
-use machine_core::Machine;
+use machine_core::{Machine, Weighed};
 use std::alloc::Global;
 
 /// How many requests the generator makes before those that open sessions.
@@ -76,9 +77,24 @@ fn serve_made<M: Machine + Drop>(alloc: Global, sessions: u32, start: u32) -> Re
 {
     let mut link = link_over(alloc, sessions, start)?;
     let mut keeper = empty_keeper(alloc)?;
-    let mut machine = begin::<M>(alloc, &mut keeper)?;
     let limit = sessions + PUBLISHING + 1;
-    match serve_stream(alloc, &mut machine, &mut keeper, &mut link, limit) {
+    serve_over(alloc, limit, &mut keeper, &mut link)
+}
+
+/// A machine over the keeper's tables that has answered all requests that the link has left, which are fewer than the
+/// limit.
+fn serve_over<M: Machine + Drop>(
+    alloc: Global,
+    limit: u32,
+    keeper: &mut MemKeeper,
+    link: &mut Both<MemSource, DropSink>,
+) -> Result<M, NoMemory>
+    requires { 1 ≤ limit }
+    ensures { IfOk result (λ machine.
+        AllServed limit link.old.source.left keeper.old.rows (M.rows machine)) }
+{
+    let mut machine = begin::<M>(alloc, keeper)?;
+    match serve_stream(alloc, &mut machine, keeper, link, limit) {
         Ended::Clean => Ok(machine),
         _ => Err(NoMemory),
     }
@@ -127,6 +143,16 @@ fn told<M: Machine>(alloc: Global, machine: &mut M, sessions: u32) -> Result<Lis
     ensures { IfOk result (IsTold sessions (M.rows machine.old)) }
 {
     let weighed = machine.weigh(&Command::DeskReport);
+    let text = told_by(alloc, &weighed, sessions);
+    drop(weighed);
+    text
+}
+
+/// The summary of a report that was weighed when as many requests were accepted as the generator makes.
+fn told_by(alloc: Global, weighed: &Weighed, sessions: u32) -> Result<List<u8>, NoMemory>
+    requires { sessions ≤ 5000 }
+    ensures { IfOk result (TellsReport sessions weighed.now) }
+{
     match &weighed.reply {
         Reply::Report(sheet) if weighed.turn == u64::from(sessions + PUBLISHING) => {
             summary_of(alloc, sheet)
@@ -137,9 +163,7 @@ fn told<M: Machine>(alloc: Global, machine: &mut M, sessions: u32) -> Result<Lis
 
 /// The summary of a report.
 fn summary_of(alloc: Global, sheet: &ReportSheet) -> Result<List<u8>, NoMemory>
-    ensures { IfOk result (λ text. (counted : ReportLine)
-        × (find (λ line. bytes_eq line.edition (codes "e")) sheet.now.lines ≡ Some counted)
-        × (text ≡ summary_line counted)) }
+    ensures { IfOk result (TellsSheet sheet.now) }
 {
     match line_of_e(sheet.lines.as_slice()) {
         Some(counted) => summary_line(alloc, counted),

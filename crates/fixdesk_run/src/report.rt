@@ -1,6 +1,6 @@
 //! The command `report`, which writes the desk's report.
 ghost use Rattle.std.specs.Prelude.{◌≡◌, IfOk, Some};
-ghost use Rattle.fixdesk_run.specs.Report.{EndsReport, IsReport};
+ghost use Rattle.fixdesk_run.specs.Report.{EndsReport, IsReport, TellsReply};
 ghost use Rattle.fixdesk_run.specs.Run.{IsFaultless, TakesText};
 ghost use Rattle.fixdesk_run.specs.Status.{status_code};
 ghost use Rattle.fixdesk_run.specs.World.{Later, world};
@@ -50,7 +50,16 @@ fn report_of<M: Machine>(alloc: Global, machine: &mut M) -> Result<List<u8>, NoM
     ensures { IfOk result (IsReport (M.rows machine.old)) }
 {
     let weighed = machine.weigh(&Command::DeskReport);
-    match &weighed.reply {
+    let text = reported(alloc, &weighed.reply);
+    drop(weighed);
+    text
+}
+
+/// The text of a report that is replied.
+fn reported(alloc: Global, reply: &Reply) -> Result<List<u8>, NoMemory>
+    ensures { IfOk result (TellsReply reply.now) }
+{
+    match reply {
         Reply::Report(sheet) => report_text(alloc, sheet),
         _ => Err(NoMemory),
     }

@@ -16,6 +16,7 @@ use crate::tally::{begin_line, end_line};
 use crate::visits::serve_links;
 use desk_base::{Failed, NoMemory, Sink, write_all};
 use desk_links::Listener;
+use http_cut::Intake;
 use keeper_core::Keeper;
 use machine_core::Machine;
 use std::alloc::Global;
@@ -83,15 +84,49 @@ pub fn serve<M: Machine + Drop, K: Keeper, L: Listener, W: Sink>(
         return tell_usage(out).code();
     };
     match M::start(alloc, keeper) {
-        Ok(mut machine) => serve_all(alloc, plan, &mut machine, keeper, door, out).code(),
+        Ok(mut machine) => serve_plan(alloc, plan, &mut machine, keeper, door, out).code(),
         Err(fail) => stay_shut(alloc, fail, out).code(),
     }
 }
 
-/// Serves the links of a plan over a machine that began, and writes the line that counts them.
+/// Serves the links of a plan over a machine that began, with one intake for all of them, and writes the line that
+/// counts them.
+fn serve_plan<M: Machine + Drop, K: Keeper, L: Listener, W: Sink>(
+    alloc: Global,
+    plan: Plan,
+    machine: &mut M,
+    keeper: &mut K,
+    door: &mut L,
+    out: &mut W,
+) -> ServeEnd
+    requires few { plan.count ≤ 1000000 }
+    requires idle { L.live door.old ≡ 0 }
+    requires told { IfTold (K.tables keeper.old) (M.rows machine.old) }
+    ensures ends { let site = site W.written W.write_faults K.tables K.faults L.door_faults L.port L.accepted L.live
+        L.waiting L.closed in
+        EndsServing plan (standing M.rows K.tables K.faults machine.old keeper.old) (site out.old keeper.old door.old)
+        (site out.new keeper.new door.new) result }
+    ensures later { let site = site W.written W.write_faults K.tables K.faults L.door_faults L.port L.accepted L.live
+        L.waiting L.closed in
+        Later (site out.old keeper.old door.old) (site out.new keeper.new door.new) }
+    ensures idle { L.live door.new ≡ 0 }
+    ensures complete { L.offers door.old plan.count → TakesTally (W.takes out.old) plan.count
+        → (end_code result ≡ 0) ⊎ (end_code result ≡ 5) }
+{
+    let mut intake = match Intake::new(alloc) {
+        Ok(intake) => intake,
+        Err(NoMemory) => return ServeEnd::NoMemory,
+    };
+    let end = serve_all(alloc, plan, &mut intake, machine, keeper, door, out);
+    drop(intake);
+    end
+}
+
+/// The same with this intake.
 fn serve_all<M: Machine + Drop, K: Keeper, L: Listener, W: Sink>(
     alloc: Global,
     plan: Plan,
+    intake: &mut Intake,
     machine: &mut M,
     keeper: &mut K,
     door: &mut L,
@@ -118,7 +153,7 @@ fn serve_all<M: Machine + Drop, K: Keeper, L: Listener, W: Sink>(
     if let Err(Failed) = door.bind(plan.port) {
         return ServeEnd::DoorFault;
     }
-    let early = match serve_links::<M, K, L>(alloc, plan.count, machine, keeper, door) {
+    let early = match serve_links::<M, K, L>(alloc, plan.count, intake, machine, keeper, door) {
         Ok(early) => early,
         Err(Failed) => return ServeEnd::DoorFault,
     };

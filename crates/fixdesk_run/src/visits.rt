@@ -9,15 +9,18 @@ ghost use Rattle.fixdesk_run.specs.Visits.{is_early};
 
 use desk_base::Failed;
 use desk_links::Listener;
-use http_desk::{Ended, serve_stream};
+use http_cut::Intake;
+use http_desk::{Ended, serve_link};
 use keeper_core::Keeper;
 use machine_core::Machine;
 use std::alloc::Global;
 
-/// Serves so many links of a door that was bound, one after another, and answers how many of them ended early.
+/// Serves so many links of a door that was bound, one after another, with one intake for all of them, and answers how
+/// many of them ended early.
 pub fn serve_links<M: Machine + Drop, K: Keeper, L: Listener>(
     alloc: Global,
     count: u32,
+    intake: &mut Intake,
     machine: &mut M,
     keeper: &mut K,
     door: &mut L,
@@ -43,7 +46,7 @@ pub fn serve_links<M: Machine + Drop, K: Keeper, L: Listener>(
     let mut served: u32 = 0;
     let mut early: u32 = 0;
     'links: while served < count {
-        let end = serve_next::<M, K, L>(alloc, machine, keeper, door)?;
+        let end = serve_next::<M, K, L>(alloc, intake, machine, keeper, door)?;
         early += u32::from(is_early(end));
         served += 1;
     }
@@ -53,6 +56,7 @@ pub fn serve_links<M: Machine + Drop, K: Keeper, L: Listener>(
 /// Serves the next link of a door, with at most one request, and closes it. Answers how its stream ended.
 fn serve_next<M: Machine + Drop, K: Keeper, L: Listener>(
     alloc: Global,
+    intake: &mut Intake,
     machine: &mut M,
     keeper: &mut K,
     door: &mut L,
@@ -74,7 +78,7 @@ fn serve_next<M: Machine + Drop, K: Keeper, L: Listener>(
     ensures offers { (count : ℕ) → L.offers door.old (count + 1) → IsOk result × L.offers door.new count }
 {
     let mut link = door.accept()?;
-    let end = serve_stream(alloc, machine, keeper, &mut link, 1);
+    let end = serve_link(alloc, intake, machine, keeper, &mut link, 1);
     door.close(link);
     Ok(end)
 }

@@ -27,18 +27,18 @@ returns-in-Ok-clause-leaves g c =
     in
     let at = site g.W.Sink.written g.W.Sink.write_faults g.K.Keeper.tables g.K.Keeper.faults g.L.Listener.door_faults
     g.L.Listener.port g.L.Listener.accepted g.L.Listener.live g.L.Listener.waiting g.L.Listener.closed in
-    let later = c.serve_all.ensures.later in
+    let later = c.serve_plan.ensures.later in
     record {
       ends = rw some (inr (record {
         begun = standing g.M.Machine.rows g.K.Keeper.tables g.K.Keeper.faults c.in-Ok.machine c.start.new.keeper;
         started = c.in-Ok.ensures.started;
         loaded = c.start.ensures.later;
-        end = c.serve_all.result;
+        end = c.serve_plan.result;
         told = c.code-in-Ok.ensures;
         ends = EndsServing-before c.in-Some.plan _ (at c.args.out.now c.start.new.keeper c.args.door.now)
             (g.K.Keeper.tables c.args.keeper.now) (g.K.Keeper.faults c.args.keeper.now)
-            (at c.serve_all.new.out c.serve_all.new.keeper c.serve_all.new.door) c.serve_all.result
-            c.serve_all.ensures.ends;
+            (at c.serve_plan.new.out c.serve_plan.new.keeper c.serve_plan.new.door) c.serve_plan.result
+            c.serve_plan.ensures.ends;
       }));
       later = record {
         world = record {
@@ -58,7 +58,7 @@ returns-in-Ok-clause-complete g c =
     rw some (λ steady takes.
     let tally : TakesTally (g.W.Sink.takes c.args.out.now) c.in-Some.plan.count =
     λ early few. takes (served_line c.in-Some.plan.count early) (inl (early, few, refl)) in
-    rw c.code-in-Ok.ensures (one_of_three _ (c.serve_all.ensures.complete steady.1 tally)))
+    rw c.code-in-Ok.ensures (one_of_three _ (c.serve_plan.ensures.complete steady.1 tally)))
 
 -- no machine began
 pub returns-in-Err-clause-leaves : goal.returns-in-Err-clause-leaves

@@ -11,17 +11,17 @@ returns-clause-passed g c =
     record {
       visit = record {
         opened = seen c.in_ok-link.link;
-        closed = seen c.serve_stream-end.new.link;
-        end = c.serve_stream-end.result;
-        answers = c.serve_stream-end.ensures.streams.answers;
-        after = standing g.M.Machine.rows g.K.Keeper.tables g.K.Keeper.faults c.serve_stream-end.new.machine
-            c.serve_stream-end.new.keeper;
+        closed = seen c.serve_link-end.new.link;
+        end = c.serve_link-end.result;
+        answers = c.serve_link-end.ensures.streams.answers;
+        after = standing g.M.Machine.rows g.K.Keeper.tables g.K.Keeper.faults c.serve_link-end.new.machine
+            c.serve_link-end.new.keeper;
       };
       end_is = refl;
       after_is = refl;
       is = record {
         fresh = c.in_ok-link.ensures.fresh;
-        streams = c.serve_stream-end.ensures.streams;
+        streams = c.serve_link-end.ensures.streams;
         answers = refl;
       };
       port = c.close.ensures.port ∙ c.accept.ensures.port;
