@@ -11,7 +11,7 @@ ghost use Rattle.master_index.specs.Held.{brought_first, put_first};
 ghost use Rattle.master_index.specs.declared.shelf.Shelved.{Shelved as ShelvedBook};
 ghost use Rattle.machine_core.specs.Machine.{machine};
 ghost use Rattle.machine_core.specs.Outcomes.{Answers};
-ghost use Rattle.machine_core.specs.Shelves.{AreHeld, IsFirst, bound_on};
+ghost use Rattle.machine_core.specs.Shelves.{AreHeld, IsFirst, IsFullRoom, bound_on};
 ghost use Rattle.machine_core.specs.Starting.{AreStarted, IsUnstarted, StartsAvailable};
 ghost use Rattle.machine_core.specs.Ticket.{IsNumbered, turn_of};
 ghost use Rattle.machine_core.specs.Weighing.{IsSettleable, IsWeighed, NeverUnavailable, UnavailableRises};
@@ -59,9 +59,8 @@ impl Desk {
         ensures rows { IfOk result (λ desk. desk.rows ≡ rows_of tables) }
         ensures shelf { IfOk result (λ desk. desk.shelf ≡ []) }
     {
+        let (shelf, room) = shelf_and_room(alloc)?;
         let totalled = Totalled::new(alloc, tables)?;
-        let shelf = Shelf::new(alloc)?;
-        let room = Work::new(alloc, MAX_ATTRIBUTES as u16, MAX_RULES as u16)?;
         Ok(Desk {
             alloc,
             totalled,
@@ -170,6 +169,15 @@ impl Desk {
     }
 }
 
+/// An empty shelf, and room for work over any edition.
+fn shelf_and_room(alloc: Global) -> Result<(Shelf, Work), NoMemory>
+    ensures { IfOk result (λ made. (made.0 ≡ []) × IsFullRoom made.1) }
+{
+    let shelf = Shelf::new(alloc)?;
+    let room = Work::new(alloc, MAX_ATTRIBUTES as u16, MAX_RULES as u16)?;
+    Ok((shelf, room))
+}
+
 impl Machine for Desk {
     ghost rows = { λ d. d.rows };
 
@@ -192,10 +200,7 @@ impl Machine for Desk {
             Err(Bad::Damaged(damage)) => return Err(StartFail::Damaged(damage)),
             Err(Bad::NoMemory) => return Err(StartFail::NoMemory),
         }
-        match Desk::over(alloc, tables) {
-            Ok(desk) => Ok(desk),
-            Err(NoMemory) => Err(StartFail::NoMemory),
-        }
+        Desk::over(alloc, tables).map_err(|_| StartFail::NoMemory)
     }
 
     fn weigh(&mut self, command: &Command) -> Weighed
@@ -233,10 +238,10 @@ impl Machine for Desk {
         ensures steady { K.is_steady keeper.old → NeverUnavailable result × K.is_steady keeper.new }
     {
         let Weighed { reply, changes, .. } = weighed;
-        match self.totalled.settle(self.alloc, keeper, changes) {
-            Ok(()) => Ok(reply),
-            Err(KeepFail::Failed) => Err(SettleFail::Unavailable),
-            Err(KeepFail::NoMemory) => Err(SettleFail::NoMemory),
-        }
+        let kept = self.totalled.settle(self.alloc, keeper, changes);
+        kept.and(Ok(reply)).map_err(|fail| match fail {
+            KeepFail::Failed => SettleFail::Unavailable,
+            KeepFail::NoMemory => SettleFail::NoMemory,
+        })
     }
 }

@@ -1,7 +1,6 @@
-use Rattle.std.proofs.Common.{ℕ, List, Ok, Err, Some, subst, sym}
+use Rattle.std.proofs.Common.{Ok, Some, subst, sym}
 use Rattle.desk_words.specs.declared.look.Look.{Look as LookOf}
 use Rattle.desk_words.specs.declared.reply.Reply.TheVariants as reply
-use Rattle.desk_words.specs.declared.view.View.{View}
 use Rattle.desk_words.specs.Tables.{published_of, rows_of}
 use Rattle.machine_core.specs.Checked.{Gives, done}
 use Rattle.machine_core.specs.Look.Carry.{carrying}
