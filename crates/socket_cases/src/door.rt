@@ -3,7 +3,7 @@ ghost use Rattle.std.specs.Prelude.{◌≡◌, ℕ, None};
 ghost use Rattle.desk_base.specs.Faults.{HasCause};
 
 use crate::peers::Peers;
-use desk_base::{Both, Failed};
+use desk_base::{Both, Failed, FaultCount};
 use desk_cases::Case;
 use desk_links::Listener;
 use std::marker::Model;
@@ -18,7 +18,7 @@ pub struct PeerDoor<'r> {
     door: TcpDoor<'r>,
     peers: Peers,
     taken: usize,
-    faults: u64,
+    faults: FaultCount,
 }
 
 impl<'r> Model for PeerDoor<'r> {
@@ -45,7 +45,7 @@ impl<'r> PeerDoor<'r> {
             door: TcpDoor::new(rt),
             peers: Peers::none(rt.alloc()),
             taken: 0,
-            faults: 0,
+            faults: FaultCount::at(0),
         }
     }
 
@@ -82,7 +82,7 @@ impl<'r> Listener for PeerDoor<'r> {
                     self.peers = peers;
                 }
             }
-            Err(_) => self.faults = self.faults.saturating_add(1),
+            Err(_) => self.faults.rise(),
         }
         bound
     }
@@ -94,7 +94,7 @@ impl<'r> Listener for PeerDoor<'r> {
                 return Ok(link);
             }
         }
-        self.faults = self.faults.saturating_add(1);
+        self.faults.rise();
         Err(Failed)
     }
 
