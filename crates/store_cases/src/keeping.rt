@@ -16,7 +16,14 @@ pub fn shown<K: Keeper>(alloc: Global, keeper: &mut K) -> Result<String, Fail> {
     let Ok(tables) = keeper.load() else {
         return Err(Fail::new("a keeper did not load its tables"));
     };
-    let mut shown = shown_published(alloc, &tables)?;
+    let shown = shown_tables(alloc, &tables);
+    drop(tables);
+    shown
+}
+
+/// What tables show.
+fn shown_tables(alloc: Global, tables: &Tables) -> Result<String, Fail> {
+    let mut shown = shown_published(alloc, tables)?;
     add_lists(alloc, &mut shown, tables.sessions.as_slice())?;
     add_lists(alloc, &mut shown, tables.records.as_slice())?;
     add_lists(alloc, &mut shown, tables.batches.as_slice())?;

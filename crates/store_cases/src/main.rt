@@ -1,5 +1,5 @@
-//! Tries the cases in `data/`: calls of `run` over keepers whose tables stand in SQL tables, in memory and on disks that
-//! stop.
+//! Tries the cases in `data/`: calls of `run` over keepers whose tables stand in SQL tables, in memory, on disks that
+//! stop and in files of the folder that it runs in.
 //!
 //! The words are the files of cases, that of the script first; a file's name up to its first `-` says what is tried.
 //! `docs/cases.md` says how a case is written, and the README which parts these have.
@@ -7,6 +7,7 @@
 
 mod calls;
 mod disks;
+mod files;
 mod keeping;
 mod lines;
 mod loads;
@@ -21,17 +22,27 @@ use desk_cases::{Case, Part, Subject, try_files};
 use std::alloc::Global;
 use std::test::Fail;
 
-/// What calls `run`, with the script as far as it was read.
+/// What calls `run`, with the script as far as it was read, and with what opens files.
 #[derive(Drop)]
-struct Runs {
+struct Runs<'r> {
+    rt: &'r HostRuntime,
     script: Script,
 }
 
-impl Subject for Runs {
+impl<'r> Subject for Runs<'r> {
     fn reads(&self, _kind: &str, _case: &Case, part: &Part) -> bool {
         matches!(
             part.name.as_str(),
-            "request" | "sent" | "sent 2" | "sent 3" | "rows" | "words" | "words 2" | "requests"
+            "request"
+                | "sent"
+                | "sent 2"
+                | "sent 3"
+                | "sent beside"
+                | "file"
+                | "rows"
+                | "words"
+                | "words 2"
+                | "requests"
         )
     }
 
@@ -44,6 +55,7 @@ impl Subject for Runs {
             }
             "script" => sent::told(alloc, &self.script, case),
             "rows" => loads::told(alloc, case),
+            "file" => files::told(self.rt, &self.script, case),
             "stop" => stops::told(alloc, &self.script, case),
             _ => Err(Fail::new("a file of cases has an unknown kind")),
         }
@@ -52,5 +64,5 @@ impl Subject for Runs {
 
 fn main(rt: HostRuntime) -> Result<(), Fail> {
     let script = Script::new(rt.alloc());
-    try_files(&rt, &mut Runs { script })
+    try_files(&rt, &mut Runs { rt: &rt, script })
 }

@@ -1,39 +1,63 @@
-//! The requests of the script, sent to a keeper over a database in memory.
+//! The requests of the script, sent in streams to keepers over a database in memory.
 use crate::calls::{Told, serve};
 use crate::keeping::{fresh, shown};
 use crate::script::Script;
 use crate::stored::{in_memory, reopened};
 use desk_cases::{Case, Part};
+use keeper_core::Keeper;
 use keeper_sqlite::SqlTables;
 use sqlite::MemStore;
 use std::alloc::Global;
 use std::test::Fail;
 
-/// The names of the parts of a stream.
-struct Names {
-    sent: &'static str,
-    status: &'static str,
-    answered: &'static str,
+/// A stream of a case: one of up to three, or the one that is sent to a second keeper beside the first.
+#[derive(Clone, Copy, Debug, PartialEq, Eq)]
+pub enum Stream {
+    First,
+    Second,
+    Third,
+    Beside,
 }
 
-/// Those of a case's first, second and third stream.
-const STREAMS: [Names; 3] = [
-    Names {
-        sent: "sent",
-        status: "status",
-        answered: "answered",
-    },
-    Names {
-        sent: "sent 2",
-        status: "status 2",
-        answered: "answered 2",
-    },
-    Names {
-        sent: "sent 3",
-        status: "status 3",
-        answered: "answered 3",
-    },
-];
+/// Those that follow one another.
+pub const IN_TURN: [Stream; 3] = [Stream::First, Stream::Second, Stream::Third];
+
+impl Stream {
+    /// The part with the requests that are sent.
+    fn sent(self) -> &'static str {
+        match self {
+            Stream::First => "sent",
+            Stream::Second => "sent 2",
+            Stream::Third => "sent 3",
+            Stream::Beside => "sent beside",
+        }
+    }
+
+    /// The part with the status.
+    fn status(self) -> &'static str {
+        match self {
+            Stream::First => "status",
+            Stream::Second => "status 2",
+            Stream::Third => "status 3",
+            Stream::Beside => "status beside",
+        }
+    }
+
+    /// The part with what is answered.
+    fn answered(self) -> &'static str {
+        match self {
+            Stream::First => "answered",
+            Stream::Second => "answered 2",
+            Stream::Third => "answered 3",
+            Stream::Beside => "answered beside",
+        }
+    }
+
+    /// Whether the case has such a stream.
+    pub fn is_in(self, case: &Case) -> bool {
+        case.part(self.status()).is_some()
+    }
+}
 
 /// What the request of a case is answered in a stream of its own, by a keeper over the database that the script left so
 /// far.
@@ -68,10 +92,10 @@ fn answer_parts(alloc: Global, told: &Told) -> Result<Vec<Part>, Fail> {
 pub fn told(alloc: Global, script: &Script, case: &Case) -> Result<Vec<Part>, Fail> {
     let mut answer = Vec::new(alloc);
     let mut keeper = in_memory(alloc, None)?;
-    for names in &STREAMS {
-        if case.part(names.status).is_some() {
+    for stream in IN_TURN {
+        if stream.is_in(case) {
             keeper = reopened(keeper);
-            add_stream(alloc, &mut answer, script, case, &mut keeper, names)?;
+            add_stream(alloc, &mut answer, script, case, &mut keeper, stream)?;
         }
     }
     if let Some(words) = case.text("tables") {
@@ -80,31 +104,31 @@ pub fn told(alloc: Global, script: &Script, case: &Case) -> Result<Vec<Part>, Fa
     Ok(answer)
 }
 
-/// Sends a stream, and adds what it was answered.
-fn add_stream(
+/// Sends a stream to a keeper, and adds what it was answered.
+pub fn add_stream<K: Keeper>(
     alloc: Global,
     answer: &mut Vec<Part>,
     script: &Script,
     case: &Case,
-    keeper: &mut SqlTables<MemStore>,
-    names: &Names,
+    keeper: &mut K,
+    stream: Stream,
 ) -> Result<(), Fail> {
-    let sent = case.text(names.sent).unwrap_or("");
+    let sent = case.text(stream.sent()).unwrap_or("");
     let told = serve(alloc, keeper, script.named(alloc, sent)?)?;
-    answer.push(status_part(alloc, names.status, told.status)?)?;
-    let words = case.text(names.answered).unwrap_or("");
+    answer.push(status_part(alloc, stream.status(), told.status)?)?;
+    let words = case.text(stream.answered()).unwrap_or("");
     let answered = script.answered(alloc, words, told.output.as_slice())?;
-    answer.push(Part::new(alloc, names.answered, answered.as_slice())?)?;
+    answer.push(Part::new(alloc, stream.answered(), answered.as_slice())?)?;
     Ok(())
 }
 
 /// The words, where the keeper has the tables that the requests leave which they name, sent to a keeper without a
 /// database; else what the tables show.
-fn tables_part(
+pub fn tables_part<K: Keeper>(
     alloc: Global,
     script: &Script,
     words: &str,
-    keeper: &mut SqlTables<MemStore>,
+    keeper: &mut K,
 ) -> Result<Part, Fail> {
     let found = shown(alloc, keeper)?;
     let wanted = left(alloc, script.named(alloc, words)?)?;
