@@ -4,7 +4,6 @@ ghost use Rattle.desk_words.specs.Tables.{AreTables, rows_of};
 
 use desk_base::NoMemory;
 use desk_cases::Case;
-use desk_trials::KeptDesk;
 use desk_words::Tables;
 use keeper_core::{Keeper, MemKeeper};
 use std::alloc::Global;
@@ -52,16 +51,17 @@ impl Beginnings {
         Err(Fail::new("a case begins from a desk that no earlier case names"))
     }
 
-    /// Keeps the desk that a case has left, where its part `named` names it.
-    pub fn keep(&mut self, alloc: Global, case: &Case, desk: KeptDesk) -> Result<(), Fail> {
-        if let Some(name) = case.text("named") {
-            let name = String::from_str(alloc, name)?;
-            self.left.push(Left {
-                name,
-                keeper: desk.into_keeper(),
-            })?;
+    /// Keeps what a case has left, where its part `named` names it.
+    pub fn keep(&mut self, alloc: Global, case: &Case, keeper: MemKeeper) -> Result<(), Fail> {
+        match case.text("named") {
+            Some(name) => self.push(alloc, name, keeper),
+            None => Ok(()),
         }
-        Ok(())
+    }
+
+    fn push(&mut self, alloc: Global, name: &str, keeper: MemKeeper) -> Result<(), Fail> {
+        let name = String::from_str(alloc, name)?;
+        Ok(self.left.push(Left { name, keeper })?)
     }
 }
 

@@ -32,19 +32,37 @@ struct Desks {
 }
 
 impl Desks {
-    /// The answer of a case over its desk, which is kept where the case names it.
+    /// The answer of a case over its desk, whose keeper is kept where the case names it.
     fn answer_over(
         &mut self,
         alloc: Global,
         case: &Case,
         mut desk: KeptDesk,
     ) -> Result<Vec<Part>, Fail> {
-        let mut answer = Vec::new(alloc);
-        make_steps(alloc, &self.routes, &mut desk, case, &mut answer)?;
-        tell_end(alloc, &mut desk, case, &mut answer)?;
-        self.beginnings.keep(alloc, case, desk)?;
-        Ok(answer)
+        match answer_of(alloc, &self.routes, case, &mut desk) {
+            Ok(answer) => {
+                self.beginnings.keep(alloc, case, desk.into_keeper())?;
+                Ok(answer)
+            }
+            Err(fail) => {
+                drop(desk);
+                Err(fail)
+            }
+        }
     }
+}
+
+/// The answer of a case over a desk.
+fn answer_of(
+    alloc: Global,
+    routes: &Routes,
+    case: &Case,
+    desk: &mut KeptDesk,
+) -> Result<Vec<Part>, Fail> {
+    let mut answer = Vec::new(alloc);
+    make_steps(alloc, routes, desk, case, &mut answer)?;
+    tell_end(alloc, desk, case, &mut answer)?;
+    Ok(answer)
 }
 
 impl Subject for Desks {

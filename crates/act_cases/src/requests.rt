@@ -1,7 +1,7 @@
 //! The request of a step, and the reply to it.
 use crate::replies::{told, unread};
 use crate::targets::route_of;
-use desk_json::command_of;
+use desk_json::{Route, command_of};
 use desk_trials::KeptDesk;
 use desk_words::{Command, Digest};
 use http_cut::Routes;
@@ -23,8 +23,25 @@ pub fn replied(
         return Err(Fail::new("a step has a target without a route"));
     };
     let route = route_of(alloc, &found)?;
-    match command_of(alloc, &route, digest_of(name), body) {
-        Ok(command) => acted(alloc, desk, &command),
+    let text = replied_to(alloc, desk, &route, digest_of(name), body);
+    drop(route);
+    text
+}
+
+/// The reply to a body on a route.
+fn replied_to(
+    alloc: Global,
+    desk: &mut KeptDesk,
+    route: &Route,
+    digest: Digest,
+    body: &[u8],
+) -> Result<String, Fail> {
+    match command_of(alloc, route, digest, body) {
+        Ok(command) => {
+            let text = acted(alloc, desk, &command);
+            drop(command);
+            text
+        }
         Err(fault) => unread(alloc, &fault),
     }
 }
@@ -35,7 +52,9 @@ fn acted(alloc: Global, desk: &mut KeptDesk, command: &Command) -> Result<String
         return Err(Fail::new("a step has a number that no write may have"));
     }
     let reply = desk.act(command);
-    told(alloc, &reply)
+    let text = told(alloc, &reply);
+    drop(reply);
+    text
 }
 
 /// The target stands up to the first space or line feed, and the body behind that.

@@ -6,6 +6,7 @@
 #![tactic(auto)]
 
 mod reasons;
+mod record;
 mod regions;
 mod runs;
 mod steps;

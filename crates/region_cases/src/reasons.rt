@@ -4,9 +4,10 @@ ghost use Rattle.fix_model.specs.Run.{end_of, IsRun};
 ghost use Rattle.fix_model.specs.States.{Fits};
 ghost use Rattle.fix_explain.specs.Reasons.{IsFixed};
 
+use crate::record::record_of;
 use crate::runs::steps;
 use crate::telling::{or_none, word, work_for};
-use case_json::case_of;
+use case_json::Case as Record;
 use desk_base::{Duplicate, List, Steps, Text, place_of};
 use desk_cases::{Case, Part};
 use fix_engine::{apply, least};
@@ -24,13 +25,33 @@ struct Explanation {
 
 /// The steps of the reason and the attributes that they use, or that the attribute is not fixed.
 pub fn told(alloc: Global, case: &Case) -> Result<Vec<Part>, Fail> {
-    let Ok(record) = case_of(alloc, case.bytes("input")?) else {
-        return Err(Fail::new("the input is no case"));
-    };
-    let attribute = attribute_of(case, record.attributes.as_slice())?;
-    let book = ListBook::new(record.kit);
-    let explained = explained(alloc, &book, record.state, attribute)?;
-    parts(alloc, record.attributes.as_slice(), explained)
+    let Record {
+        attributes,
+        kit,
+        state,
+    } = record_of(alloc, case)?;
+    reasoned(
+        alloc,
+        case,
+        attributes.as_slice(),
+        &ListBook::new(kit),
+        state,
+    )
+}
+
+/// The same of the attribute that the case names, over a book.
+fn reasoned(
+    alloc: Global,
+    case: &Case,
+    attributes: &[Text],
+    book: &ListBook,
+    state: State,
+) -> Result<Vec<Part>, Fail>
+    requires { Fits book.now state }
+{
+    let attribute = attribute_of(case, attributes)?;
+    let explained = explained(alloc, book, state, attribute)?;
+    parts(alloc, attributes, explained)
 }
 
 /// The attribute that the case names.

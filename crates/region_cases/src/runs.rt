@@ -1,6 +1,9 @@
 //! The first run of a record.
+ghost use Rattle.fix_model.specs.States.{Fits};
+
+use crate::record::record_of;
 use crate::telling::{or_none, word, work_for};
-use case_json::case_of;
+use case_json::Case as Record;
 use desk_base::{Steps, Text};
 use desk_cases::{Case, Part};
 use fix_engine::{apply, least};
@@ -10,17 +13,33 @@ use std::test::Fail;
 
 /// The steps of the first run, and the attributes that are covered before and after they are made.
 pub fn told(alloc: Global, case: &Case) -> Result<Vec<Part>, Fail> {
-    let Ok(record) = case_of(alloc, case.bytes("input")?) else {
-        return Err(Fail::new("the input is no case"));
-    };
-    let attributes = record.attributes;
-    let mut state = record.state;
-    let book = ListBook::new(record.kit);
-    let mut work = work_for(alloc, &book)?;
-    least::<(), ListBook>(&mut work, &book, &mut state, &mut Steps::new(()));
-    let searched = covered(alloc, attributes.as_slice(), &state)?;
-    apply::<(), ListBook>(&book, &mut state, work.first());
-    let made = covered(alloc, attributes.as_slice(), &state)?;
+    let Record {
+        attributes,
+        kit,
+        mut state,
+    } = record_of(alloc, case)?;
+    run_over(
+        alloc,
+        attributes.as_slice(),
+        &ListBook::new(kit),
+        &mut state,
+    )
+}
+
+/// The same over a book, from a state.
+fn run_over(
+    alloc: Global,
+    attributes: &[Text],
+    book: &ListBook,
+    state: &mut State,
+) -> Result<Vec<Part>, Fail>
+    requires { Fits book.now state.old }
+{
+    let mut work = work_for(alloc, book)?;
+    least::<(), ListBook>(&mut work, book, state, &mut Steps::new(()));
+    let searched = covered(alloc, attributes, state)?;
+    apply::<(), ListBook>(book, state, work.first());
+    let made = covered(alloc, attributes, state)?;
     let first = steps(alloc, work.first())?;
     let mut parts = Vec::new(alloc);
     parts.push(Part::new(alloc, "first", or_none(first.as_str()).as_bytes())?)?;

@@ -1,5 +1,10 @@
 //! Whether a step may be made.
-use case_json::case_of;
+ghost use Rattle.std.specs.Prelude.{◌<◌, length};
+ghost use Rattle.fix_model.specs.States.{Fits};
+ghost use Rattle.fix_model.specs.Valid.{IsValid};
+
+use crate::record::record_of;
+use case_json::Case as Record;
 use desk_base::Steps;
 use desk_cases::{Case, Part};
 use fix_model::{Book, ListBook, Step, fires};
@@ -8,20 +13,27 @@ use std::test::Fail;
 
 /// Whether the step of the case fires, and whether some row agrees with the record at the rule's covered keys.
 pub fn told(alloc: Global, case: &Case) -> Result<Vec<Part>, Fail> {
-    let Ok(record) = case_of(alloc, case.bytes("input")?) else {
-        return Err(Fail::new("the input is no case"));
-    };
     let step = step(alloc, case)?;
+    let record = record_of(alloc, case)?;
     if usize::from(step.rule) >= record.kit.rules.len() {
         return Err(Fail::new("the step is by no rule"));
     }
     let is_made = fires(&record.kit, &record.state, step);
-    let book = ListBook::new(record.kit);
-    let agrees = book.agrees(step.rule, &record.state, &mut Steps::new(()));
+    let agrees = agrees(record, step.rule);
     let mut parts = Vec::new(alloc);
     parts.push(Part::truth(alloc, "fires", is_made)?)?;
     parts.push(Part::truth(alloc, "agrees", agrees)?)?;
     Ok(parts)
+}
+
+/// Whether some row agrees with the record at the rule's covered keys.
+fn agrees(given: Record, rule: u16) -> bool
+    requires valid { IsValid given.kit }
+    requires fits { Fits given.kit given.state }
+    requires within { rule < length given.kit.rules }
+{
+    let Record { kit, state, .. } = given;
+    ListBook::new(kit).agrees(rule, &state, &mut Steps::new(()))
 }
 
 /// The rule and the row of the part `step`, which counts from 1.

@@ -2,10 +2,12 @@
 ghost use Rattle.std.specs.Prelude.{◌<◌, ◌^◌, All, length, IfOk};
 ghost use Rattle.fix_model.specs.Regions.{IsRegionOf};
 ghost use Rattle.fix_model.specs.States.{Fits};
+ghost use Rattle.fix_model.specs.Valid.{IsValid};
 ghost use Rattle.fix_engine.specs.WorkSeen.{IsRoomFor};
 
+use crate::record::record_of;
 use crate::regions::{are_regions_of, regions_of};
-use case_json::case_of;
+use case_json::Case as Record;
 use desk_base::{List, Steps, Text};
 use desk_cases::{Case, Part};
 use fix_engine::Work;
@@ -17,18 +19,49 @@ use std::test::Fail;
 /// The verdicts of the rows of each region, the rows that are offered, and the attributes that are needed and what each
 /// is hoped to gain.
 pub fn told(alloc: Global, case: &Case) -> Result<Vec<Part>, Fail> {
-    let Ok(record) = case_of(alloc, case.bytes("input")?) else {
-        return Err(Fail::new("the input is no case"));
-    };
-    let attributes = record.attributes;
-    let regions = regions_of(alloc, case, attributes.as_slice())?;
-    if !are_regions_of(&record.kit, regions.as_slice()) {
+    let record = record_of(alloc, case)?;
+    let regions = regions_of(alloc, case, record.attributes.as_slice())?;
+    told_of(alloc, record, regions.as_slice())
+}
+
+/// The same of a record and regions.
+fn told_of(alloc: Global, given: Record, regions: &[Region]) -> Result<Vec<Part>, Fail>
+    requires valid { IsValid given.kit }
+    requires fits { Fits given.kit given.state }
+{
+    if !are_regions_of(&given.kit, regions) {
         return Err(Fail::new("a region is none of the kit's"));
     }
-    let book = ListBook::new(record.kit);
-    let verdicts = verdicts(alloc, &book, regions.as_slice())?;
-    let suggestion = suggestion(alloc, &book, record.state, regions.as_slice())?;
-    parts(alloc, attributes.as_slice(), verdicts, &suggestion)
+    let Record {
+        attributes,
+        kit,
+        state,
+    } = given;
+    told_over(
+        alloc,
+        attributes.as_slice(),
+        &ListBook::new(kit),
+        state,
+        regions,
+    )
+}
+
+/// The same over a book.
+fn told_over(
+    alloc: Global,
+    attributes: &[Text],
+    book: &ListBook,
+    state: State,
+    regions: &[Region],
+) -> Result<Vec<Part>, Fail>
+    requires fits { Fits book.now state }
+    requires regions { All (IsRegionOf book.now) regions.now }
+    requires few { length regions.now < 2 ^ 32 }
+    requires few_rows { All (λ region. length region.rows < 2 ^ 32) regions.now }
+{
+    let verdicts = verdicts(alloc, book, regions)?;
+    let suggestion = suggestion(alloc, book, state, regions)?;
+    parts(alloc, attributes, verdicts, &suggestion)
 }
 
 /// The verdicts of the rows of all regions, a line a region.

@@ -6,9 +6,10 @@ use crate::judging::are_tables;
 use crate::rows::tables;
 use desk_base::{Duplicate, List, Room, Text};
 use desk_cases::Case;
-use desk_valid::{kit_of, valid};
+use desk_valid::{Bound, kit_of, valid};
 use desk_words::{
-    Change, EditionRow, MasterRow, RegionRow, RulebookRow, SchemaRow, SessionRow, Tables,
+    BatchRow, Change, ClerkRow, EditionRow, MasterRow, RecordRow, RegionRow, RulebookRow,
+    SchemaRow, SessionRow, Tables,
 };
 use fix_model::{Cell, State, Step};
 use std::alloc::Global;
@@ -18,14 +19,19 @@ use std::test::Fail;
 /// `copied`, where each copy shows what its origin shows.
 pub fn told(alloc: Global, case: &Case) -> Result<String, Fail> {
     let tables = tables(alloc, case)?;
-    if !are_tables(&tables) {
+    told_of(alloc, &tables)
+}
+
+/// `copied`, where these are valid tables, and each copy out of them shows what its origin shows.
+fn told_of(alloc: Global, tables: &Tables) -> Result<String, Fail> {
+    if !are_tables(tables) {
         return Err(Fail::new("the rows of a case are no tables"));
     }
-    if valid(alloc, &tables).is_err() {
+    if valid(alloc, tables).is_err() {
         return Err(Fail::new("the tables of a case are not valid"));
     }
-    try_tables(alloc, &tables)?;
-    try_kits(alloc, &tables)?;
+    try_tables(alloc, tables)?;
+    try_kits(alloc, tables)?;
     Ok(String::from_str(alloc, "copied")?)
 }
 
@@ -39,17 +45,27 @@ fn is_copied<T: Duplicate + Debug + Drop>(alloc: Global, origin: &T) -> Result<(
     Ok(())
 }
 
+/// Fails where a copy of what is handed over shows otherwise.
+fn try_copy<T: Duplicate + Debug + Drop>(alloc: Global, origin: T) -> Result<(), Fail> {
+    is_copied(alloc, &origin)
+}
+
 /// Copies the tables, and each of their rows in a change.
 fn try_tables(alloc: Global, tables: &Tables) -> Result<(), Fail> {
     is_copied(alloc, tables)?;
-    for row in tables.clerks.as_slice() {
-        is_copied(alloc, &Change::Clerk(1, row.copy()?))?;
-    }
+    try_clerks(alloc, tables.clerks.as_slice())?;
     try_published(alloc, tables)?;
-    for rows in tables.sessions.as_slice() {
-        try_sessions(alloc, rows)?;
+    try_all_sessions(alloc, tables.sessions.as_slice())?;
+    try_all_records(alloc, tables.records.as_slice())?;
+    try_all_batches(alloc, tables.batches.as_slice())
+}
+
+/// Each clerk, in a change.
+fn try_clerks(alloc: Global, rows: &[ClerkRow]) -> Result<(), Fail> {
+    for row in rows {
+        try_copy(alloc, Change::Clerk(1, row.copy()?))?;
     }
-    try_finished(alloc, tables)
+    Ok(())
 }
 
 /// The rows that the steward publishes.
@@ -64,7 +80,7 @@ fn try_published(alloc: Global, tables: &Tables) -> Result<(), Fail> {
 /// Each schema, in a change.
 fn try_schemas(alloc: Global, rows: &[SchemaRow]) -> Result<(), Fail> {
     for row in rows {
-        is_copied(alloc, &Change::Schema(row.copy()?))?;
+        try_copy(alloc, Change::Schema(row.copy()?))?;
     }
     Ok(())
 }
@@ -72,7 +88,7 @@ fn try_schemas(alloc: Global, rows: &[SchemaRow]) -> Result<(), Fail> {
 /// Each master, in a change.
 fn try_masters(alloc: Global, rows: &[MasterRow]) -> Result<(), Fail> {
     for row in rows {
-        is_copied(alloc, &Change::Master(row.copy()?))?;
+        try_copy(alloc, Change::Master(row.copy()?))?;
     }
     Ok(())
 }
@@ -80,7 +96,7 @@ fn try_masters(alloc: Global, rows: &[MasterRow]) -> Result<(), Fail> {
 /// Each rulebook, in a change.
 fn try_rulebooks(alloc: Global, rows: &[RulebookRow]) -> Result<(), Fail> {
     for row in rows {
-        is_copied(alloc, &Change::Rulebook(row.copy()?))?;
+        try_copy(alloc, Change::Rulebook(row.copy()?))?;
     }
     Ok(())
 }
@@ -88,7 +104,7 @@ fn try_rulebooks(alloc: Global, rows: &[RulebookRow]) -> Result<(), Fail> {
 /// Each edition, in a change.
 fn try_editions(alloc: Global, rows: &[EditionRow]) -> Result<(), Fail> {
     for row in rows {
-        is_copied(alloc, &Change::Edition(row.copy()?))?;
+        try_copy(alloc, Change::Edition(row.copy()?))?;
     }
     Ok(())
 }
@@ -96,16 +112,24 @@ fn try_editions(alloc: Global, rows: &[EditionRow]) -> Result<(), Fail> {
 /// Each region, in a change.
 fn try_regions(alloc: Global, rows: &[RegionRow]) -> Result<(), Fail> {
     for row in rows {
-        is_copied(alloc, &Change::Region(row.copy()?))?;
+        try_copy(alloc, Change::Region(row.copy()?))?;
+    }
+    Ok(())
+}
+
+/// The sessions of all clerks.
+fn try_all_sessions(alloc: Global, lists: &[Room<SessionRow>]) -> Result<(), Fail> {
+    for rows in lists {
+        try_sessions(alloc, rows.as_slice())?;
     }
     Ok(())
 }
 
 /// The sessions of a clerk, in changes and as states.
-fn try_sessions(alloc: Global, rows: &Room<SessionRow>) -> Result<(), Fail> {
-    for row in rows.as_slice() {
-        is_copied(alloc, &Change::Session(1, 2, row.copy()?))?;
-        is_copied(alloc, &state(alloc, row.typed.copy()?, row)?)?;
+fn try_sessions(alloc: Global, rows: &[SessionRow]) -> Result<(), Fail> {
+    for row in rows {
+        try_copy(alloc, Change::Session(1, 2, row.copy()?))?;
+        try_copy(alloc, state(alloc, row.typed.copy()?, row)?)?;
     }
     Ok(())
 }
@@ -124,17 +148,34 @@ fn state(alloc: Global, typed: List<Text>, row: &SessionRow) -> Result<State, Fa
     Ok(State { typed, cells })
 }
 
-/// The records and the batches of all clerks.
-fn try_finished(alloc: Global, tables: &Tables) -> Result<(), Fail> {
-    for rows in tables.records.as_slice() {
-        for row in rows.as_slice() {
-            is_copied(alloc, &Change::Record(3, row.copy()?))?;
-        }
+/// The records of all clerks.
+fn try_all_records(alloc: Global, lists: &[Room<RecordRow>]) -> Result<(), Fail> {
+    for rows in lists {
+        try_records(alloc, rows.as_slice())?;
     }
-    for rows in tables.batches.as_slice() {
-        for row in rows.as_slice() {
-            is_copied(alloc, &Change::Batch(4, *row))?;
-        }
+    Ok(())
+}
+
+/// The records of a clerk, in changes.
+fn try_records(alloc: Global, rows: &[RecordRow]) -> Result<(), Fail> {
+    for row in rows {
+        try_copy(alloc, Change::Record(3, row.copy()?))?;
+    }
+    Ok(())
+}
+
+/// The batches of all clerks.
+fn try_all_batches(alloc: Global, lists: &[Room<BatchRow>]) -> Result<(), Fail> {
+    for rows in lists {
+        try_batches(alloc, rows.as_slice())?;
+    }
+    Ok(())
+}
+
+/// The batches of a clerk, in changes.
+fn try_batches(alloc: Global, rows: &[BatchRow]) -> Result<(), Fail> {
+    for row in rows {
+        try_copy(alloc, Change::Batch(4, *row))?;
     }
     Ok(())
 }
@@ -145,8 +186,13 @@ fn try_kits(alloc: Global, tables: &Tables) -> Result<(), Fail>
 {
     for edition in 0..tables.editions.len() as u32 {
         let bound = kit_of(alloc, tables, edition)?;
-        is_copied(alloc, &bound.kit)?;
-        is_copied(alloc, &bound.names)?;
+        try_bound(alloc, &bound)?;
     }
     Ok(())
+}
+
+/// Copies a kit and its names.
+fn try_bound(alloc: Global, bound: &Bound) -> Result<(), Fail> {
+    is_copied(alloc, &bound.kit)?;
+    is_copied(alloc, &bound.names)
 }

@@ -13,10 +13,15 @@ use std::test::Fail;
 /// `valid`, or the table and the row of the first damage.
 pub fn found(alloc: Global, case: &Case) -> Result<String, Fail> {
     let tables = tables(alloc, case)?;
-    if !are_tables(&tables) {
+    found_in(alloc, &tables)
+}
+
+/// `valid`, or the first damage of these tables.
+fn found_in(alloc: Global, tables: &Tables) -> Result<String, Fail> {
+    if !are_tables(tables) {
         return Err(Fail::new("the rows of a case are no tables"));
     }
-    match valid(alloc, &tables) {
+    match valid(alloc, tables) {
         Ok(()) => Ok(String::from_str(alloc, "valid")?),
         Err(Bad::Damaged(Damage { table, row })) => {
             Ok(format!(in alloc; "table {table} row {row}")?)

@@ -3,7 +3,7 @@ use crate::judging::are_tables;
 use crate::rows::tables;
 use desk_base::{List, Text};
 use desk_cases::Case;
-use desk_words::{Change, ClerkRow};
+use desk_words::{Change, ClerkRow, Tables};
 use keeper_core::{KeepFail, Keeper, MemKeeper};
 use std::alloc::Global;
 use std::test::Fail;
@@ -12,11 +12,16 @@ use std::test::Fail;
 /// the steward's last request in the tables that were loaded. The k-th call, where it commits, makes that number k.
 pub fn answers(alloc: Global, case: &Case) -> Result<String, Fail> {
     let mut keeper = keeper(alloc, case)?;
+    answers_of(alloc, &mut keeper, case.text("calls").unwrap_or(""))
+}
+
+/// What a keeper answers to these calls.
+fn answers_of(alloc: Global, keeper: &mut MemKeeper, calls: &str) -> Result<String, Fail> {
     let mut answers = String::new(alloc);
     let mut number = 0u64;
-    for call in case.text("calls").unwrap_or("").split_whitespace() {
+    for call in calls.split_whitespace() {
         number = number.saturating_add(1);
-        tell(alloc, &mut answers, &mut keeper, call, number)?;
+        tell(alloc, &mut answers, keeper, call, number)?;
     }
     Ok(answers)
 }
@@ -68,16 +73,19 @@ fn answer(alloc: Global, keeper: &mut MemKeeper, call: &str, number: u64) -> Res
 
 fn loaded(alloc: Global, keeper: &mut MemKeeper) -> Result<String, Fail> {
     match keeper.load() {
-        Ok(tables) => {
-            let last = tables
-                .clerks
-                .as_slice()
-                .first()
-                .map_or(0, |steward| steward.last);
-            Ok(format!(in alloc; "{last}")?)
-        }
+        Ok(tables) => last(alloc, &tables),
         Err(fail) => failed(alloc, fail),
     }
+}
+
+/// The number of the steward's last request in these tables.
+fn last(alloc: Global, tables: &Tables) -> Result<String, Fail> {
+    let last = tables
+        .clerks
+        .as_slice()
+        .first()
+        .map_or(0, |steward| steward.last);
+    Ok(format!(in alloc; "{last}")?)
 }
 
 fn committed(alloc: Global, keeper: &mut MemKeeper, number: u64) -> Result<String, Fail> {

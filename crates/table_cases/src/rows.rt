@@ -24,13 +24,19 @@ pub fn tables(alloc: Global, case: &Case) -> Result<Tables, Fail> {
         records: Room::new(alloc),
         batches: Room::new(alloc),
     };
+    fill(alloc, &mut tables, case)?;
+    Ok(tables)
+}
+
+/// Puts each row of a case into its table.
+fn fill(alloc: Global, tables: &mut Tables, case: &Case) -> Result<(), Fail> {
     for part in &case.parts {
         let Ok(line) = std::str::from_utf8(part.content.as_slice()) else {
             return Err(Fail::new("a row is no text"));
         };
-        row(alloc, &mut tables, part.name.as_str(), line)?;
+        row(alloc, tables, part.name.as_str(), line)?;
     }
-    Ok(tables)
+    Ok(())
 }
 
 fn row(alloc: Global, tables: &mut Tables, table: &str, line: &str) -> Result<(), Fail> {
