@@ -2,7 +2,7 @@
 //! desk.
 #![tactic(auto)]
 
-use desk_base::{Both, StdSink, StdSource, Str};
+use desk_base::{Both, NoMemory, StdSink, StdSource, Str};
 use fixdesk_run::{Status, run};
 use keeper_sqlite::FileKeeper;
 use session_machine::Desk;
@@ -13,15 +13,28 @@ use std::io::ErrorKind;
 use std::process::ExitCode;
 
 fn main(rt: HostRuntime) -> ExitCode {
-    let words = match env::args(&rt) {
-        Ok(words) => words.skip(1).collect::<Vec<_>>(rt.alloc()),
+    let code = match words(&rt) {
+        Ok(words) => run_words(&rt, words.as_slice()),
+        Err(AllocError) => Status::NoMemory.code(),
+    };
+    ExitCode::from(code)
+}
+
+/// The words of the program, without its name.
+fn words(rt: &HostRuntime) -> Result<Vec<String>, AllocError> {
+    match env::args(rt) {
+        Ok(words) => words.skip(1).collect(rt.alloc()),
         Err(error) if error.kind() == ErrorKind::OutOfMemory => Err(AllocError),
         // Words that are not UTF-8 are no command, like no words at all.
         Err(_) => Ok(Vec::new(rt.alloc())),
-    };
-    match (words, Str::new(rt.alloc(), "desk.db")) {
-        (Ok(words), Ok(path)) => ExitCode::from(run_over(&rt, &words, path, Unknown)),
-        _ => ExitCode::from(Status::NoMemory.code()),
+    }
+}
+
+/// Runs over `desk.db`, of which nothing is known beforehand.
+fn run_words(rt: &HostRuntime, words: &[String]) -> u8 {
+    match Str::new(rt.alloc(), "desk.db") {
+        Ok(path) => run_over(rt, words, path, Unknown),
+        Err(NoMemory) => Status::NoMemory.code(),
     }
 }
 

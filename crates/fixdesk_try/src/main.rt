@@ -12,21 +12,32 @@ use std::io::ErrorKind;
 use std::process::ExitCode;
 
 fn main(rt: HostRuntime) -> ExitCode {
+    let code = match words(&rt) {
+        Ok(words) => run_words(&rt, words.as_slice()),
+        Err(AllocError) => Status::NoMemory.code(),
+    };
+    ExitCode::from(code)
+}
+
+/// The words of the program, without its name.
+fn words(rt: &HostRuntime) -> Result<Vec<String>, AllocError> {
+    match env::args(rt) {
+        Ok(words) => words.skip(1).collect(rt.alloc()),
+        Err(error) if error.kind() == ErrorKind::OutOfMemory => Err(AllocError),
+        // Words that are not UTF-8 are no command, like no words at all.
+        Err(_) => Ok(Vec::new(rt.alloc())),
+    }
+}
+
+/// Runs over the tables of an empty desk.
+fn run_words(rt: &HostRuntime, words: &[String]) -> u8 {
     let mut link = Both {
         source: StdSource::new(rt.stdin()),
         sink: StdSink::new(rt.stdout()),
     };
-    let words = match env::args(&rt) {
-        Ok(words) => words.skip(1).collect::<Vec<_>>(rt.alloc()),
-        Err(error) if error.kind() == ErrorKind::OutOfMemory => Err(AllocError),
-        // Words that are not UTF-8 are no command, like no words at all.
-        Err(_) => Ok(Vec::new(rt.alloc())),
-    };
-    match (words, keeper(rt.alloc())) {
-        (Ok(words), Ok(mut keeper)) => {
-            ExitCode::from(run::<Desk, _, _, _>(rt.alloc(), &words, &mut keeper, &mut link))
-        }
-        _ => ExitCode::from(Status::NoMemory.code()),
+    match keeper(rt.alloc()) {
+        Ok(mut keeper) => run::<Desk, _, _, _>(rt.alloc(), words, &mut keeper, &mut link),
+        Err(NoMemory) => Status::NoMemory.code(),
     }
 }
 

@@ -2,7 +2,7 @@
 //! handed to `fixdesk_run` with the desk.
 #![tactic(auto)]
 
-use desk_base::{StdSink, Str};
+use desk_base::{NoMemory, StdSink, Str};
 use fixdesk_run::{Status, serve};
 use keeper_sqlite::FileKeeper;
 use session_machine::Desk;
@@ -14,15 +14,28 @@ use std::process::ExitCode;
 use tcp_door::TcpDoor;
 
 fn main(rt: HostRuntime) -> ExitCode {
-    let words = match env::args(&rt) {
-        Ok(words) => words.skip(1).collect::<Vec<_>>(rt.alloc()),
+    let code = match words(&rt) {
+        Ok(words) => serve_words(&rt, words.as_slice()),
+        Err(AllocError) => Status::NoMemory.code(),
+    };
+    ExitCode::from(code)
+}
+
+/// The words of the program, without its name.
+fn words(rt: &HostRuntime) -> Result<Vec<String>, AllocError> {
+    match env::args(rt) {
+        Ok(words) => words.skip(1).collect(rt.alloc()),
         Err(error) if error.kind() == ErrorKind::OutOfMemory => Err(AllocError),
         // Words that are not UTF-8 are no port and count, like no words at all.
         Err(_) => Ok(Vec::new(rt.alloc())),
-    };
-    match (words, Str::new(rt.alloc(), "desk.db")) {
-        (Ok(words), Ok(path)) => ExitCode::from(serve_over(&rt, &words, path, Unknown)),
-        _ => ExitCode::from(Status::NoMemory.code()),
+    }
+}
+
+/// Serves over `desk.db`, of which nothing is known beforehand.
+fn serve_words(rt: &HostRuntime, words: &[String]) -> u8 {
+    match Str::new(rt.alloc(), "desk.db") {
+        Ok(path) => serve_over(rt, words, path, Unknown),
+        Err(NoMemory) => Status::NoMemory.code(),
     }
 }
 
