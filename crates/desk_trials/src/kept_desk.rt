@@ -36,7 +36,8 @@ impl Model for KeptDesk {
 impl KeptDesk {
     /// A new desk, none of whose keeper's calls fails.
     pub fn fresh(alloc: Global) -> Result<KeptDesk, Fail>
-        ensures { IfOk result (λ desk. desk.rows ≡ empty_rows) }
+        ensures empty { IfOk result (λ desk. desk.rows ≡ empty_rows) }
+        ensures steady { IfOk result (λ desk. desk.schedule.fails ≡ []) }
     {
         Ok(KeptDesk::begin(alloc, Tables::empty(alloc)?, List::new(alloc))?)
     }
@@ -47,7 +48,7 @@ impl KeptDesk {
         ensures started { IfOk result (λ desk. AreStarted (Some (rows_of tables)) (Some desk.rows) desk.rows) }
         ensures unstarted { IfErr result (λ fail. (left : Rows) × (faults : ℕ)
             × IsUnstarted (Some (rows_of tables)) (Some left) 0 faults fail) }
-        ensures steady { fails ≡ [] → StartsAvailable result }
+        ensures steady { fails ≡ [] → StartsAvailable result × IfOk result (λ desk. desk.schedule.fails ≡ []) }
     {
         let mut keeper = MemKeeper::new(tables, fails);
         let desk = Desk::start(alloc, &mut keeper)?;
