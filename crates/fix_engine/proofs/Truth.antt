@@ -1,7 +1,7 @@
 -- A record that agrees with a state and obeys the rules agrees with every state that they lead to.
-use Rattle.std.proofs.Common.{◌≡◌, ◌<◌, ◌∙◌, ℕ, true, List, [], ◌∷◌, length, get_or, refl, sym, ap, subst, eqb}
+use Rattle.std.proofs.Common.{◌≡◌, ◌<◌, ◌∙◌, ℕ, Bool, true, List, [], ◌∷◌, length, get_or, refl, sym, ap, subst, eqb}
 use Rattle.std.proofs.Common.{eqb-true, inl, inr}
-use Rattle.std.specs.Prelude.{All, None}
+use Rattle.std.specs.Prelude.{All, None, Some}
 use Rattle.std.proofs.lemmas.Bool.{cases_Bool, eqb-false}
 use Rattle.std.proofs.lemmas.List.{ext_get_or}
 use Rattle.fix_model.specs.declared.kit.Kit.{Kit}
@@ -21,7 +21,10 @@ use Rattle.fix_model.proofs.Deciding.{decide_equal}
 use Rattle.fix_model.proofs.Lengths.{IsCovered-end_of}
 use Rattle.fix_model.proofs.Runs.{typed-end_of}
 use Rattle.fix_model.proofs.States.{Fits-after}
+use Rattle.fix_engine.specs.declared.verdict.Verdict.{Verdict}
+use Rattle.fix_engine.specs.declared.verdict.Verdict.TheVariants as verdicts
 use Rattle.fix_engine.specs.Departures.{IsInside}
+use Rattle.fix_engine.specs.Verdicts.{IsAnswer}
 use Rattle.fix_engine.proofs.Ends.{IsInside-end_of, IsInside-start, KeepsTo, cell_at-other, length-record_of}
 use Rattle.fix_engine.proofs.Ends.{record_of-at, shown-open, value_at-head, value_at-other}
 
@@ -135,6 +138,34 @@ module _ (kit : Kit) (valid : IsValid kit) (texts : List (List ℕ)) (obeys : Ob
       same_record kit state (end_of kit state run) (end_of kit state other) (typed-end_of kit state run)
       (typed-end_of kit state other) (IsInside-true state run other fits agrees one.0 two)
       (IsInside-true state other run fits agrees two.0 one)
+
+  -- ---- the answer is a fix without a dissent
+
+  -- the first run of an answer is maximal
+  maximal_first : (state : State) (first second : List Step) (verdict : Verdict)
+      → IsAnswer kit state first second verdict → IsMaximalRun kit state first
+  maximal_first state first second (verdicts.Fix certain dissent) answer = answer.0.is_first.holds
+  maximal_first state first second verdicts.Conflict answer = answer.is_first.holds
+
+  -- the record agrees with the end of an answer's first run
+  pub RecordAgrees-first : (state : State) (first second : List Step) (verdict : Verdict) → Fits kit state
+      → RecordAgrees kit state texts → IsAnswer kit state first second verdict
+      → RecordAgrees kit (end_of kit state first) texts
+  RecordAgrees-first state first second verdict fits agrees answer =
+      RecordAgrees-end_of state first fits (maximal_first state first second verdict answer).0 agrees
+
+  -- the answer is a fix, and no step dissents
+  pub IsAnswer-fix : (state : State) (first second : List Step) (verdict : Verdict) → Fits kit state
+      → RecordAgrees kit state texts → IsAnswer kit state first second verdict
+      → (certain : Bool) × (verdict ≡ verdicts.Fix certain None)
+  IsAnswer-fix state first second (verdicts.Fix certain None) fits agrees answer = (certain, refl)
+  IsAnswer-fix state first second (verdicts.Fix certain (Some step)) fits agrees answer =
+      absurd (no_dissent (end_of kit state first) step
+      (RecordAgrees-first state first second (verdicts.Fix certain (Some step)) fits agrees answer)
+      answer.0.is_dissent.holds)
+  IsAnswer-fix state first second verdicts.Conflict fits agrees answer =
+      absurd (answer.is_second.holds.differs (EndAlike-true state first second fits agrees answer.is_first.holds
+      answer.is_second.holds.maximal))
 
 module _ (kit : Kit) (valid : IsValid kit) (state : State) (fits : Fits kit state) (first : List Step) where
   -- ---- the record of a certain fix

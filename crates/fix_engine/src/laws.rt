@@ -1,5 +1,5 @@
 //! What holds of the order of applications, whatever the rules and the records.
-ghost use Rattle.std.specs.Prelude.{◌≡◌, ◌↔◌, ◌<◌, ℕ, List, true, Some, None};
+ghost use Rattle.std.specs.Prelude.{◌≡◌, ◌↔◌, ◌<◌, ℕ, Bool, List, true, Some, None};
 ghost use Rattle.fix_model.specs.declared.state.Step.{Step as StepOf};
 ghost use Rattle.fix_model.specs.FirstRun.{IsFirstRun};
 ghost use Rattle.fix_model.specs.Fix.{Dissents, EndAlike, IsConflict, IsDissent, IsFix, IsSecondRun};
@@ -8,6 +8,7 @@ ghost use Rattle.fix_model.specs.Run.{IsMaximalRun, end_of};
 ghost use Rattle.fix_model.specs.States.{Fits, IsCovered, record_of, value_at};
 ghost use Rattle.fix_model.specs.Valid.{IsValid};
 ghost use Rattle.fix_engine.specs.declared.verdict.Verdict.{Verdict as VerdictOf};
+ghost use Rattle.fix_engine.specs.declared.verdict.Verdict.TheVariants as verdicts;
 ghost use Rattle.fix_engine.specs.Verdicts.{IsAnswer};
 ghost use Rattle.fix_engine.specs.WorkSeen.{IsRoomFor};
 
@@ -107,6 +108,25 @@ pub fn truth_is_kept(kit: &Kit, state: &State, texts: &[Text], run: &[Step])
     ensures unique { (other : List StepOf) → IsMaximalRun kit.now state.now other
         → EndAlike kit.now state.now run.now other }
     ensures undisputed { (step : StepOf) → ¬ Dissents kit.now (end_of kit.now state.now run.now) step }
+{}
+
+/// Where some record agrees with the state and obeys the rules, the answer is a fix without a dissent, and its covered
+/// attributes have the texts that they have in that record.
+pub fn truth_has_a_fix(
+    kit: &Kit,
+    state: &State,
+    texts: &[Text],
+    first: &[Step],
+    second: &[Step],
+    verdict: Verdict,
+)
+    requires valid { IsValid kit.now }
+    requires fits { Fits kit.now state.now }
+    requires agrees { RecordAgrees kit.now state.now texts.now }
+    requires obeys { Obeys kit.now texts.now }
+    requires answer { IsAnswer kit.now state.now first.now second.now verdict }
+    ensures fix { (certain : Bool) × (verdict ≡ verdicts.Fix certain None) }
+    ensures texts { RecordAgrees kit.now (end_of kit.now state.now first.now) texts.now }
 {}
 
 /// At a certain fix without dissent, the record of the fix agrees with the state and obeys the rules, and no
