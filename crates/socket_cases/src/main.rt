@@ -9,6 +9,7 @@ mod peers;
 mod visits;
 
 use desk_cases::{Case, Part, Subject, try_files};
+use peers::is_sent;
 use std::alloc::Global;
 use std::test::Fail;
 
@@ -20,7 +21,7 @@ struct Sockets<'r> {
 
 impl Subject for Sockets<'_> {
     fn reads(&self, _kind: &str, _case: &Case, part: &Part) -> bool {
-        part.name.as_str() == "sent"
+        is_sent(part)
     }
 
     fn answer(&mut self, alloc: Global, kind: &str, case: &Case) -> Result<Vec<Part>, Fail> {

@@ -1,6 +1,7 @@
 //! A door on a TCP port of the loopback address. A clause sees its counts and its port.
 ghost use Rattle.std.specs.Prelude.{◌≡◌, ℕ, IfOk, None};
 ghost use Rattle.desk_base.specs.Faults.{HasCause};
+ghost use Rattle.tcp_door.specs.Tcp.{fresh_end};
 
 use crate::ends::{TcpSink, TcpSource};
 use desk_base::{Both, Failed, FaultCount};
@@ -59,7 +60,7 @@ fn connect<'r>(
     rt: &'r HostRuntime,
     listener: &TcpListener,
 ) -> io::Result<Both<TcpSource<'r>, TcpSink<'r>>>
-    ensures { IfOk result (λ link. (link.source ≡ 0) × (link.sink ≡ 0)) }
+    ensures { IfOk result (λ link. (link.source ≡ fresh_end) × (link.sink ≡ fresh_end)) }
 {
     let (stream, _) = listener.accept()?;
     let sink = TcpSink::new(rt, stream.try_clone()?);
@@ -124,8 +125,12 @@ impl<'r> Listener for TcpDoor<'r> {
         requires { self.old.live ≡ 1 }
         ensures { self.new ≡ record self.old { live = 0 } }
     {
-        link.sink.finish();
-        link.source.drain();
+        let Both { source, sink } = link;
+        let is_lost = source.is_lost() || sink.is_lost();
+        sink.finish();
+        if !is_lost {
+            source.drain();
+        }
         self.live = 0;
     }
 }

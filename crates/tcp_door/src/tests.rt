@@ -1,4 +1,4 @@
-//! One connection in one process: the kernel takes it before it is accepted.
+//! Connections in one process: the kernel takes them before they are accepted.
 ghost use Rattle.std.specs.Prelude.{◌≡◌, IfSome, Some};
 
 use crate::door::TcpDoor;
@@ -48,5 +48,19 @@ fn a_connection_is_read_and_answered(rt: HostRuntime) -> Result<(), Fail> {
     assert_eq!(rt; peer.read(&mut answer)?, 7);
     assert_eq!(rt; &answer[..7], b"welcome".as_slice());
     assert_eq!(rt; peer.read(&mut answer)?, 0);
+    Ok(())
+}
+
+/// At another address of this machine the port is not open.
+#[test]
+fn the_door_is_on_one_address(rt: HostRuntime) -> Result<(), Fail> {
+    let mut door = TcpDoor::new(&rt);
+    let Some(port) = bind_some(&mut door) else {
+        return Err(Fail::new("no port was free"));
+    };
+    let other = TcpStream::connect(&rt, (Ipv4Addr::new(127, 0, 0, 2), port));
+    assert!(rt; other.is_err());
+    let own = TcpStream::connect(&rt, (Ipv4Addr::LOCALHOST, port));
+    assert!(rt; own.is_ok());
     Ok(())
 }
