@@ -4,6 +4,8 @@ ghost use Rattle.std.specs.List.{AllByRecursion};
 ghost use Rattle.desk_words.specs.declared.change.Change.{Change};
 ghost use Rattle.desk_words.specs.Changes.{FitAll, changed_all};
 ghost use Rattle.desk_words.specs.Tables.{AreTables, Rows, empty_rows};
+ghost use Rattle.desk_packing.specs.declared.kinds.TheConstants.{VERSION, CLERKS, SCHEMAS, MASTERS, RULEBOOKS};
+ghost use Rattle.desk_packing.specs.declared.kinds.TheConstants.{EDITIONS, REGIONS, SESSIONS, RECORDS, BATCHES};
 ghost use Rattle.desk_packing.specs.Formats.{IsApart, IsExact};
 ghost use Rattle.desk_packing.specs.Lines.{Line, put_lines};
 ghost use Rattle.desk_packing.specs.Reading.{rows_in};
@@ -13,6 +15,21 @@ ghost use Rattle.desk_packing.specs.RowFormats.{schema, session};
 ghost use Rattle.desk_packing.specs.Shapes.{FitLengths, FitsFields, grown_all, lines_of_changes, migration_lines};
 ghost use Rattle.desk_packing.specs.Shapes.{shape_of};
 ghost use Rattle.desk_packing.specs.Stands.{StandFor, StandIn, lines_of, old_lines_of};
+
+/// The kinds of rows are these numbers (docs/formats.md, *The stored tables*): a file that was written once is read by
+/// them.
+pub fn the_kinds_are()
+    ensures version { VERSION ≡ 0 }
+    ensures clerks { CLERKS ≡ 1 }
+    ensures schemas { SCHEMAS ≡ 2 }
+    ensures masters { MASTERS ≡ 3 }
+    ensures rulebooks { RULEBOOKS ≡ 4 }
+    ensures editions { EDITIONS ≡ 5 }
+    ensures regions { REGIONS ≡ 6 }
+    ensures sessions { SESSIONS ≡ 7 }
+    ensures records { RECORDS ≡ 8 }
+    ensures batches { BATCHES ≡ 9 }
+{}
 
 /// A packed row is read back, whatever stands behind it; and what is read was packed so.
 pub fn packed_rows_are_read_back()
