@@ -1,10 +1,10 @@
 //! Valid tables, with the numbers that limits speak of. A clause sees the rows of the tables.
-ghost use Rattle.std.specs.Prelude.{◌≡◌, ◌<◌, ◌≤◌, ◌^◌, [], length, sum_by, IfOk, OnOk, OnErr};
+ghost use Rattle.std.specs.Prelude.{◌≡◌, ◌<◌, ◌^◌, [], length, sum_by, IfOk, OnOk, OnErr};
 ghost use Rattle.desk_words.specs.Changes.{FitAll, changed_all};
 ghost use Rattle.desk_words.specs.Tables.{list_at, rows_of};
 ghost use Rattle.desk_valid.specs.Tallies.{active_count, master_cells, text_bytes};
 ghost use Rattle.desk_valid.specs.Valid.{AreValid};
-ghost use Rattle.keeper_core.specs.Keeping.{FailsRise, IfTold, NeverFails};
+ghost use Rattle.keeper_core.specs.Keeping.{CommitsOnce, CountsFailures, IfTold, NeverFails, TellsNoMore};
 
 use crate::cells::{cells_with, master_cells};
 use crate::counting::all_totals;
@@ -89,8 +89,8 @@ impl Totalled {
         sum_of_last(self.tables.clerks.as_slice())
     }
 
-    /// Makes the changes in the keeper and in the tables, or in neither. Without changes the keeper stays as it is, and
-    /// nothing refuses.
+    /// Makes the changes in the keeper and in the tables, or in neither. The keeper is called once; where there was no
+    /// memory it may not have been called. Without changes the keeper stays as it is, and nothing refuses.
     pub fn settle<K: Keeper>(
         &mut self,
         alloc: Global,
@@ -103,10 +103,11 @@ impl Totalled {
         ensures settled { OnOk result (self.new ≡ changed_all self.old changes) }
         ensures unchanged { OnErr result (self.new ≡ self.old) }
         ensures told { IfTold (K.tables keeper.new) self.new }
+        ensures no_more { TellsNoMore (K.tables keeper.old) (K.tables keeper.new) }
         ensures idle { changes ≡ [] → keeper.new ≡ keeper.old }
         ensures idle_too { changes ≡ [] → OnErr result ⊥ }
-        ensures later { K.faults keeper.old ≤ K.faults keeper.new }
-        ensures cause { FailsRise (K.faults keeper.old) (K.faults keeper.new) result }
+        ensures called { CommitsOnce changes (K.calls keeper.old) (K.calls keeper.new) result }
+        ensures faults { CountsFailures (K.faults keeper.old) (K.faults keeper.new) result }
         ensures steady { K.is_steady keeper.old → NeverFails result × K.is_steady keeper.new }
     {
         if changes.is_empty() {

@@ -1,10 +1,11 @@
 //! A keeper in memory, some of whose calls are to fail. A clause sees its tables, its counts and which calls fail.
-ghost use Rattle.std.specs.Prelude.{◌≡◌, ◌≤◌, ◌↔◌, [], Some, Err, IfOk, OnOk, OnErr, IsErrOf};
+ghost use Rattle.std.specs.Prelude.{◌≡◌, ◌↔◌, [], Some, Err, IfOk, OnOk, OnErr, IsErrOf};
+ghost use Rattle.desk_base.specs.Counts.{risen};
 ghost use Rattle.desk_base.specs.Memory.{NextFails, after_call};
 ghost use Rattle.desk_words.specs.Changes.{FitAll, changed_all};
 ghost use Rattle.desk_words.specs.Tables.{AreTables, rows_of};
-ghost use Rattle.keeper_core.specs.Keeping.{ChangeTold, CountsFailures, FailsRise, FitTold, IsLoaded};
-ghost use Rattle.keeper_core.specs.Keeping.{NeverFails, StayTold};
+ghost use Rattle.keeper_core.specs.Keeping.{ChangeTold, CountsFailures, FitTold, IsLoaded};
+ghost use Rattle.keeper_core.specs.Keeping.{LoadsHeld, NeverFails, StayTold};
 
 use crate::changing::change_all;
 use crate::keeper::{KeepFail, Keeper};
@@ -66,20 +67,25 @@ impl MemKeeper {
 impl Keeper for MemKeeper {
     ghost tables = { λ k. Some k.rows };
 
+    ghost calls = { λ k. k.schedule.calls };
+
     ghost faults = { λ k. k.faults };
+
+    ghost holds = { λ k rows. k.rows ≡ rows };
 
     ghost is_steady = { λ k. k.schedule.fails ≡ [] };
 
     fn load(&mut self) -> Result<Tables, KeepFail>
         ensures loaded { IfOk result (λ made. IsLoaded (Some self.old.rows) (Some self.new.rows) (rows_of made)) }
+        ensures kept { IfOk result
+            (λ made. LoadsHeld (λ rows. self.old.rows ≡ rows) (Some self.new.rows) (rows_of made)) }
         ensures whole { IfOk result (λ made. AreTables (rows_of made)) }
         ensures unchanged { OnErr result (StayTold (Some self.old.rows) (Some self.new.rows)) }
-        ensures later { self.old.faults ≤ self.new.faults }
-        ensures cause { FailsRise self.old.faults self.new.faults result }
+        ensures called { self.new.schedule.calls ≡ risen self.old.schedule.calls }
+        ensures faults { CountsFailures self.old.faults self.new.faults result }
         ensures steady { self.old.schedule.fails ≡ [] → NeverFails result × (self.new.schedule.fails ≡ []) }
 
         // Exactly which calls fail, and what they count.
-        ensures faults { CountsFailures self.old.faults self.new.faults result }
         ensures fails { IsErrOf result KeepFail.Failed ↔ NextFails self.old.schedule }
         ensures counted { self.new.schedule ≡ after_call self.old.schedule }
     {
@@ -94,12 +100,11 @@ impl Keeper for MemKeeper {
         requires { FitTold (Some self.old.rows) changes.now }
         ensures committed { OnOk result (ChangeTold (Some self.old.rows) (Some self.new.rows) changes.now) }
         ensures unchanged { OnErr result (StayTold (Some self.old.rows) (Some self.new.rows)) }
-        ensures later { self.old.faults ≤ self.new.faults }
-        ensures cause { FailsRise self.old.faults self.new.faults result }
+        ensures called { self.new.schedule.calls ≡ risen self.old.schedule.calls }
+        ensures faults { CountsFailures self.old.faults self.new.faults result }
         ensures steady { self.old.schedule.fails ≡ [] → NeverFails result × (self.new.schedule.fails ≡ []) }
 
         // Exactly which calls fail, and what they count.
-        ensures faults { CountsFailures self.old.faults self.new.faults result }
         ensures fails { IsErrOf result KeepFail.Failed ↔ NextFails self.old.schedule }
         ensures counted { self.new.schedule ≡ after_call self.old.schedule }
     {
