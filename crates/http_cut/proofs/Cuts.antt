@@ -210,3 +210,26 @@ pub IsCut_unique : (bytes : List ℕ) (requests others : List WholeRequest) (res
 IsCut_unique bytes requests others rest left end last x y =
     let same = Begins_unique bytes requests others rest left end last x.begins x.ends y.begins y.ends in
     (same.0, same.1, end_unique rest end last x.ends (subst (λ (r : List ℕ). IsEnd r last) (sym same.1) y.ends))
+
+-- ---- how a cut grows
+
+-- one more request
+pub Begins-push : (bytes : List ℕ) (requests : List WholeRequest) (middle : List ℕ) (request : WholeRequest)
+    (rest : List ℕ) → Begins bytes requests middle → BeginsRequest middle request.0 request.1 rest
+    → Begins bytes (requests ++ request ∷ []) rest
+Begins-push bytes [] middle request rest same whole =
+    (rest, subst (λ (all : List ℕ). BeginsRequest all request.0 request.1 rest) (sym same) whole, refl)
+Begins-push bytes (first ∷ requests) middle request rest h whole =
+    (h.0, h.1, Begins-push h.0 requests middle request rest h.2 whole)
+
+-- the requests stay as bytes come
+pub Begins-more : (bytes : List ℕ) (requests : List WholeRequest) (rest more : List ℕ) → Begins bytes requests rest
+    → Begins (bytes ++ more) requests (rest ++ more)
+Begins-more bytes [] rest more same = ap (λ (all : List ℕ). all ++ more) same
+Begins-more bytes (first ∷ requests) rest more h =
+    (h.0 ++ more, BeginsRequest-append bytes more first.0 first.1 h.0 h.1, Begins-more h.0 requests rest more h.2)
+
+-- bytes that are open end in a kind
+pub open_end : (bytes : List ℕ) → IsOpen bytes → (end : End) × IsEnd bytes end
+open_end [] is_open = (clean, refl)
+open_end (byte ∷ bytes) is_open = (truncated (length (byte ∷ bytes)), ((λ e. cc), refl, is_open))

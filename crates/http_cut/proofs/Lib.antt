@@ -6,6 +6,7 @@ pub mod Finding
 pub mod Heads
 pub mod Opening
 pub mod Overlap
+pub mod Reading
 pub mod Seeking
 pub mod Segments
 pub mod Spelling

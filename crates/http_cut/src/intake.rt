@@ -8,7 +8,7 @@ ghost use Rattle.http_cut.specs.declared.step.BadRest.{BadRest};
 ghost use Rattle.http_cut.specs.declared.step.Request.{Request};
 ghost use Rattle.http_cut.specs.declared.step.Step.TheVariants as steps;
 ghost use Rattle.http_cut.specs.Looks.{IsStep};
-ghost use Rattle.http_cut.specs.Taking.{Fetches};
+ghost use Rattle.http_cut.specs.Taking.{Fetches, ReadsNoFurther};
 
 use crate::routes::Routes;
 use crate::step::{Step, first_step};
@@ -114,6 +114,7 @@ impl Intake {
     pub fn next_step<S: Source>(&mut self, source: &mut S) -> Result<Step, IntakeFault>
         requires few { length self.old < PIECE }
         ensures fetched { Fetches (S.left source.old) (S.left source.new) self.old self.new result }
+        ensures order { ReadsNoFurther S.reads source.old source.new self.old self.new result }
         ensures end { (least : ℕ) → result ≡ Ok (steps.NeedMore least) → IsAtEnd (S.left source.new) }
         ensures behind { (request : Request) → result ≡ Ok (steps.Whole request)
             → length self.new < request.body.end + PIECE }
@@ -141,6 +142,7 @@ pub fn next_step<S: Source>(
     requires piece { length piece.old ≡ PIECE }
     requires few { length window.old < PIECE }
     ensures fetched { Fetches (S.left source.old) (S.left source.new) window.old window.new result }
+    ensures order { ReadsNoFurther S.reads source.old source.new window.old window.new result }
     ensures end { (least : ℕ) → result ≡ Ok (steps.NeedMore least) → IsAtEnd (S.left source.new) }
     ensures behind { (request : Request) → result ≡ Ok (steps.Whole request)
         → length window.new < request.body.end + PIECE }

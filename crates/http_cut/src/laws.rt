@@ -8,6 +8,9 @@ ghost use Rattle.http_cut.specs.Cut.{WholeRequest, BeginsRequest, IsBadRest, End
 ghost use Rattle.http_cut.specs.Head.{HasHead, AwaitsHead, IsBadHead};
 ghost use Rattle.http_cut.specs.Routes.{Match, match_of, SpellsRoute};
 
+use crate::routes::Routes;
+use crate::step::{Step, first_step};
+
 /// A head that stands is there whatever follows, and it is the one that is found then.
 pub fn a_head_stays(bytes: &[u8], more: &[u8])
     ensures stays { (head : RequestHead) → HasHead bytes.now head → HasHead (bytes.now ++ more.now) head }
@@ -28,6 +31,20 @@ pub fn the_front_stays(bytes: &[u8], more: &[u8])
         → BeginsRequest (bytes.now ++ more.now) head body (rest ++ more.now) }
     ensures bad { (kind : BadRest) → IsBadRest bytes.now kind → IsBadRest (bytes.now ++ more.now) kind }
 {}
+
+/// Every stream has a cut: its requests are taken off the front, one by one, until what is left begins with none.
+pub fn a_stream_has_a_cut(routes: &Routes, bytes: &[u8])
+    ensures { (requests : List WholeRequest) × (rest : List ℕ) × (end : End) × IsCut bytes.now requests rest end }
+{
+    let mut rest = bytes;
+    'requests: loop {
+        match first_step(routes, rest) {
+            Step::Whole(request) => rest = &rest[request.body.end..],
+            Step::NeedMore(_) => return,
+            Step::Bad(_, _) => return,
+        }
+    }
+}
 
 /// A stream has at most one cut.
 pub fn a_stream_has_one_cut(bytes: &[u8])

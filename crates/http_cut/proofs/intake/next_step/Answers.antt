@@ -1,11 +1,14 @@
-use Rattle.std.proofs.Common.{◌≡◌, ◌+◌, ◌<◌, ◌≤◌, ℕ, List, [], ◌++◌, length, take, Err, sym, ap, ◌∙◌, subst, arith}
+use Rattle.std.proofs.Common.{◌≡◌, ◌+◌, ◌<◌, ◌≤◌, ℕ, List, [], ◌∷◌, ◌++◌, length, take, Err, refl, sym, ap, ◌∙◌}
+use Rattle.std.proofs.Common.{subst, arith}
 use Rattle.std.proofs.Common.{append-nil, append_assoc, length-append, rules}
 use Rattle.http_cut.specs.declared.step.Step.{Step}
+use Rattle.http_cut.specs.declared.intake.TheConstants.{PIECE}
 use Rattle.http_cut.specs.declared.intake.IntakeFault.TheVariants.{Failed, NoMemory}
 use Rattle.http_cut.specs.Cut.{IsOpen, BeginsRequest, IsBadRest}
 use Rattle.http_cut.specs.Looks.{IsStep, Awaits}
-use Rattle.http_cut.specs.Taking.{Takes, Loses, Fetches}
+use Rattle.http_cut.specs.Taking.{Takes, Loses, Fetches, Gives, Reading, ReadsOn, ReadsNoFurther}
 use Rattle.http_cut.proofs.Cuts.{request_shorter}
+use Rattle.http_cut.proofs.Reading.{ReadsOn-push, gave}
 use Rattle.http_cut.proofs.Waiting.{open_few, open_now, awaits_on, bad_before, request_ends_in_last}
 use Rattle.http_cut.proofs.Waiting.{Consumes-then, Consumes-none, Consumes-kept}
 use Rattle.http_cut.proofs.intake.next_step.Goals as goal
@@ -15,6 +18,7 @@ reads-init g c =
     let window = c.args.window.now in
     record {
       takes = record { bytes = []; taken = Consumes-none _; joined = sym (append-nil window) };
+      in_turn = ([], (refl, refl));
       step = subst (λ (b : List ℕ). IsStep b c.first_step-step.result) c.bytes.ensures c.first_step-step.ensures;
       few = λ head body rest begins. let shorter = request_shorter window head body rest begins in
           omega (arith, c.requires.few);
@@ -92,6 +96,15 @@ reads-preserved g c =
     let added : c.add.new.self ≡ window ++ read = c.in_ok-add.ensures.added in
     let within = c.in_ok-count.ensures.within in
     let size : length read ≤ 65536 = omega arith in
+    let one : Reading _ = record { source = c.read.new.self; piece = read } in
+    let gives : Gives g.S.Source.reads c.reads.source one =
+    gave g.S.Source.reads c.reads.source c.read.new.self (length c.reads.piece) c.in_ok-count.count c.read.new.buf
+    (c.reads.auto.piece ∙ c.requires.piece) (omega arith) c.in_ok-count.ensures.reads c.in_ok-count.ensures.within
+    c.if-count-eq0.false in
+    let on = subst (λ (w : List ℕ). ReadsOn g.S.Source.reads c.args.source.now c.args.window.now
+    (c.reads.invariant.in_turn.0 ++ one ∷ []) c.read.new.self w) (sym added)
+    (ReadsOn-push g.S.Source.reads c.args.source.now c.reads.source c.args.window.now window
+    c.reads.invariant.in_turn.0 one c.reads.invariant.in_turn.1 awaits gives) in
     record {
       takes = record {
         bytes = so_far.bytes ++ read;
@@ -99,6 +112,7 @@ reads-preserved g c =
         joined = added ∙ (ap (λ (t : List ℕ). t ++ read) so_far.joined
             ∙ append_assoc c.args.window.now so_far.bytes read);
       };
+      in_turn = (c.reads.invariant.in_turn.0 ++ one ∷ [], on);
       step = subst (λ (b : List ℕ). IsStep b c.step_after-step.result) c.bytes-in-reads.ensures
           c.step_after-step.ensures;
       few = λ head body rest begins.
@@ -111,3 +125,46 @@ reads-preserved g c =
       later = omega (arith, c.reads.invariant.later, c.in_ok-count.ensures.cause.later);
       steady = λ steady. (c.in_ok-count.ensures.steady (c.reads.invariant.steady steady)).1;
     }
+
+-- a request was awaited still where a read failed
+pub returns-in_err-count-clause-order : goal.returns-in_err-count-clause-order
+returns-in_err-count-clause-order g c =
+    let on = c.reads.invariant.in_turn in
+    let failed : c.from_residual.result ≡ Err Failed = search rules in
+    let read : g.S.Source.reads c.reads.source c.read.new.self PIECE (Err (record {})) =
+    subst (λ (n : ℕ). g.S.Source.reads c.reads.source c.read.new.self n (Err (record {})))
+    (c.reads.auto.piece ∙ c.requires.piece) c.in_err-count.ensures.reads in
+    let reading : ReadsNoFurther g.S.Source.reads c.args.source.now c.read.new.self c.args.window.now c.reads.window
+    (Err Failed) = record {
+      given = on.0;
+      last = c.reads.source;
+      held = c.reads.window;
+      in_turn = on.1;
+      ends = (read, refl);
+    } in
+    subst (ReadsNoFurther g.S.Source.reads c.args.source.now c.read.new.self c.args.window.now c.reads.window)
+    (sym failed) reading
+
+-- and where there was no memory for what one gave
+pub returns-in_err-add-clause-order : goal.returns-in_err-add-clause-order
+returns-in_err-add-clause-order g c =
+    let on = c.reads.invariant.in_turn in
+    let read : List ℕ = take c.in_ok-count.count c.read.new.buf in
+    let waits = subst (λ (s : Step). IsStep c.reads.window s) c.in-NeedMore.is c.reads.invariant.step in
+    let awaits : IsOpen c.reads.window = open_now c.reads.window c.in-NeedMore.least waits.0 waits.1 in
+    let one : Reading _ = record { source = c.read.new.self; piece = read } in
+    let gives : Gives g.S.Source.reads c.reads.source one =
+    gave g.S.Source.reads c.reads.source c.read.new.self (length c.reads.piece) c.in_ok-count.count c.read.new.buf
+    (c.reads.auto.piece ∙ c.requires.piece) (omega arith) c.in_ok-count.ensures.reads c.in_ok-count.ensures.within
+    c.if-count-eq0.false in
+    let want : c.from_residual-in_err-add.result ≡ Err NoMemory = search rules in
+    let reading : ReadsNoFurther g.S.Source.reads c.args.source.now c.read.new.self c.args.window.now c.add.new.self
+    (Err NoMemory) = record {
+      given = on.0;
+      last = c.reads.source;
+      held = c.reads.window;
+      in_turn = on.1;
+      ends = (awaits, (one, gives, refl));
+    } in
+    subst (ReadsNoFurther g.S.Source.reads c.args.source.now c.read.new.self c.args.window.now c.add.new.self)
+    (sym want) reading

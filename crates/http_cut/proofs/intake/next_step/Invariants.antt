@@ -5,12 +5,13 @@ use Rattle.http_cut.specs.declared.intake.TheConstants.{PIECE}
 use Rattle.http_cut.specs.declared.step.BadRest.{BadRest}
 use Rattle.http_cut.specs.Cut.{BeginsRequest, IsBadRest}
 use Rattle.http_cut.specs.Looks.{IsStep}
-use Rattle.http_cut.specs.Taking.{Takes}
+use Rattle.http_cut.specs.Taking.{Reading, ReadsOn, Takes}
 use Rattle.http_cut.proofs.intake.next_step.Given as goal
 
 abbrev pub invariant-reads : goal.invariant-reads
 invariant-reads g l = record {
   takes : Takes (g.S.Source.left l.fn.source) (g.S.Source.left l.source) l.fn.window l.window;
+  in_turn : (given : List (Reading _)) × ReadsOn g.S.Source.reads l.fn.source l.fn.window given l.source l.window;
   step : IsStep l.window l.step;
   few : (head : RequestHead) (body rest : List ℕ) → BeginsRequest l.window head body rest → length rest < PIECE;
   bad : (kind : BadRest) → IsBadRest l.window kind → length l.window < MAX_HEAD + PIECE;
