@@ -8,18 +8,16 @@ use Rattle.sqlite.specs.State.{State, HasCleanDisk, Survives, Shown, FailsToQuer
 use Rattle.sqlite.specs.declared.error.Error.{Error}
 use Rattle.row_store.specs.Calls.{Becomes, IsAtRest, Lasts, Leaves, Stays}
 use Rattle.row_store.specs.Stored.{Shows}
-use Rattle.row_store.specs.Table.{is_desk}
+use Rattle.row_store.specs.Table.{is_desk, tree_of}
 use Rattle.row_store.proofs.Desk.{desk_of}
 use Rattle.row_store.proofs.Meaning.{fails, shows, unchanged}
 use Rattle.row_store.proofs.Rests.{IsSettled, lasts, leaves, was_clean}
 use Rattle.row_store.proofs.Texts.{select_text}
-use Rattle.row_store.proofs.Upsert.{select_plain}
+use Rattle.row_store.proofs.SelectText.{select_plain}
 
 select_plain_at : (s : State) → IsTrue (is_desk s.now.schema) → IsPlain (understood s.now.schema select_text)
 select_plain_at s stands =
-    let desk = desk_of s.now.schema stands in
-    subst (λ schema. IsPlain (understood schema select_text)) (sym desk.is)
-    (select_plain desk.others desk.more desk.views)
+    select_plain s.now.schema (tree_of s.now.schema) (desk_of s.now.schema stands)
 
 module _ {A : Type 0} (items : A → List Row) (old new : State)
     (desk : HasCleanDisk old → IsTrue (is_desk old.now.schema)) (rest : IsAtRest old)
@@ -28,7 +26,8 @@ module _ {A : Type 0} (items : A → List Row) (old new : State)
   stands clean = desk (was_clean old new _ survives clean)
 
   same : (answer : A) → HasCleanDisk new → Shown select_text [] old new (items answer) → IsUnchanged old new
-  same answer clean shown = unchanged old new (items answer) (desk_of old.now.schema (stands clean)) shown
+  same answer clean shown =
+      unchanged (tree_of old.now.schema) old new (items answer) (desk_of old.now.schema (stands clean)) shown
 
   pub becomes_shown : (r : Result A Error)
       → (HasCleanDisk new → IfOk r (λ answer. Shown select_text [] old new (items answer)))

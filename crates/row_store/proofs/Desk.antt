@@ -1,7 +1,13 @@
 -- The test of a schema finds the table as the text makes it.
-use Rattle.std.proofs.Common.{◌≡◌, ℕ, List, [], ◌∷◌, Bool, true, false, not, ◌==◌, Option, Some, None, is_none, IsTrue}
-use Rattle.std.proofs.Common.{refl, sym, ap, subst₂, codes, find, cond, option_map, option_and_then, true≢false}
-use Rattle.std.specs.List.{AllByRecursion, list_all}
+use Rattle.std.proofs.Common.{◌≡◌, ◌⊎◌, inl, inr, ℕ, suc, ◌+◌, ◌<◌, ◌≤◌, ◌^◌, List, [], ◌∷◌, Bool, true, false, not}
+use Rattle.std.proofs.Common.{◌==◌}
+use Rattle.std.proofs.Common.{◌&&◌, ◌||◌, nat_le, nat_lt, Option, Some, None, is_none, slice_get, unwrap_or, IsTrue}
+use Rattle.std.proofs.Common.{arith, length}
+use Rattle.std.proofs.Common.{refl, sym, ap, subst, ◌∙◌, codes, find, option_map, option_and_then, true≢false}
+use Rattle.std.specs.List.{list_all, position_from}
+use Rattle.std.proofs.Math.Bool.{and-false}
+use Rattle.std.proofs.lemmas.Bool.{cases_Bool, false_from_ne_true, leb-true, lt-ltb, ltb-true, or_left}
+use Rattle.std.proofs.lemmas.Bool.{or_right}
 use Rattle.std.specs.Str.{bytes_eq}
 use Rattle.std.proofs.lemmas.Bool.{and_parts}
 use Rattle.std.proofs.lemmas.Bool.Decides.{Decides-eqb}
@@ -13,19 +19,22 @@ use Rattle.sqlite.specs.Table.{Table}
 use Rattle.sqlite.specs.declared.types.Value.{Value}
 use Rattle.sqlite.specs.declared.types.Value.TheVariants.{Null, Int, Real, Text, Blob}
 use Rattle.sqlite_schema.specs.Names.{same_name}
-use Rattle.sqlite_schema.specs.Rules.{ParentKey, parent_key, key_in, key_places, declared_order}
+use Rattle.sqlite_schema.specs.Rules.{ParentKey, declared_order, guards, is_key_if_to, is_key_of, key_in, key_places}
+use Rattle.sqlite_schema.specs.Rules.{is_index_for, is_unique_key, parent_key}
+use Rattle.sqlite_resolve.specs.Given.{is_key_at}
+use Rattle.sqlite_rules.specs.Lists.{Has}
+use Rattle.sqlite_rules.proofs.ListLemmas.{has_found, some_from, test_from, test_has}
 use Rattle.sqlite_schema.specs.declared.schema.Column.{Column}
 use Rattle.sqlite_schema.specs.declared.schema.Index.{Index}
 use Rattle.sqlite_schema.specs.declared.schema.Kind.{Kind}
 use Rattle.sqlite_schema.specs.declared.schema.Reference.{Reference}
 use Rattle.sqlite_schema.specs.declared.schema.Stamps.{Stamps}
-use Rattle.sqlite_schema.specs.declared.schema.View.{View}
 use Rattle.sqlite.specs.Term.{Term}
 use Rattle.sqlite_value.specs.declared.keys.Collation.{Collation}
 use Rattle.sqlite_value.specs.declared.keys.Order.{Order}
 use Rattle.row_store.specs.Table as test
-use Rattle.row_store.proofs.Texts.{desk_table, desk_index, is_here, IsDesk}
-use Rattle.row_store.specs.Table.{no_schema}
+use Rattle.row_store.proofs.Texts.{desk_table, desk_index, desk_key, is_here, IsDesk}
+use Rattle.row_store.proofs.Referred.{key_is, key_places_are, named_alike, own_guards}
 
 -- the list has no item
 empty_of : {T : Type 0} (items : List T) → IsTrue (test.is_empty items) → items ≡ []
@@ -105,7 +114,7 @@ bytes_column_of name c h =
     let parts = and_parts (test.is_any c.kind) (test.is_plain_column name c) h in
     column_of name Any c (any_of c.kind parts.0) parts.1
 
-columns_of : (columns : List Column) → IsTrue (test.are_desk_columns columns) → columns ≡ desk_table.columns
+columns_of : (columns : List Column) → IsTrue (test.are_desk_columns columns) → columns ≡ (desk_table 0).columns
 columns_of (kind ∷ owner ∷ place ∷ body ∷ []) h =
     let one = and_parts (test.is_number_column (codes "kind") kind) _ h in
     let two = and_parts (test.is_number_column (codes "owner") owner) _ one.1 in
@@ -131,16 +140,16 @@ only_of (a ∷ b ∷ more) wanted h = absurd (true≢false (sym h))
 order_of : (order : Order) (digits : ℕ) → order.digits ≡ digits → order ≡ record { digits = digits }
 order_of order digits h = ap (λ n. record { digits = n }) h
 
-orders_of : (orders : List Order) → IsTrue (test.is_only_plain orders) → orders ≡ desk_table.orders
+orders_of : (orders : List Order) → IsTrue (test.is_only_plain orders) → orders ≡ (desk_table 0).orders
 orders_of [] h = absurd (true≢false (sym h))
 orders_of (order ∷ []) h = ap (λ o. o ∷ []) (order_of order 0 (same_number order.digits 0 h))
 orders_of (a ∷ b ∷ more) h = absurd (true≢false (sym h))
 
 stamps_is : (places : List ℕ) (terms : List Term) (formats : List (List ℕ)) → places ≡ [] → terms ≡ [] → formats ≡ []
-    → ◌≡◌ {A = Stamps} (record { places = places; terms = terms; formats = formats }) desk_table.stamps
+    → ◌≡◌ {A = Stamps} (record { places = places; terms = terms; formats = formats }) (desk_table 0).stamps
 stamps_is places terms formats a b c = rw (a, b, c) refl
 
-stamps_of : (stamps : Stamps) → IsTrue (test.are_unstamped stamps) → stamps ≡ desk_table.stamps
+stamps_of : (stamps : Stamps) → IsTrue (test.are_unstamped stamps) → stamps ≡ (desk_table 0).stamps
 stamps_of stamps h =
     let one = and_parts (test.is_empty stamps.places) _ h in
     let two = and_parts (test.is_empty stamps.terms) (test.is_empty stamps.formats) one.1 in
@@ -151,9 +160,9 @@ stamps_of stamps h =
 table_from : (name : List ℕ) (tree : ℕ) (columns : List Column) (key : Option ℕ) (primary : List ℕ)
     (uniques : List (List ℕ)) (orders : List Order)
     (checks : List Term) (references : List Reference) (computed : List ℕ) (stamps : Stamps) (counted : Bool)
-    → name ≡ test.desk_name → tree ≡ 0 → columns ≡ desk_table.columns → key ≡ None → primary ≡ test.key_places
-    → uniques ≡ test.key_places ∷ [] → orders ≡ desk_table.orders
-    → checks ≡ [] → references ≡ [] → computed ≡ [] → stamps ≡ desk_table.stamps → counted ≡ false
+    → name ≡ test.desk_name → columns ≡ (desk_table 0).columns → key ≡ None → primary ≡ test.key_places
+    → uniques ≡ test.key_places ∷ [] → orders ≡ (desk_table 0).orders
+    → checks ≡ [] → references ≡ [] → computed ≡ [] → stamps ≡ (desk_table 0).stamps → counted ≡ false
     → ◌≡◌ {A = Table}
     (record {
       name = name;
@@ -169,23 +178,24 @@ table_from : (name : List ℕ) (tree : ℕ) (columns : List Column) (key : Optio
       stamps = stamps;
       is_counted = counted;
     })
-    desk_table
-table_from name tree columns key primary uniques orders checks references computed stamps counted a b c d e f g h i j k
+    (desk_table tree)
+table_from name tree columns key primary uniques orders checks references computed stamps counted a c d e f g h i j k
     l =
-    rw (a, b, c, d, e, f, g, h, i, j, k, l) refl
+    rw (a, c, d, e, f, g, h, i, j, k, l) refl
 
 index_is : (name : List ℕ) (tree table : ℕ) (columns : List ℕ) (order : Order) (unique : Bool)
-    → name ≡ codes "sqlite_autoindex_desk_rows_1" → tree ≡ 1 → table ≡ 0 → columns ≡ test.key_places
+    → name ≡ codes "sqlite_autoindex_desk_rows_1" → columns ≡ test.key_places
     → order ≡ record { digits = 0 } → unique ≡ true
     → ◌≡◌ {A = Index}
     (record { name = name; tree = tree; table = table; columns = columns; order = order; is_unique = unique })
-    desk_index
-index_is name tree table columns order unique a b c d e f = rw (a, b, c, d, e, f) refl
+    (desk_index table tree)
+index_is name tree table columns order unique a d e f = rw (a, d, e, f) refl
 
-pub table_of : (table : Table) → IsTrue (test.is_desk_table table) → table ≡ desk_table
+-- where the test of a table holds it is the one table
+pub table_of : (table : Table) → IsTrue (test.is_desk_table table) → table ≡ desk_table table.tree
 table_of table h =
     let one = and_parts (bytes_eq table.name test.desk_name) _ h in
-    let two = and_parts (table.tree == 0) _ one.1 in
+    let two = and_parts (nat_lt table.tree 65536) _ one.1 in
     let three = and_parts (test.are_desk_columns table.columns) _ two.1 in
     let four = and_parts (test.has_desk_key table) (test.is_bare table) three.1 in
     let key_one = and_parts (is_none table.key) _ four.0 in
@@ -198,115 +208,268 @@ table_of table h =
     let bare_four = and_parts (test.are_unstamped table.stamps) (not table.is_counted) bare_three.1 in
     table_from table.name table.tree table.columns table.key table.primary table.uniques table.orders table.checks
     table.references table.computed table.stamps table.is_counted (same_bytes table.name test.desk_name one.0)
-    (same_number table.tree 0 two.0) (columns_of table.columns three.0)
+    (columns_of table.columns three.0)
     (none_of table.key key_one.0) (same_bytes table.primary test.key_places key_two.0)
     (only_of table.uniques test.key_places key_three.0) (orders_of table.orders key_three.1)
     (empty_of table.checks bare_one.0) (empty_of table.references bare_two.0) (empty_of table.computed bare_three.0)
     (stamps_of table.stamps bare_four.0) (false_of table.is_counted bare_four.1)
 
-pub index_of : (index : Index) → IsTrue (test.is_desk_index index) → index ≡ desk_index
-index_of index h =
-    let one = and_parts (bytes_eq index.name (codes "sqlite_autoindex_desk_rows_1")) _ h in
-    let two = and_parts (index.tree == 1) _ one.1 in
-    let three = and_parts (index.table == 0) _ two.1 in
+-- where that of an index holds it is the index of its key
+pub index_of : (tree : ℕ) (index : Index) → IsTrue (test.is_desk_index tree index) → index ≡ desk_index tree index.tree
+index_of tree index h =
+    let one = and_parts (bytes_eq index.name test.index_name) _ h in
+    let three = and_parts (index.table == tree) _ one.1 in
     let four = and_parts (bytes_eq index.columns test.key_places) _ three.1 in
     let five = and_parts (index.order.digits == 0) index.is_unique four.1 in
     index_is index.name index.tree index.table index.columns index.order index.is_unique
-    (same_bytes index.name (codes "sqlite_autoindex_desk_rows_1") one.0) (same_number index.tree 1 two.0)
-    (same_number index.table 0 three.0) (same_bytes index.columns test.key_places four.0)
+    (same_bytes index.name test.index_name one.0) (same_bytes index.columns test.key_places four.0)
     (order_of index.order 0 (same_number index.order.digits 0 five.0)) five.1
+    ∙ ap (λ t. desk_index t index.tree) (same_number index.table tree three.0)
 
--- a key of another table is not one of the first
-other_key : (table : Table) (order : Option Order) (places : List ℕ) → (table.tree == 0) ≡ false
-    → is_here (option_map (λ o. (table.tree, places, o)) order) ≡ false
-other_key table None places other = refl
-other_key table (Some order) places other = other
+-- a key of another table is not one of this tree
+other_key : (tree : ℕ) (table : Table) (order : Option Order) (places : List ℕ) → (table.tree == tree) ≡ false
+    → is_here tree (option_map (λ o. (table.tree, places, o)) order) ≡ false
+other_key tree table None places other = refl
+other_key tree table (Some order) places other = other
 
-other_keys : (table : Table) (places : Option (List ℕ)) → (table.tree == 0) ≡ false
-    → is_here (option_and_then (key_in table) places) ≡ false
-other_keys table None other = refl
-other_keys table (Some places) other = other_key table (declared_order table places) places other
+other_keys : (tree : ℕ) (table : Table) (places : Option (List ℕ)) → (table.tree == tree) ≡ false
+    → is_here tree (option_and_then (key_in table) places) ≡ false
+other_keys tree table None other = refl
+other_keys tree table (Some places) other = other_key tree table (declared_order table places) places other
 
-abbrev key_found : Reference → Option Table → Option ParentKey
-key_found ref found =
+-- the key that a foreign key refers to, in the table that is found
+abbrev key_found_in : Reference → Option Table → Option ParentKey
+key_found_in ref found =
     option_and_then (λ table. option_and_then (key_in table) (key_places table ref.parent_columns)) found
 
-found_beside : (ref : Reference) (hit : Bool) (table : Table) (rest : Option Table) → (table.tree == 0) ≡ false
-    → is_here (key_found ref rest) ≡ false → is_here (key_found ref (cond hit (Some table) rest)) ≡ false
-found_beside ref true table rest other none = other_keys table (key_places table ref.parent_columns) other
-found_beside ref false table rest other none = none
+-- a test of what is there
+some_of : {T : Type 0} (p : T → Bool) (o : Option T) → IsTrue (unwrap_or (option_map p o) false)
+    → (x : T) × (o ≡ Some x) × IsTrue (p x)
+some_of p None h = absurd (true≢false (sym h))
+some_of p (Some x) h = (x, refl, h)
 
--- among other tables no key of the first is found
-no_key : (ref : Reference) (tables : List Table) → IsTrue (list_all test.is_beside tables)
-    → is_here (key_found ref (find (λ table. same_name table.name ref.parent) tables)) ≡ false
-no_key ref [] h = refl
-no_key ref (table ∷ tables) h =
-    let parts = and_parts (test.is_beside table) (list_all test.is_beside tables) h in
-    let other = and_parts (not (table.tree == 0)) (list_all test.refers_elsewhere table.references) parts.0 in
-    found_beside ref (same_name table.name ref.parent) table _ (false_of (table.tree == 0) other.0)
-    (no_key ref tables parts.1)
+-- the place of what is found
+place_of : {T : Type 0} (p : T → Bool) (xs : List T) (from : ℕ) (x : T) → find p xs ≡ Some x
+    → (place : ℕ) × (position_from p from xs ≡ Some (from + place)) × (slice_get xs place ≡ Some x)
+place_of p [] from x h = absurd cc
+place_of p (y ∷ xs) from x h = elim (cases_Bool (p y)) [
+  | inl hit ↦ let is : y ≡ x = let e : Some y ≡ Some x = rw hit at h in cc in
+      (0, rw hit (ap Some (omega arith)), ap Some is)
+  | inr miss ↦ let later = place_of p xs (from + 1) x (rw miss at h) in
+      (suc later.0, rw miss (later.1 ∙ ap Some (omega arith)), later.2)
+]
 
-module _ (others : List Table) (beside_it : IsTrue (list_all test.is_beside others)) where
-  no_reference : (refs : List Reference) → IsTrue (list_all test.refers_elsewhere refs)
-      → AllByRecursion (λ ref. is_here (parent_key (desk_table ∷ others) ref) ≡ false) refs
-  no_reference [] h = tt
-  no_reference (ref ∷ refs) h =
-      let parts = and_parts (test.refers_elsewhere ref) (list_all test.refers_elsewhere refs) h in (
-        rw (false_of (same_name test.desk_name ref.parent) parts.0) (no_key ref others beside_it),
-        no_reference refs parts.1,
-      )
+-- the first item with a tree is the one item that has it
+only_found : (tree : ℕ) (table : Table) → (table.tree == tree) ≡ true → (tables : List Table)
+    → ((t : Table) → Has tables t → (t.tree == tree) ≡ true → t ≡ table) → Has tables table
+    → find (λ t. t.tree == tree) tables ≡ Some table
+only_found tree table own [] all h = absurd h
+only_found tree table own (t ∷ tables) all h = elim (cases_Bool (t.tree == tree)) [
+  | inl hit ↦ rw hit (ap Some (all t (inl refl) hit))
+  | inr miss ↦ rw miss (only_found tree table own tables (λ u there. all u (inr there)) (later h miss))
+]
+  where
+    later : Has (t ∷ tables) table → (t.tree == tree) ≡ false → Has tables table
+    later (inl is) miss = absurd (true≢false (sym own ∙ ap (λ (u : Table). u.tree == tree) is ∙ miss))
+    later (inr there) miss = there
 
-  no_references : (tables : List Table) → IsTrue (list_all test.is_beside tables)
-      → AllByRecursion
-      (λ table. AllByRecursion (λ ref. is_here (parent_key (desk_table ∷ others) ref) ≡ false) table.references)
-      tables
-  no_references [] h = tt
-  no_references (table ∷ tables) h =
-      let parts = and_parts (test.is_beside table) (list_all test.is_beside tables) h in
-      let refers = and_parts (not (table.tree == 0)) (list_all test.refers_elsewhere table.references) parts.0 in
-      (no_reference table.references refers.1, no_references tables parts.1)
+its_key : (tree own : ℕ) → is_key_at (desk_table tree) (1 ∷ 2 ∷ 3 ∷ []) (desk_index tree own) ≡ true
+unfolding is_key_at
+its_key tree own = rw ((Decides-eqb tree tree).1 refl) refl
 
-no_index : (more : List Index) → IsTrue (list_all test.is_index_beside more)
-    → AllByRecursion (λ index. (index.table == 0) ≡ false) more
-no_index [] h = tt
-no_index (index ∷ more) h =
-    let parts = and_parts (test.is_index_beside index) (list_all test.is_index_beside more) h in
-    (false_of (index.table == 0) parts.0, no_index more parts.1)
+other_index : (tree : ℕ) (index : Index) → (index.table == tree) ≡ false
+    → is_key_at (desk_table tree) (1 ∷ 2 ∷ 3 ∷ []) index ≡ false
+unfolding is_key_at
+other_index tree index miss = rw miss (rw (and-false index.is_unique) refl)
 
-stands_first : (tables : List Table) (indexes : List Index) (views : List View) → IsTrue (test.have_desk_table tables)
-    → IsTrue (test.have_desk_index indexes)
-    → IsDesk (record { tables = tables; indexes = indexes; views = views })
-stands_first [] indexes views h k = absurd (true≢false (sym h))
-stands_first (table ∷ others) [] views h k = absurd (true≢false (sym k))
-stands_first (table ∷ others) (index ∷ more) views h k =
-    let tables = and_parts (test.is_desk_table table) (list_all test.is_beside others) h in
-    let indexes = and_parts (test.is_desk_index index) (list_all test.is_index_beside more) k in
-    subst₂ (λ t i. IsDesk (record { tables = t ∷ others; indexes = i ∷ more; views = views }))
-    (sym (table_of table tables.0)) (sym (index_of index indexes.0))
-    (record {
-      others = others;
-      more = more;
-      views = views;
-      is = refl;
-      unreferred = (tt, no_references others tables.1 others tables.1);
-      sole = no_index more indexes.1;
-      apart = tables.1;
-    })
+-- the first index on the table is the first key of it
+key_found : (tree own : ℕ) (indexes : List Index) → find (test.is_on tree) indexes ≡ Some (desk_index tree own)
+    → find (is_key_at (desk_table tree) (1 ∷ 2 ∷ 3 ∷ [])) indexes ≡ Some (desk_index tree own)
+key_found tree own [] h = absurd cc
+key_found tree own (i ∷ indexes) h = elim (cases_Bool (i.table == tree)) [
+  | inl hit ↦ let is : i ≡ desk_index tree own = let e : Some i ≡ Some (desk_index tree own) = rw hit at h in cc in
+      rw is (rw (its_key tree own) refl)
+  | inr miss ↦ rw (other_index tree i miss) (key_found tree own indexes (rw miss at h))
+]
 
--- where the test holds the table stands first, with anything behind it
-pub desk_of : (schema : Schema) → IsTrue (test.is_desk schema) → IsDesk schema
+module _ (schema : Schema) (table : Table) (called : test.called schema ≡ Some table)
+    (stands : IsTrue (test.stands_in schema table)) where
+  tests : IsTrue (test.is_desk_table table)
+      × IsTrue (list_all (test.is_beside table.tree) schema.tables && test.have_desk_index table.tree schema.indexes)
+  tests = and_parts (test.is_desk_table table) _ stands
+
+  besides : IsTrue (list_all (test.is_beside table.tree) schema.tables)
+      × IsTrue (test.have_desk_index table.tree schema.indexes)
+  besides = and_parts (list_all (test.is_beside table.tree) schema.tables) _ tests.1
+
+  keys : IsTrue (unwrap_or (option_map (test.is_desk_index table.tree) (find
+      (test.is_on table.tree) schema.indexes)) false)
+      × IsTrue (list_all (test.is_index_beside table.tree) schema.indexes)
+  keys =
+      and_parts
+      (unwrap_or (option_map (test.is_desk_index table.tree) (find (test.is_on table.tree) schema.indexes)) false)
+      (list_all (test.is_index_beside table.tree) schema.indexes) besides.1
+
+  is_it : table ≡ desk_table table.tree
+  is_it = table_of table tests.0
+
+  low_tree : table.tree < 65536
+  low_tree =
+      ltb-true table.tree 65536
+      (and_parts (nat_lt table.tree 65536) _ (and_parts (bytes_eq table.name test.desk_name) _ tests.0).1).0
+
+  own_index : (index : Index) × (find (test.is_on table.tree) schema.indexes ≡ Some index)
+      × IsTrue (test.is_desk_index table.tree index)
+  own_index = some_of (test.is_desk_index table.tree) (find (test.is_on table.tree) schema.indexes) keys.0
+
+  first_index : find (test.is_on table.tree) schema.indexes ≡ Some (desk_index table.tree own_index.0.tree)
+  first_index = own_index.1 ∙ ap Some (index_of table.tree own_index.0 own_index.2)
+
+  found_place : (place : ℕ) × (position_from test.is_called 0 schema.tables ≡ Some (0 + place))
+      × (slice_get schema.tables place ≡ Some table)
+  found_place = place_of test.is_called schema.tables 0 table called
+
+  -- each table is the one table, or has another tree
+  each_apart : (t : Table) → Has schema.tables t → (t ≡ desk_table table.tree) ⊎ ((t.tree == table.tree) ≡ false)
+  each_apart t listed = elim (cases_Bool (t.tree == table.tree)) [
+    | inr miss ↦ inr miss
+    | inl hit ↦
+        let beside = test_has (test.is_beside table.tree) schema.tables t besides.0 listed in
+        let either = (and_parts (not (t.tree == table.tree) || test.is_desk_table t) _ beside).0 in
+        let same = same_number t.tree table.tree hit in
+        inl (table_of t (rw hit at either) ∙ ap desk_table same)
+  ]
+
+  -- a foreign key refers to another table, or to the key of it
+  refers_fit : (t : Table) → Has schema.tables t → (ref : Reference) → Has t.references ref
+      → (same_name test.desk_name ref.parent ≡ false)
+      ⊎ ((same_name test.desk_name ref.parent ≡ true) × IsTrue (test.refers_to_key ref))
+  refers_fit t listed ref has =
+      let beside = test_has (test.is_beside table.tree) schema.tables t besides.0 listed in
+      let all = (and_parts (not (t.tree == table.tree) || test.is_desk_table t) _ beside).1 in
+      let fits = test_has test.fits_key t.references ref all has in
+      elim (cases_Bool (same_name test.desk_name ref.parent)) [
+        | inr off ↦ inl off
+        | inl to ↦ inr (to, subst (λ b. IsTrue (not b || test.refers_to_key ref)) to fits)
+      ]
+
+  no_parent : (ref : Reference) → same_name test.desk_name ref.parent ≡ false → (found : Option Table)
+      → find (λ t. same_name t.name ref.parent) schema.tables ≡ found
+      → is_here table.tree (key_found_in ref found) ≡ false
+  no_parent ref off None is = refl
+  no_parent ref off (Some t) is = elim (each_apart t found.0) [
+    | inl it ↦ absurd (true≢false (sym (ap (λ (u : Table). same_name u.name ref.parent) (sym it) ∙ found.1) ∙ off))
+    | inr other ↦ other_keys table.tree t (key_places t ref.parent_columns) other
+  ]
+    where
+      found : Has schema.tables t × (same_name t.name ref.parent ≡ true)
+      found = has_found (λ u. same_name u.name ref.parent) schema.tables t is
+
+  -- where it refers to its key, that is the key of the table
+  its_parent : (ref : Reference) → same_name test.desk_name ref.parent ≡ true → IsTrue (test.refers_to_key ref)
+      → parent_key schema.tables ref ≡ Some (desk_key table.tree)
+  its_parent ref to key =
+      let names = (and_parts (length ref.columns == 3) (test.names_key ref.parent_columns) key).1 in
+      let found : find (λ t. same_name t.name ref.parent) schema.tables ≡ Some (desk_table table.tree) =
+      (λ i. find (λ t. named_alike test.desk_name ref.parent t.name to i) schema.tables) ∙ called ∙ ap Some is_it in
+      ap (key_found_in ref) found
+      ∙ ap (option_and_then (key_in (desk_table table.tree))) (key_places_are table.tree ref.parent_columns names)
+      ∙ key_is table.tree
+
+  -- and a foreign key may refer to that
+  may_refer : (ref : Reference) → same_name test.desk_name ref.parent ≡ true → IsTrue (test.refers_to_key ref)
+      → is_key_of schema ref ≡ true
+  may_refer ref to key =
+      let wide = same_number (length ref.columns) 3
+      (and_parts (length ref.columns == 3) (test.names_key ref.parent_columns) key).0 in
+      let own = (has_found (test.is_on table.tree) schema.indexes _ first_index).0 in
+      let unique = some_from (is_index_for (desk_key table.tree)) schema.indexes _ own
+      (own_guards table.tree own_index.0.tree) in
+      ap (is_unique_key schema.indexes (length ref.columns)) (its_parent ref to key)
+      ∙ ap (λ n. is_unique_key schema.indexes n (Some (desk_key table.tree))) wide
+      ∙ unique
+
+  is_desk_at : IsDesk schema table.tree
+  is_desk_at = record {
+    place = found_place.0;
+    own = own_index.0.tree;
+    named = found_place.1 ∙ ap Some (omega arith);
+    at = found_place.2 ∙ ap Some is_it;
+    known =
+        only_found table.tree (desk_table table.tree) ((Decides-eqb table.tree table.tree).1 refl) schema.tables
+        (λ t listed same. elim (each_apart t listed) [
+          | inl is ↦ is
+          | inr other ↦ absurd (true≢false (sym same
+              ∙ other))
+        ])
+        listed_it;
+    low = lt-ltb table.tree (2 ^ 31) (omega (arith, low_tree));
+    below = not_below;
+    keyed = key_found table.tree own_index.0.tree schema.indexes first_index;
+    stands = listed_it;
+    owns = (has_found (test.is_on table.tree) schema.indexes _ first_index).0;
+    apart = each_apart;
+    sole = each_sole;
+    elsewhere =
+        test_from _ schema.tables
+        (λ t listed. test_from (is_key_if_to schema (desk_table table.tree)) t.references
+        (λ ref has. elim (refers_fit t listed ref has) [
+          | inl off ↦ or_left _ (is_key_of schema ref) (ap not off)
+          | inr to ↦ or_right (not (same_name test.desk_name ref.parent)) _ (may_refer ref to.0 to.1)
+        ]));
+    referred =
+        λ t ref listed has. elim (refers_fit t listed ref has) [
+          | inl off ↦ inl (no_parent ref off _ refl)
+          | inr to ↦ inr (its_parent ref to.0 to.1)
+        ];
+  }
+    where
+      listed_it : Has schema.tables (desk_table table.tree)
+      listed_it = subst (Has schema.tables) is_it (has_found test.is_called schema.tables table called).0
+
+      not_below : nat_le (2 ^ 31) table.tree ≡ false
+      not_below = false_from_ne_true _ (λ h. let high : 2 ^ 31 ≤ table.tree = leb-true
+          (2 ^ 31) table.tree h in omega (arith, low_tree, high))
+
+      each_sole : (i : Index) → Has schema.indexes i → guards i (desk_table table.tree) ≡ true
+          → i.columns ≡ 1 ∷ 2 ∷ 3 ∷ []
+      each_sole i has guard =
+          let beside = test_has (test.is_index_beside table.tree) schema.indexes i keys.1 has in
+          let both = and_parts i.is_unique (i.table == table.tree) guard in
+          same_bytes i.columns test.key_places (rw (both.0, both.1) at beside)
+
+-- what the test of a schema says
+pub record IsFound (schema : Schema) : Type 0 where
+  pub table : Table
+  pub named : test.called schema ≡ Some table
+  pub it : IsTrue (test.is_desk_table table)
+  pub low : IsTrue (nat_lt table.tree 65536)
+  pub apart : IsTrue (list_all (test.is_beside table.tree) schema.tables)
+  pub index : Index
+  pub first : find (test.is_on table.tree) schema.indexes ≡ Some index
+  pub own : IsTrue (test.is_desk_index table.tree index)
+  pub sole : IsTrue (list_all (test.is_index_beside table.tree) schema.indexes)
+
+pub found_of : (schema : Schema) → IsTrue (test.is_desk schema) → IsFound schema
+found_of schema h =
+    let found = some_of (test.stands_in schema) (test.called schema) h in
+    let table = found.0 in
+    let own = own_index schema table found.1 found.2 in
+    record {
+      table = table;
+      named = found.1;
+      it = (tests schema table found.1 found.2).0;
+      low = lt-ltb table.tree 65536 (low_tree schema table found.1 found.2);
+      apart = (besides schema table found.1 found.2).0;
+      index = own.0;
+      first = own.1;
+      own = own.2;
+      sole = (keys schema table found.1 found.2).1;
+    }
+
+-- where the test of a schema holds the table stands in it
+pub desk_of : (schema : Schema) → IsTrue (test.is_desk schema) → IsDesk schema (test.tree_of schema)
 desk_of schema h =
-    let parts = and_parts (test.have_desk_table schema.tables) (test.have_desk_index schema.indexes) h in
-    stands_first schema.tables schema.indexes schema.views parts.0 parts.1
-
-blank_is : (tables : List Table) (indexes : List Index) (views : List View) → tables ≡ [] → indexes ≡ [] → views ≡ []
-    → ◌≡◌ {A = Schema} (record { tables = tables; indexes = indexes; views = views }) no_schema
-blank_is tables indexes views a b c = rw (a, b, c) refl
-
--- where the other test holds there is nothing
-pub blank_of : (schema : Schema) → IsTrue (test.is_blank schema) → schema ≡ no_schema
-blank_of schema h =
-    let one = and_parts (test.is_empty schema.tables) _ h in
-    let two = and_parts (test.is_empty schema.indexes) (test.is_empty schema.views) one.1 in
-    blank_is schema.tables schema.indexes schema.views (empty_of schema.tables one.0) (empty_of schema.indexes two.0)
-    (empty_of schema.views two.1)
+    let found = some_of (test.stands_in schema) (test.called schema) h in
+    subst (IsDesk schema) (sym (ap (λ o. unwrap_or (option_map (λ (t : Table). t.tree) o) 0) found.1))
+    (is_desk_at schema found.0 found.1 found.2)

@@ -1,6 +1,6 @@
 -- What one put makes of the lines that the table holds.
-use Rattle.std.proofs.Common.{◌≡◌, ℕ, pos, Some, List, [], ◌∷◌, map, filter, Bool, true, false, not, ◌&&◌, ◌==◌, refl}
-use Rattle.std.proofs.Common.{sym, ap, subst₂, ◌∙◌, arith, is_eq, Ordering, Less, Equal, Greater, IsPermutation}
+use Rattle.std.proofs.Common.{◌≡◌, ℕ, ℤ, pos, Some, List, [], ◌∷◌, map, filter, Bool, true, false, not, ◌&&◌, ◌==◌}
+use Rattle.std.proofs.Common.{refl, sym, ap, subst₂, ◌∙◌, arith, is_eq, Ordering, Less, Equal, Greater, IsPermutation}
 use Rattle.std.specs.Ordering.{match_ordering}
 use Rattle.std.proofs.lemmas.Bool.Decides.{nat_tests}
 use Rattle.std.proofs.lemmas.Bool.{or_parts}
@@ -23,6 +23,10 @@ use Rattle.sqlite_trees.proofs.ListLemmas.{filter-map, filter_same, IsPermutatio
 use Rattle.sqlite_trees.proofs.TreeLemmas.{all-put_row}
 use Rattle.desk_packing.specs.Lines.{Line, same_key, put_line}
 use Rattle.row_store.specs.Stored.{shown_row, shown_line, HasId, Holds}
+
+-- the row of a line under a rowid
+abbrev pub row_of : ℤ → Line → Row
+row_of id l = Int id ∷ shown_line l
 
 -- the stored row, or what is shown of a row, has the key of the line
 abbrev pub has_key : Line → Row → Bool

@@ -1,81 +1,154 @@
--- The table stands in a schema exactly where its text makes it, with others beside it.
-use Rattle.std.proofs.Common.{◌≡◌, ◌↔◌, List, [], ◌∷◌, ◌++◌, false, Ok, IsTrue, refl, sym, ap, subst₂, ◌∙◌, true≢false}
-use Rattle.std.proofs.Common.{◌&&◌, inl, inr}
-use Rattle.std.proofs.lemmas.Bool.{and_from, and_parts, cases_Bool}
+-- The table is found exactly where the text makes it, and the text makes it where it is missing.
+use Rattle.std.proofs.Common.{◌≡◌, ◌↔◌, inl, ℕ, [], None, Ok, Err, Result, OnOk, IsTrue, refl, sym, ap}
+use Rattle.std.proofs.Common.{subst, ◌∙◌, inr, false}
+use Rattle.std.proofs.lemmas.Bool.{and_from, cases_Bool}
+use Rattle.std.proofs.lemmas.List.Sorted.{IsPermutation-refl}
 use Rattle.std.specs.List.{list_all}
-use Rattle.sqlite.specs.Change.{created}
+use Rattle.sqlite.specs.Change.{KeepsRows, created}
+use Rattle.sqlite.specs.Command.TheVariants.{CreateTable}
 use Rattle.sqlite.specs.Compile.{table_defined_by}
+use Rattle.sqlite.specs.Does.{Tally, lacks_sequence}
+use Rattle.sqlite.specs.Effect.{Database}
 use Rattle.sqlite.specs.Schema.{Schema}
+use Rattle.sqlite.specs.State.{State, ExecutesInside, Writes}
 use Rattle.sqlite.specs.Table.{Table}
-use Rattle.sqlite_schema.specs.declared.schema.Index.{Index}
-use Rattle.sqlite_schema.specs.declared.schema.View.{View}
+use Rattle.sqlite.specs.declared.error.Error.{Error}
+use Rattle.sqlite.proofs.Callers.{runs_as}
+use Rattle.sqlite_catalog.specs.Listing.{automatic}
+use Rattle.sqlite_tied.specs.Compute.{everything}
+use Rattle.row_store.specs.Stored.{MakesTable}
 use Rattle.row_store.specs.Table as test
-use Rattle.row_store.specs.Table.{IsMadeBeside, create_text, footing_of, is_blank, is_desk, no_schema}
-use Rattle.row_store.specs.declared.footing.Footing.TheVariants.{Blank, Desk, Other}
-use Rattle.row_store.proofs.Desk.{index_of, table_of}
-use Rattle.row_store.proofs.Meaning.{create_is, made_is}
-use Rattle.row_store.proofs.Texts.{desk_index, desk_schema, desk_table}
+use Rattle.row_store.specs.Table.{IsMadeBeside, create_text, footing_of, is_absent, is_desk, key_places}
+use Rattle.row_store.specs.declared.footing.Footing.TheVariants.{Absent, Desk, Other}
+use Rattle.row_store.proofs.Absent.{absent_of, counted_created, not_found, same_tree, stands_created, tree_created}
+use Rattle.row_store.proofs.CreateText.{create_is, create_plain, defined_is}
+use Rattle.row_store.proofs.Desk.{found_of, index_of, table_of}
+use Rattle.row_store.proofs.Texts.{desk_index, desk_table}
+use Rattle.row_store.proofs.Upsert.{same_value, went}
 
 -- the table that the text makes
-pub table_is : (table : Table) → table_defined_by create_text ≡ Ok table → table ≡ desk_table
-table_is table defined = let both : Ok table ≡ Ok desk_table = sym defined ∙ create_is.2 in cc
+pub table_is : (table : Table) → table_defined_by create_text ≡ Ok table → table ≡ desk_table 0
+table_is table defined = let both : Ok table ≡ Ok (desk_table 0) = sym defined ∙ defined_is in cc
 
--- a schema with that table first was made so
-made_from : (tables : List Table) (indexes : List Index) (views : List View) → IsTrue (test.have_desk_table tables)
-    → IsTrue (test.have_desk_index indexes)
-    → IsMadeBeside (record { tables = tables; indexes = indexes; views = views })
-made_from [] indexes views first index = absurd (true≢false (sym first))
-made_from (table ∷ others) [] views first index = absurd (true≢false (sym index))
-made_from (table ∷ others) (one ∷ more) views first index =
-    let tables = and_parts (test.is_desk_table table) (list_all test.is_beside others) first in
-    let indexes = and_parts (test.is_desk_index one) (list_all test.is_index_beside more) index in
+own_is : (tree own : ℕ) → desk_index tree own ≡ automatic (desk_table tree) 0 key_places own
+unfolding everything
+own_is tree own = refl
+
+-- a schema in which it stands was made so
+made_from : (schema : Schema) → IsTrue (is_desk schema) → IsMadeBeside schema
+made_from schema stands =
+    let found = found_of schema stands in
+    let table = found.table in
+    let is = table_of table found.it in
     record {
-      table = desk_table;
-      others = others;
-      more = more;
-      made = create_is.2;
-      tables = ap (λ t. t ∷ others) (table_of table tables.0) ∙ ap (λ (s : Schema). s.tables ++ others) (sym made_is);
-      indexes = ap (λ i. i ∷ more) (index_of one indexes.0) ∙ ap (λ (s : Schema). s.indexes ++ more) (sym made_is);
-      apart = tables.1;
-      sole = indexes.1;
+      made = desk_table 0;
+      defined = defined_is;
+      table = table;
+      is = is;
+      low = found.low;
+      named = found.named;
+      apart = found.apart;
+      index = found.index;
+      own = index_of table.tree found.index found.own
+          ∙ own_is table.tree found.index.tree
+          ∙ ap (λ t. automatic t 0 key_places found.index.tree) (sym is);
+      first = found.first;
+      sole = found.sole;
     }
 
--- the schema that the text makes of a table that it defines
-schema_is : (schema : Schema) (made : IsMadeBeside schema) → created no_schema made.table ≡ desk_schema
-schema_is schema made = ap (created no_schema) (table_is made.table made.made) ∙ made_is
-
-tables_are : (schema : Schema) (made : IsMadeBeside schema) → schema.tables ≡ desk_table ∷ made.others
-tables_are schema made = made.tables ∙ ap (λ (s : Schema). s.tables ++ made.others) (schema_is schema made)
-
-indexes_are : (schema : Schema) (made : IsMadeBeside schema) → schema.indexes ≡ desk_index ∷ made.more
-indexes_are schema made = made.indexes ∙ ap (λ (s : Schema). s.indexes ++ made.more) (schema_is schema made)
+-- a table that is made so is the one table
+made_is : (schema : Schema) (made : IsMadeBeside schema) → made.table ≡ desk_table made.table.tree
+made_is schema made = made.is ∙ ap (λ (t : Table). record t { tree = made.table.tree })
+    (table_is made.made made.defined)
 
 made_stands : (schema : Schema) → IsMadeBeside schema → IsTrue (is_desk schema)
 made_stands schema made =
-    subst₂ (λ ts is. IsTrue (test.have_desk_table ts && test.have_desk_index is)) (sym (tables_are schema made))
-    (sym (indexes_are schema made))
-    (and_from (test.have_desk_table (desk_table ∷ made.others)) (test.have_desk_index (desk_index ∷ made.more))
-    (and_from (test.is_desk_table desk_table) _ refl made.apart)
-    (and_from (test.is_desk_index desk_index) _ refl made.sole))
+    let tree = made.table.tree in
+    let table : IsTrue (test.is_desk_table made.table) =
+    rw (made_is schema made) (rw made.low refl) in
+    let own : made.index ≡ desk_index tree made.index.tree =
+    made.own ∙ ap (λ t. automatic t 0 key_places made.index.tree) (made_is schema made)
+    ∙ sym (own_is tree made.index.tree) in
+    let index : IsTrue (test.is_desk_index tree made.index) = rw own (own_passes tree made.index.tree) in
+    rw made.named
+    (and_from (test.is_desk_table made.table) _ table
+    (and_from (list_all (test.is_beside tree) schema.tables) _ made.apart
+    (and_from _ (list_all (test.is_index_beside tree) schema.indexes) (rw made.first index) made.sole)))
+  where
+    own_passes : (t o : ℕ) → IsTrue (test.is_desk_index t (desk_index t o))
+    own_passes t o = rw same_tree refl
 
-made_not_blank : (schema : Schema) → IsMadeBeside schema → is_blank schema ≡ false
-made_not_blank schema made =
-    ap (λ ts. test.is_empty ts && (test.is_empty schema.indexes && test.is_empty schema.views)) (tables_are schema made)
+-- where the table stands it is found
+pub footing_desk : (schema : Schema) → IsTrue (is_desk schema) → footing_of schema ≡ Desk
+footing_desk schema stands = elim (cases_Bool (is_absent schema)) [
+  | inr taken ↦ rw (taken, stands) refl
+  | inl absent ↦ absurd
+      (let none = not_found test.is_called schema.tables 0 (absent_of schema absent).name.table in
+      let both = sym none ∙ (found_of schema stands).named in cc)
+]
 
-stands_so : (schema : Schema) → footing_of schema ≡ Desk → IsTrue (is_desk schema)
-stands_so schema stands = elim (cases_Bool (is_blank schema)) [
-  | inl blank ↦ absurd (let none : Blank ≡ Desk = rw blank at stands in cc)
-  | inr filled ↦ elim (cases_Bool (is_desk schema)) [
+-- what is found to be missing is missing
+pub absent_found : (schema : Schema) → footing_of schema ≡ Absent → IsTrue (is_absent schema)
+absent_found schema found = elim (cases_Bool (is_absent schema)) [
+  | inl absent ↦ absent
+  | inr taken ↦ elim (cases_Bool (is_desk schema)) [
+    | inl desk ↦ absurd (let none : Desk ≡ Absent = rw (taken, desk) at found in cc)
+    | inr other ↦ absurd (let none : Other ≡ Absent = rw (taken, other) at found in cc)
+  ]
+]
+
+-- what is found to stand stands
+pub desk_found : (schema : Schema) → footing_of schema ≡ Desk → IsTrue (is_desk schema)
+desk_found schema found = elim (cases_Bool (is_absent schema)) [
+  | inl absent ↦ absurd (let none : Absent ≡ Desk = rw absent at found in cc)
+  | inr taken ↦ elim (cases_Bool (is_desk schema)) [
     | inl desk ↦ desk
-    | inr other ↦ absurd (let none : Other ≡ Desk = rw (filled, other) at stands in cc)
+    | inr other ↦ absurd (let none : Other ≡ Desk = rw (taken, other) at found in cc)
   ]
 ]
 
 -- the table is found exactly where the text makes it, with others beside it
 pub found_made : (schema : Schema) → (footing_of schema ≡ Desk) ↔ IsMadeBeside schema
 found_made schema = (
-  λ stands. let parts =
-      and_parts (test.have_desk_table schema.tables) (test.have_desk_index schema.indexes) (stands_so schema stands) in
-      made_from schema.tables schema.indexes schema.views parts.0 parts.1,
-  λ made. rw (made_not_blank schema made, made_stands schema made) refl,
+  λ found. made_from schema (desk_found schema found),
+  λ made. footing_desk schema (made_stands schema made),
 )
+
+-- the first text makes the table where it is missing
+pub creates : (old new : State) (r : Result ℕ Error) → IsTrue (is_absent old.now.schema)
+    → ExecutesInside 0 create_text [] old new r → OnOk r (MakesTable old.now new.now)
+creates old new (Err e) absent h = tt
+creates old new (Ok count) absent h =
+    let schema = old.now.schema in
+    let has = absent_of schema absent in
+    let names = has.name in
+    let is = create_is schema names.table names.index names.view in
+    let w =
+    subst (λ t. Writes old new None CreateTable t [] count) is.1
+    (runs_as create_text [] old new schema refl CreateTable is.0
+    (create_plain schema names.table names.index names.view) count h.0) in
+    let all = went w.changed in
+    let first = went all.1 in
+    let made = first.1 in
+    let same : made.table ≡ desk_table 0 = table_is made.table made.defined in
+    let after : first.0.schema ≡ created schema (desk_table 0) = made.is ∙ ap (created schema) same in
+    let plain : lacks_sequence first.0.schema ≡ false = ap lacks_sequence after ∙ counted_created schema has.counts in
+    let now : new.now ≡ first.0 =
+    ap (λ (p : Tally × Database). p.1) (same_value all.2) ∙ same_value (rw plain at first.2) in
+    let final : new.now.schema ≡ created schema (desk_table 0) = ap (λ (d : Database). d.schema) now ∙ after in
+    let empty : new.now.trees (test.tree_of new.now.schema) ≡ [] =
+    ap (λ (d : Database). d.trees (test.tree_of new.now.schema)) now
+    ∙ ap first.0.trees (ap test.tree_of final ∙ tree_created schema has) ∙ made.empty in
+    record {
+      adds = record {
+        table = made.table;
+        defined = made.defined;
+        added = ap (λ (d : Database). d.schema) now ∙ made.is;
+      };
+      stands = (
+        ap is_desk final ∙ stands_created schema has,
+        record { keyed = rw empty tt; same = rw empty (IsPermutation-refl []) },
+      );
+      rows = subst (λ (d : Database). KeepsRows schema.tables old.now.trees d.trees) (sym now) made.others;
+      sound = w.sound;
+    }

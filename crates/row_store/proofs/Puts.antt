@@ -1,259 +1,340 @@
 -- What the upsert does.
-use Rattle.std.proofs.Common.{◌≡◌, inl, inr, ℕ, ℤ, pos, List, [], ◌∷◌, ◌++◌, filter, filter_map, flat_map, length, ◌==◌}
+use Rattle.std.proofs.Common.{◌≡◌, inl, ℕ, ℤ, pos, List, [], ◌∷◌, ◌++◌, filter, filter_map, flat_map, length, ◌==◌}
 use Rattle.std.proofs.Common.{Some, None, Ok, Option, true, false, IsTrue, not, ◌&&◌, refl, sym, ap, subst, ◌∙◌}
-use Rattle.std.proofs.Common.{true≢false}
-use Rattle.std.specs.List.{AllByRecursion, list_any}
-use Rattle.std.proofs.lemmas.Bool.{and_parts, or_left, or_cases}
+use Rattle.std.proofs.Common.{Bool, find, if◌then◌else◌, inr, map, unwrap_or, ◌||◌}
+use Rattle.std.specs.List.{list_any}
+use Rattle.std.proofs.Math.Bool.{and-false}
+use Rattle.std.proofs.lemmas.Bool.{and_from, and_parts, cases_Bool, not-true}
 use Rattle.sqlite.specs.declared.types.Value.TheVariants.{Null, Int}
 use Rattle.sqlite.specs.Order.{Row, column}
 use Rattle.sqlite.specs.Cast.{cast_row}
-use Rattle.sqlite.specs.Does.{Tally, Does}
+use Rattle.sqlite.specs.Does.{Tally}
 use Rattle.sqlite.specs.Rows.{Written, InsertsOr, Tries, Upserts, Puts, Updates, shown}
 use Rattle.sqlite.specs.Source.TheVariants.{Values}
-use Rattle.row_store.proofs.Texts.{given_row, desk_table, beside, is_here, upsert, desk_index, upsert_text}
+use Rattle.row_store.proofs.Texts.{IsDesk, IsKeyBeside, clauses, desk_index, desk_table, given_row}
+use Rattle.row_store.proofs.Texts.{upsert, upsert_text}
 use Rattle.sqlite.specs.Effect.{Database, Answers}
 use Rattle.sqlite_rules.specs.declared.error.Rowids.TheVariants.{Chosen, Given}
-use Rattle.sqlite_rules.specs.Edit.{next_rowid, with_rowid, edit_of, is_taken, taken_by, Applies}
+use Rattle.sqlite_rules.specs.Edit.{Edit, next_rowid, with_rowid, edit_of, is_taken, left_by, row_at, taken_by, Applies}
 use Rattle.sqlite_rules.specs.Keys.{AreConflicts, conflicts, shares, aims}
-use Rattle.sqlite_rules.specs.Action.{work_by, work_for, pairs, deed_for}
+use Rattle.sqlite_rules.specs.Action.{Writes, work_by, work_for, works, pairs, deed_for, loses}
 use Rattle.sqlite_rules.specs.declared.action.Deed.{Deed}
-use Rattle.sqlite_schema.specs.Rules.{ParentKey, parent_key, guards}
+use Rattle.sqlite_value.specs.Keys.{plain}
+use Rattle.sqlite_schema.specs.Rules.{ParentKey, agree, parent_key, guards}
 use Rattle.sqlite_schema.specs.declared.schema.Reference.{Reference}
-use Rattle.sqlite_schema.specs.declared.schema.Index.{Index}
-use Rattle.sqlite_schema.specs.declared.schema.View.{View}
 use Rattle.sqlite.specs.Schema.{Schema}
 use Rattle.sqlite.specs.Table.{Table}
 use Rattle.sqlite_rules.specs.Calls.{ids_of}
 use Rattle.sqlite_rules.specs.Lists.{Has}
-use Rattle.sqlite_rules.proofs.ListLemmas.{all_has, all_from, some_has}
+use Rattle.sqlite_rules.proofs.ListLemmas.{all_has, all_from, has_kept, some_from, some_has}
+use Rattle.sqlite_rules.proofs.TableLemmas.{put_all_adds, put_all_keeps}
 use Rattle.sqlite_schema.specs.declared.command.Conflict.TheVariants.{Abort}
 use Rattle.sqlite_schema.specs.declared.schema.Keys.{Keys}
-use Rattle.sqlite.specs.Tree.{Trees, put_row, rowid}
-use Rattle.sqlite.specs.Listing.{understood}
+use Rattle.sqlite.specs.Tree.{Trees, has_rowid, put_row, rowid}
 use Rattle.sqlite.specs.State.{State, mode_of, Executes}
-use Rattle.sqlite.proofs.Callers.{statement_of, runs_as, one_step}
+use Rattle.sqlite.proofs.Callers.{runs_as, one_step}
 use Rattle.sqlite_trees.proofs.ListLemmas.{filter_all}
 use Rattle.sqlite_trees.proofs.TreeLemmas.{not_true}
 use Rattle.desk_packing.specs.Lines.{Line, put_line}
-use Rattle.row_store.specs.Stored.{shown_line, HasId, Holds, Stands, OthersStay, LeavesOthers}
-use Rattle.row_store.specs.Table.{is_desk}
+use Rattle.row_store.specs.Stored.{shown_line, HasId, Holds, Stands, OthersStay, LeavesOthers, stored_rows}
+use Rattle.row_store.specs.Table.{is_desk, tree_of}
 use Rattle.row_store.proofs.Desk.{desk_of}
-use Rattle.row_store.proofs.Lines.{has_key, holds_put}
-use Rattle.row_store.proofs.Found.{doing, answer_is, single, edit_is, updated, not_is}
-use Rattle.row_store.proofs.Upsert.{upsert_is, upsert_plain, went, same_value, cast_int, cast_source, clauses}
+use Rattle.row_store.proofs.Lines.{has_key, holds_put, row_of}
+use Rattle.row_store.proofs.Numbers.{IsPut}
+use Rattle.row_store.proofs.Found.{doing, answer_is, single, edit_is, guards_own, updated}
+use Rattle.row_store.proofs.UpsertText.{upsert_is, upsert_plain}
+use Rattle.row_store.proofs.Keyed.{HasKeyOf, KeysStay, agree_any, agree_itself, keyed_of, keyed_row}
+use Rattle.row_store.proofs.Upsert.{went, same_value, cast_int, cast_source}
 use Rattle.row_store.proofs.Upsert.{desk_task, from_rows, upserts}
 
--- where no foreign key refers to the table, none acts
-no_work : (keys : Keys) (moves : List (Row × Row)) (child : Table) (ref : Reference) (deed : Option Deed)
-    (key : Option ParentKey) → is_here key ≡ false → work_by 0 0 moves child ref deed key ≡ None
-no_work keys moves child ref None key out = refl
-no_work keys moves child ref (Some deed) None out = refl
-no_work keys moves child ref (Some deed) (Some key) out = rw out refl
+-- where no row loses a key, nothing is to be done
+none_set : {T : Type 0} (here lost : Bool) (work : T) → lost ≡ false
+    → (if here && lost then Some work else None) ≡ None
+none_set here lost work none = rw (none, and-false here) refl
 
-module _ (schema : Schema) (keys : Keys) (olds news : List Row) where
+-- a foreign key acts only where it refers to the key of the table, and a row loses it
+no_work : (tree : ℕ) (moves : List (Row × Row)) (child : Table) (ref : Reference) (deed : Option Deed)
+    (key : Option ParentKey) → IsKeyBeside tree key → list_any (loses plain (1 ∷ 2 ∷ 3 ∷ [])) moves ≡ false
+    → work_by 0 tree moves child ref deed key ≡ None
+no_work tree moves child ref None key beside stay = refl
+no_work tree moves child ref (Some deed) None beside stay = refl
+no_work tree moves child ref (Some deed) (Some key) (inl out) stay = rw out refl
+no_work tree moves child ref (Some deed) (Some key) (inr is) stay =
+    subst (λ o. work_by 0 tree moves child ref (Some deed) o ≡ None) (sym is)
+    (none_set (tree == tree) (list_any (loses plain (1 ∷ 2 ∷ 3 ∷ [])) moves) _ stay)
+
+module _ (schema : Schema) (tree : ℕ) (keys : Keys) (olds news : List Row)
+    (stay : list_any (loses plain (1 ∷ 2 ∷ 3 ∷ [])) (pairs olds news) ≡ false) where
   none_of : (child : Table) (refs : List Reference)
-      → AllByRecursion (λ ref. is_here (parent_key schema.tables ref) ≡ false) refs
-      → filter_map (work_for schema keys 0 0 olds news child) refs ≡ []
-  none_of child [] out = refl
-  none_of child (ref ∷ refs) out =
+      → ((ref : Reference) → Has refs ref → IsKeyBeside tree (parent_key schema.tables ref))
+      → filter_map (work_for schema keys 0 tree olds news child) refs ≡ []
+  none_of child [] beside = refl
+  none_of child (ref ∷ refs) beside =
       rw (
-        no_work keys (pairs olds news) child ref (deed_for keys (length news == 0) ref) (parent_key schema.tables ref)
-            out.0,
-        none_of child refs out.1,
+        no_work tree (pairs olds news) child ref (deed_for keys (length news == 0) ref)
+            (parent_key schema.tables ref) (beside ref (inl refl)) stay,
+        none_of child refs (λ more has. beside more (inr has)),
       ) refl
 
-  pub none_in : (tables : List Table)
-      → AllByRecursion (λ t. AllByRecursion (λ ref. is_here (parent_key schema.tables ref) ≡ false) t.references) tables
-      → flat_map (λ child. filter_map (work_for schema keys 0 0 olds news child) child.references) tables ≡ []
-  none_in [] out = refl
-  none_in (t ∷ tables) out = rw (none_of t t.references out.0, none_in tables out.1) refl
+  none_from : (tables : List Table)
+      → ((t : Table) (ref : Reference) → Has tables t → Has t.references ref
+      → IsKeyBeside tree (parent_key schema.tables ref))
+      → flat_map (λ child. filter_map (work_for schema keys 0 tree olds news child) child.references) tables ≡ []
+  none_from [] beside = refl
+  none_from (t ∷ tables) beside =
+      rw (
+        none_of t t.references (λ ref. beside t ref (inl refl)),
+        none_from tables (λ u ref listed. beside u ref (inr listed)),
+      ) refl
 
-abbrev pub Unreferred : Schema → Type 0
-Unreferred schema =
-    AllByRecursion (λ t. AllByRecursion (λ ref. is_here (parent_key schema.tables ref) ≡ false) t.references)
-    schema.tables
+  -- where no row loses the key, none acts
+  pub none_act : IsDesk schema tree → works schema keys 0 tree olds news ≡ []
+  none_act desk = none_from schema.tables desk.referred
 
-module _ (others : List Table) (more : List Index) (views : List View)
-    (unreferred : Unreferred (beside others more views)) (sole : AllByRecursion (λ i. (i.table == 0) ≡ false) more)
-    (limit : Option ℕ) (keys : Keys) (l : Line) (db : Trees) (lines : List Line) (holds : Holds (db 0) lines) where
-  abbrev pub schema : Schema
-  schema = beside others more views
+-- the one row that a test passes is the first
+first_of : (p : Row → Bool) (rows : List Row) (r : Row) → filter p rows ≡ r ∷ [] → find p rows ≡ Some r
+first_of p [] r one = absurd (let e = one in cc)
+first_of p (x ∷ rows) r one = elim (cases_Bool (p x)) [
+  | inl here ↦ rw here (let e : x ∷ filter p rows ≡ r ∷ [] = rw here at one in ap Some cc)
+  | inr miss ↦ rw miss (first_of p rows r (rw miss at one))
+]
 
+-- the row with the key keeps it, where the line's row is put in its place
+pub key_stays : (id : ℤ) (l : Line) (r : Row) (rows : List Row) → filter (has_rowid id) rows ≡ r ∷ []
+    → has_key l r ≡ true
+    → list_any (loses plain (1 ∷ 2 ∷ 3 ∷ [])) (pairs (map (row_at rows) (id ∷ [])) (row_of id l ∷ []))
+    ≡ false
+key_stays id l r rows one key =
+    ap (λ found. list_any (loses plain (1 ∷ 2 ∷ 3 ∷ [])) ((unwrap_or found [], row_of id l) ∷ []))
+    (first_of (has_rowid id) rows r one)
+    ∙ ap (λ b. (agree plain (1 ∷ 2 ∷ 3 ∷ []) r (1 ∷ 2 ∷ 3 ∷ []) r && not b) || false) key
+    ∙ ap (λ b. b || false) (and-false (agree plain (1 ∷ 2 ∷ 3 ∷ []) r (1 ∷ 2 ∷ 3 ∷ []) r))
+
+-- a write that succeeds applies its edit before what that sets off
+applied_first : (schema : Schema) (keys : Keys) (db next : Trees) (edit : Edit) → Writes schema keys db edit (Ok next)
+    → (mid : Trees) × Applies schema keys db edit mid
+applied_first schema keys db next edit (inl refused) = absurd (let e = refused.2 in cc)
+applied_first schema keys db next edit (inr (inl big)) = absurd (let e = big.3 in cc)
+applied_first schema keys db next edit (inr (inr went)) = (went.0, went.1)
+
+-- the own index tells of a row with the key
+pub own_shares : (tree own : ℕ) (l : Line) (x new : Row)
+    → agree plain (1 ∷ 2 ∷ 3 ∷ []) x (1 ∷ 2 ∷ 3 ∷ []) new ≡ true
+    → shares (Some (1 ∷ 2 ∷ 3 ∷ [])) (desk_table tree) new x (desk_index tree own) ≡ true
+own_shares tree own l x new key = and_from _ _ (and_from _ _ (guards_own tree own) refl) key
+
+module _ (schema : Schema) (tree : ℕ) (desk : IsDesk schema tree)
+    (limit : Option ℕ) (keys : Keys) (l : Line) (db : Trees) (lines : List Line) (holds : Holds (db tree) lines) where
   abbrev pub params : Row
   params = shown_line l
 
   abbrev new_id : ℤ
-  new_id = next_rowid (db 0)
+  new_id = next_rowid (db tree)
 
   -- the row that is to be added
   abbrev pub new : Row
-  new = Int (next_rowid (db 0)) ∷ shown_line l
+  new = row_of (next_rowid (db tree)) l
 
-  put : (one : Written) → Puts (desk_task schema limit keys params) new db (Ok one)
-      → (next : Trees) × Applies schema keys db (edit_of db desk_table [] Given 0 (new ∷ [])) next × (one.trees ≡ next)
+  put : (one : Written) → Puts (desk_task schema tree limit keys params) new db (Ok one)
+      → (next : Trees) × Applies schema keys db (edit_of db (desk_table tree) [] Given 0 (new ∷ [])) next ×
+      (one.trees ≡ next)
   put one h =
       let w = went h in
-      let edit = edit_of db desk_table [] Given 0 (new ∷ []) in (
+      let edit = edit_of db (desk_table tree) [] Given 0 (new ∷ []) in (
         w.0,
-        one_step schema keys db w.0 edit
-            (none_in schema keys (taken_by db edit) edit.news (desk_table ∷ others) unreferred) w.1,
+        one_step schema keys db w.0 edit (none_act schema tree keys (taken_by db edit) edit.news refl desk) w.1,
         ap (λ (it : Written). it.trees) (same_value w.2),
       )
 
-  update : (given : Row) (one : Written) → Updates (desk_task schema limit keys params) doing given db (Ok one)
-      → (qs : List Row) × Answers (record { schema = schema; trees = db }) doing given qs × (next : Trees)
-      × Applies schema keys db (edit_of db desk_table (ids_of qs) Given 1 qs) next × (one.trees ≡ next)
+  update : (given : Row) (one : Written)
+      → Updates (desk_task schema tree limit keys params) (doing tree) given db (Ok one)
+      → (qs : List Row) × Answers (record { schema = schema; trees = db }) (doing tree) given qs × (next : Trees)
+      × Writes schema keys db (edit_of db (desk_table tree) (ids_of qs) Given 1 qs) (Ok next) × (one.trees ≡ next)
   update given one h =
       let rows = went h in
       let w = went rows.2 in
-      let edit = edit_of db desk_table (ids_of rows.0) Given 1 rows.0 in (
-        rows.0,
-        rows.1,
-        w.0,
-        one_step schema keys db w.0 edit
-            (none_in schema keys (taken_by db edit) edit.news (desk_table ∷ others) unreferred) w.1,
-        ap (λ (it : Written). it.trees) (same_value w.2),
-      )
+      (rows.0, rows.1, w.0, w.1, ap (λ (it : Written). it.trees) (same_value w.2))
 
-  pub added_edit : edit_of db desk_table [] Given 0 (new ∷ [])
-      ≡ record { table = desk_table; gone = []; news = new ∷ [] }
+  pub added_edit : edit_of db (desk_table tree) [] Given 0 (new ∷ [])
+      ≡ record { table = desk_table tree; gone = []; news = new ∷ [] }
   added_edit = rw (cast_int new_id, cast_int (pos l.kind), cast_int (pos l.owner), cast_int (pos l.place)) refl
 
   -- no row has the key
-  added : (next : Trees) → ((x : Row) → Has (db 0) x → has_key l x ≡ true → ⊥)
-      → Applies schema keys db (record { table = desk_table; gone = []; news = new ∷ [] }) next
-      → Holds (next 0) (put_line lines l)
+  added : (next : Trees) → ((x : Row) → Has (db tree) x → has_key l x ≡ true → ⊥)
+      → Applies schema keys db (record { table = desk_table tree; gone = []; news = new ∷ [] }) next
+      → Holds (next tree) (put_line lines l)
   added next none applied =
-      let free = not_is (is_taken (db 0) new) (and_parts (not (is_taken (db 0) new)) true applied.fresh).0 in
-      let all : filter (λ x. not (has_key l x)) (db 0) ≡ db 0 =
-      filter_all (λ x. not (has_key l x)) (db 0)
-      (all_from _ (db 0) (λ x h. ap not (not_true (has_key l x) (none x h)))) in
+      let free = not-true (is_taken (db tree) new) (and_parts (not (is_taken (db tree) new)) true applied.fresh).0 in
+      let all : filter (λ x. not (has_key l x)) (db tree) ≡ db tree =
+      filter_all (λ x. not (has_key l x)) (db tree)
+      (all_from _ (db tree) (λ x h. ap not (not_true (has_key l x) (none x h)))) in
       rw applied.rows
       (subst (λ rs. Holds (put_row new rs) (put_line lines l)) all
-      (holds_put (db 0) (λ x. not (has_key l x)) lines l new holds (new_id, refl) refl (rw all free) (λ x h. refl)))
+      (holds_put (db tree) (λ x. not (has_key l x)) lines l new holds (new_id, refl) refl (rw all free) (λ x h. refl)))
 
   -- what is written
   abbrev pub Written_as : Trees → Type 0
-  Written_as t = Holds (t 0) (put_line lines l) × OthersStay (desk_table ∷ others) db t
+  Written_as t =
+      Holds (t tree) (put_line lines l) × OthersStay tree schema db t × KeysStay (db tree) (t tree)
+      × IsPut l (db tree) (t tree)
+
+  -- a row that an edit leaves is there after it, with its key
+  left_stays : (edit : Edit) (next : Trees) (x : Row) → edit.table ≡ desk_table tree
+      → Applies schema keys db edit next → Has (db tree) x → Has (left_by db edit) x → HasKeyOf (next tree) x
+  left_stays edit next x is applied there left = (
+    x,
+    subst (λ (t : Table). Has (next t.tree) x) is
+        (subst (λ rows. Has rows x) (sym applied.rows)
+        (put_all_keeps edit.news (left_by db edit) x applied.fresh left)),
+    agree_itself x (keyed_of (db tree) lines holds x there),
+  )
+
+  -- the line's row is there after it, with the key of the one that it replaces
+  put_for : (r : Row) (next : Trees) (id : ℤ)
+      → Applies schema keys db (record { table = desk_table tree; gone = id ∷ []; news = row_of id l ∷ [] })
+      next
+      → has_key l r ≡ true → (x : Row) → x ≡ r → HasKeyOf (next tree) x
+  put_for r next id applied key x is = (
+    row_of id l,
+    subst (λ rows. Has rows (row_of id l)) (sym applied.rows)
+        (put_all_adds (row_of id l ∷ []) _ _ applied.fresh (inl refl)),
+    ap (has_key l) is ∙ key,
+  )
 
   -- a row has it
-  changed : (r : Row) (one : Written) → Has (db 0) r → has_key l r ≡ true
-      → Updates (desk_task schema limit keys params) doing (params ++ rowid r ∷ shown desk_table new) db (Ok one)
+  changed : (r : Row) (one : Written) → Has (db tree) r → has_key l r ≡ true
+      → Updates (desk_task schema tree limit keys params) (doing tree) (params ++ rowid r ∷ shown
+      (desk_table tree) new) db (Ok one)
       → Written_as one.trees
   changed r one there key h =
-      let its = all_has HasId (db 0) r holds.keyed there in
-      let given : Row = params ++ rowid r ∷ shown desk_table new in
+      let its = all_has HasId (db tree) r holds.keyed there in
+      let given : Row = params ++ rowid r ∷ shown (desk_table tree) new in
       let u = update given one h in
       let asked : column given 4 ≡ Int its.0 = its.1 in
+      let first = applied_first schema keys db u.2 (edit_of db (desk_table tree) (ids_of u.0) Given 1 u.0) u.3 in
       let one_row =
-      single db its.0 r given holds.keyed there its.1 asked schema keys u.2 u.0
-      (answer_is db given u.0 (u.1.answer Null)) u.3 in
+      single tree db its.0 r given holds.keyed there its.1 asked schema keys first.0 u.0
+      (answer_is tree db given u.0 (u.1.answer Null)) first.1 in
+      let edit : Edit = record { table = desk_table tree; gone = its.0 ∷ []; news = row_of its.0 l ∷ [] } in
+      let writes =
+      subst (λ e. Writes schema keys db e (Ok u.2))
+      (ap (λ qs. edit_of db (desk_table tree) (ids_of qs) Given 1 qs) one_row.1
+      ∙ edit_is tree db its.0 r given holds.keyed there its.1 asked l lines holds key refl) u.3 in
       let applied =
-      subst (λ e. Applies schema keys db e u.2)
-      (ap (λ qs. edit_of db desk_table (ids_of qs) Given 1 qs) one_row.1
-      ∙ edit_is db its.0 r given holds.keyed there its.1 asked l lines holds key refl) u.3 in
+      one_step schema keys db u.2 edit
+      (none_act schema tree keys (taken_by db edit) edit.news (key_stays its.0 l r (db tree) one_row.0 key) desk)
+      writes in
       subst Written_as (sym u.4) (
-        updated db its.0 r given holds.keyed there its.1 asked l lines holds key refl others more views keys u.2
+        updated tree db its.0 r given holds.keyed there its.1 asked l lines holds key refl schema desk keys u.2
             applied one_row.0,
-        applied.tables,
+        record { tables = applied.tables; others = applied.others },
+        λ x has. elim (cases_Bool (has_rowid its.0 x)) [
+          | inl hit ↦ put_for r u.2 its.0 applied key x
+              (only_one (subst (λ rows. Has rows x) one_row.0 (has_kept (has_rowid its.0) (db tree) x has hit)))
+          | inr other ↦ left_stays edit u.2 x refl applied has
+              (has_kept (λ y. not (has_rowid its.0 y)) (db tree) x has (ap not other))
+        ],
+        inr (r, there, its.0, its.1, applied.rows),
       )
+    where
+      only_one : {x : Row} → Has (r ∷ []) x → x ≡ r
+      only_one (inl is) = is
+      only_one (inr none) = absurd none
 
   pub conflict_is : (found : List Row) (x : Row)
-      → AreConflicts (Some (1 ∷ 2 ∷ 3 ∷ [])) (desk_index ∷ more) desk_table (db 0) new found → Has (db 0) x
+      → AreConflicts (Some (1 ∷ 2 ∷ 3 ∷ [])) schema.indexes (desk_table tree) (db tree) new found → Has (db tree) x
       → has_key l x ≡ true → Has found (rowid x ∷ [])
-  conflict_is found x are h key = are.complete x h (or_left (has_key l x) _ key)
+  conflict_is found x are h key =
+      are.complete x h
+      (some_from (shares (Some (1 ∷ 2 ∷ 3 ∷ [])) (desk_table tree) new x) schema.indexes (desk_index tree desk.own)
+      desk.owns (own_shares tree desk.own l x new key))
 
-  add_row : (one : Written) → AreConflicts (Some (1 ∷ 2 ∷ 3 ∷ [])) (desk_index ∷ more) desk_table (db 0) new []
-      → Puts (desk_task schema limit keys params) new db (Ok one) → Written_as one.trees
+  add_row : (one : Written) → AreConflicts (Some (1 ∷ 2 ∷ 3 ∷ [])) schema.indexes (desk_table tree) (db tree) new []
+      → Puts (desk_task schema tree limit keys params) new db (Ok one) → Written_as one.trees
   add_row one are h =
       let p = put one h in
       let applied = subst (λ e. Applies schema keys db e p.0) added_edit p.1 in
-      subst Written_as (sym p.2) (added p.0 (λ x there key. conflict_is [] x are there key) applied, applied.tables)
+      subst Written_as (sym p.2) (
+        added p.0 (λ x there key. conflict_is [] x are there key) applied,
+        record { tables = applied.tables; others = applied.others },
+        λ x has. left_stays (record { table = desk_table tree; gone = []; news = new ∷ [] }) p.0 x refl applied has has,
+        inl applied.rows,
+      )
 
-  not_theirs : (x : Row) → list_any (shares (Some (1 ∷ 2 ∷ 3 ∷ [])) desk_table new x) more ≡ true → ⊥
-  not_theirs x h =
-      let found = some_has (shares (Some (1 ∷ 2 ∷ 3 ∷ [])) desk_table new x) more h in
-      let guarding =
-      and_parts (guards found.0 desk_table) (aims (Some (1 ∷ 2 ∷ 3 ∷ [])) found.0.columns)
-      (and_parts (guards found.0 desk_table && aims (Some (1 ∷ 2 ∷ 3 ∷ [])) found.0.columns) _ found.2).0 in
-      true≢false
-      (sym (and_parts found.0.is_unique (found.0.table == 0) guarding.0).1
-      ∙ all_has (λ i. (i.table == 0) ≡ false) more found.0 sole found.1)
+  pub sound_key : (x : Row) → Has (db tree) x
+      → conflicts (Some (1 ∷ 2 ∷ 3 ∷ [])) schema.indexes (desk_table tree) new x ≡ true → has_key l x ≡ true
+  sound_key x there h =
+      let found = some_has (shares (Some (1 ∷ 2 ∷ 3 ∷ [])) (desk_table tree) new x) schema.indexes h in
+      let i = found.0 in
+      let parts = and_parts (guards i (desk_table tree) && aims (Some (1 ∷ 2 ∷ 3 ∷ [])) i.columns) _ found.2 in
+      let guard = (and_parts (guards i (desk_table tree)) (aims (Some (1 ∷ 2 ∷ 3 ∷ [])) i.columns) parts.0).0 in
+      sym (agree_any i.order x new (keyed_of (db tree) lines holds x there) (keyed_row new_id l))
+      ∙ subst (λ at. agree i.order at x at new ≡ true) (desk.sole i found.1 guard) parts.1
 
-  pub sound_key : (x : Row) → conflicts (Some (1 ∷ 2 ∷ 3 ∷ [])) (desk_index ∷ more) desk_table new x ≡ true
-      → has_key l x ≡ true
-  sound_key x h =
-      elim (or_cases (has_key l x) (list_any (shares (Some (1 ∷ 2 ∷ 3 ∷ [])) desk_table new x) more) h)
-      [ inl own ↦ own | inr theirs ↦ absurd (not_theirs x theirs) ]
-
-  pub tries : (one : Written) → Tries (desk_task schema limit keys params) Abort clauses new db (Ok one)
+  pub tries : (one : Written) → Tries (desk_task schema tree limit keys params) Abort (clauses tree) new db (Ok one)
       → Written_as one.trees
-  tries one h = go (upserts schema limit keys params db new one h)
+  tries one h = go (upserts schema tree limit keys params db new one h)
     where
-      go : Upserts (desk_task schema limit keys params) Abort new db clauses (Ok one) → Written_as one.trees
+      go : Upserts (desk_task schema tree limit keys params) Abort new db (clauses tree) (Ok one) → Written_as one.trees
       go ([], are, ([], are_none, h)) = add_row one are h
       go ([], are, (x ∷ more, are_none, h)) = add_row one are h
       go (there ∷ rest, are, h) =
           let r = are.sound there (inl refl) in
-          let key = sound_key r.0 r.2 in
+          let key = sound_key r.0 r.1 r.2 in
           changed r.0 one r.1 key
           (subst
           (λ t.
-          Updates (desk_task schema limit keys params) doing (params ++ rowid t ∷ shown desk_table new) db (Ok one))
+          Updates (desk_task schema tree limit keys params) (doing tree) (params ++ rowid t ∷ shown
+          (desk_table tree) new) db (Ok one))
           r.3 h)
 
   -- the statement was done
   pub inserted : (w : Written)
-      → InsertsOr (desk_task schema limit keys params) Abort clauses (Values given_row 5) db (Ok w) → Written_as w.trees
+      → InsertsOr (desk_task schema tree limit keys params) Abort (clauses tree) (Values given_row 5) db (Ok w)
+      → Written_as w.trees
   inserted w h =
       let given = went h in
       let counter = went given.2 in
       let tried = went counter.2 in
       let counted = went tried.2 in
       let source : Row = Null ∷ params in
-      let each_one = from_rows schema limit keys params db source given.0 _ tried.0 given.1.1 tried.1 in
-      let plain : cast_row desk_table source ≡ source = cast_source (pos l.kind) (pos l.owner) (pos l.place) l.body in
+      let each_one = from_rows schema tree limit keys params db source given.0 _ tried.0 given.1.1 tried.1 in
+      let plain : cast_row (desk_table tree) source ≡ source = cast_source tree (pos l.kind) (pos l.owner)
+      (pos l.place) l.body in
       let one =
       subst
-      (λ r. Tries (desk_task schema limit keys params) Abort clauses (with_rowid Chosen (db 0) r) db (Ok each_one.0))
+      (λ r. Tries (desk_task schema tree limit keys params) Abort (clauses tree) (with_rowid Chosen (db tree) r) db
+      (Ok each_one.0))
       plain each_one.1 in
       let trees : w.trees ≡ each_one.0.trees =
       ap (λ (it : Written). it.trees) (same_value counted.2) ∙ same_value counted.1 ∙ each_one.2 in
       subst Written_as (sym trees) (tries each_one.0 one)
 
 pub puts_line : (old new : State) (l : Line) (lines : List Line) (count : ℕ) → IsTrue (is_desk old.now.schema)
-    → Holds (old.now.trees 0) lines → Executes upsert_text (shown_line l) old new (Ok count)
+    → Holds (stored_rows old.now) lines → Executes upsert_text (shown_line l) old new (Ok count)
     → Stands new.now (put_line lines l) × LeavesOthers old.now new.now
+    × IsPut l (stored_rows old.now) (stored_rows new.now)
 puts_line old new l lines count stands holds h =
-    let desk = desk_of old.now.schema stands in
-    let has = desk.is in
-    let schema = beside desk.others desk.more desk.views in
+    let schema = old.now.schema in
+    let tree = tree_of schema in
+    let desk = desk_of schema stands in
     let params : Row = shown_line l in
     let db = old.now.trees in
     let keys = (mode_of old).keys in
     let w =
-    runs_as upsert_text params old new schema has upsert (upsert_is desk.others desk.more desk.views)
-    (upsert_plain desk.others desk.more desk.views) count h in
-    let text = statement_of upsert_text (understood schema upsert_text) in
-    let done =
-    went
-    (subst
-    (λ s.
-    Does old.step_limit (mode_of old) params (record old.now { schema = s }) text None upsert
-    (Ok (w.tally, new.now))) has w.changed) in
-    let now = ap (λ (t : Tally × Database). t.1) (same_value (went (went done.2).2).2) in
-    let trees : new.now.trees ≡ done.0.trees = ap (λ (d : Database). d.trees) now in
-    let same : new.now.schema ≡ old.now.schema = ap (λ (d : Database). d.schema) now ∙ sym has in
+    runs_as upsert_text params old new schema refl (upsert desk.place tree) (upsert_is schema tree desk)
+    (upsert_plain schema tree desk) count h in
+    let task = went (rw desk.at at w.changed) in
+    let now = ap (λ (t : Tally × Database). t.1) (same_value (went (went task.2).2).2) in
+    let trees : new.now.trees ≡ task.0.trees = ap (λ (d : Database). d.trees) now in
+    let same : new.now.schema ≡ old.now.schema = ap (λ (d : Database). d.schema) now in
     let all =
-    subst
-    (Written_as desk.others desk.more desk.views (subst Unreferred has desk.unreferred) desk.sole old.step_limit
-    keys l db lines holds) (sym trees)
-    (inserted desk.others desk.more desk.views (subst Unreferred has desk.unreferred) desk.sole old.step_limit keys l
-    db lines holds done.0 done.1) in (
-      (subst (λ s. IsTrue (is_desk s)) (sym same) stands, all.0),
-      record {
-        schema = same;
-        rows = subst (λ (s : Schema). OthersStay s.tables db new.now.trees) (sym has) all.1;
-        obeys = λ _. w.sound;
-      },
+    subst (Written_as schema tree desk old.step_limit keys l db lines holds) (sym trees)
+    (inserted schema tree desk old.step_limit keys l db lines holds task.0 task.1) in (
+      (
+        subst (λ s. IsTrue (is_desk s)) (sym same) stands,
+        subst (λ s. Holds (new.now.trees (tree_of s)) (put_line lines l)) (sym same) all.0,
+      ),
+      record { schema = same; rows = all.1; obeys = λ _. w.sound },
+      subst (λ s. IsPut l (stored_rows old.now) (new.now.trees (tree_of s))) (sym same) all.3,
     )

@@ -1,9 +1,13 @@
--- Texts, and what they mean under a schema in which the table stands first.
-use Rattle.std.specs.Prelude.{◌++◌, ◌≡◌, Bool, Option, true, false, [], ◌∷◌, ◌==◌, Some, None, codes, List, ℕ, pos}
-use Rattle.std.specs.Prelude.{negsuc, IsTrue}
-use Rattle.std.specs.List.{AllByRecursion, list_all}
-use Rattle.sqlite_schema.specs.Rules.{ParentKey, parent_key}
-use Rattle.sqlite_schema.specs.declared.schema.View.{View}
+-- Texts, and what they mean under a schema in which the table stands.
+use Rattle.std.specs.Prelude.{◌++◌, ◌≡◌, ◌⊎◌, ◌^◌, Bool, Option, true, false, [], ◌∷◌, ◌==◌, Some, None, codes, List}
+use Rattle.std.specs.Prelude.{ℕ, pos}
+use Rattle.std.specs.Prelude.{negsuc, find, nat_le, nat_lt, slice_get}
+use Rattle.std.specs.List.{list_all}
+use Rattle.sqlite_schema.specs.Names.{table_named}
+use Rattle.sqlite_schema.specs.Rules.{ParentKey, guards, is_key_if_to, parent_key}
+use Rattle.sqlite_schema.specs.declared.command.Upsert.{Upsert}
+use Rattle.sqlite_resolve.specs.Given.{is_key_at}
+use Rattle.sqlite_rules.specs.Lists.{Has}
 use Rattle.sqlite.specs.Collation.TheVariants.{Binary}
 use Rattle.sqlite.specs.declared.types.Value.TheVariants.{Null, Int}
 use Rattle.sqlite.specs.Table.{Table}
@@ -12,18 +16,15 @@ use Rattle.sqlite.specs.Kind.TheVariants.{Integer, Any}
 use Rattle.sqlite.specs.Term.{Term, lit, col, op2}
 use Rattle.sqlite.specs.Query.{Query, inner, end}
 use Rattle.sqlite_value.specs.Keys.{plain}
-use Rattle.row_store.specs.Table.{ascending, is_beside}
+use Rattle.row_store.specs.Table.{ascending}
 use Rattle.sqlite_schema.specs.declared.schema.Index.{Index}
+use Rattle.sqlite_schema.specs.declared.schema.Reference.{Reference}
 use Rattle.sqlite.specs.Source.TheVariants.{Values}
 use Rattle.sqlite.specs.Command.{Command}
 use Rattle.sqlite.specs.Command.TheVariants.{InsertOr, Select}
 use Rattle.sqlite_schema.specs.declared.command.Conflict.TheVariants.{Abort}
 use Rattle.sqlite_sql.specs.declared.ops.BinaryOp.TheVariants.{Compare}
 use Rattle.sqlite_sql.specs.declared.ops.CompareOp.TheVariants.{Eq}
-
--- nothing stands in the schema
-abbrev pub no_schema : Schema
-no_schema = record { tables = []; indexes = []; views = [] }
 
 -- shows all rows
 abbrev pub select_text : List ℕ
@@ -35,11 +36,11 @@ upsert_text =
     codes "INSERT INTO desk_rows (kind, owner, place, body) VALUES (?1, ?2, ?3, ?4) "
     ++ codes "ON CONFLICT (kind, owner, place) DO UPDATE SET body = ?4"
 
--- the table as its text makes it
-abbrev pub desk_table : Table
-desk_table = record {
+-- the table as its text makes it, with its rows in this tree
+abbrev pub desk_table : ℕ → Table
+desk_table tree = record {
   name = codes "desk_rows";
-  tree = 0;
+  tree = tree;
   columns =
       (record
       { name = codes "kind"; kind = Integer; is_strict = false; not_null = true; default = Null; collation = Binary })
@@ -73,46 +74,54 @@ desk_table = record {
   is_counted = false;
 }
 
--- the index that its key makes
-abbrev pub desk_index : Index
-desk_index =
+-- the index that its key makes, with its rows in a tree of their own
+abbrev pub desk_index : ℕ → ℕ → Index
+desk_index tree own =
     record {
       name = codes "sqlite_autoindex_desk_rows_1";
-      tree = 1;
-      table = 0;
+      tree = own;
+      table = tree;
       columns = 1 ∷ 2 ∷ 3 ∷ [];
       order = plain;
       is_unique = true;
     }
 
--- the table stands first, and anything behind it
-abbrev pub beside : List Table → List Index → List View → Schema
-beside others more views = record { tables = desk_table ∷ others; indexes = desk_index ∷ more; views = views }
+-- the key is one of the table with this tree
+abbrev pub is_here : ℕ → Option ParentKey → Bool
+is_here tree None = false
+is_here tree (Some key) = key.0 == tree
 
--- the table alone
-abbrev pub desk_schema : Schema
-desk_schema = beside [] [] []
+-- the key of the table with this tree
+abbrev pub desk_key : ℕ → ParentKey
+desk_key tree = (tree, 1 ∷ 2 ∷ 3 ∷ [], plain)
 
--- the key is one of the first table
-abbrev pub is_here : Option ParentKey → Bool
-is_here None = false
-is_here (Some key) = key.0 == 0
+-- the key is none of the table with this tree, or the one that it has
+abbrev pub IsKeyBeside : ℕ → Option ParentKey → Type 0
+IsKeyBeside tree key = (is_here tree key ≡ false) ⊎ (key ≡ Some (desk_key tree))
 
--- The table is the first of the schema, no foreign key refers to it, and no index stands on it but that of its key.
-pub record IsDesk (schema : Schema) : Type 0 where
-  pub others : List Table
-  pub more : List Index
-  pub views : List View
-  pub is : schema ≡ beside others more views
-  pub unreferred : AllByRecursion
-      (λ t. AllByRecursion (λ ref. is_here (parent_key schema.tables ref) ≡ false) t.references) schema.tables
-  pub sole : AllByRecursion (λ i. (i.table == 0) ≡ false) more
-  pub apart : IsTrue (list_all is_beside others)
+-- The table stands in the schema with its rows in this tree. A foreign key that refers to it refers to its key, and no
+-- index makes another key of it than its own.
+pub record IsDesk (schema : Schema) (tree : ℕ) : Type 0 where
+  pub place : ℕ
+  pub own : ℕ
+  pub named : table_named schema (codes "desk_rows") ≡ Some place
+  pub at : slice_get schema.tables place ≡ Some (desk_table tree)
+  pub known : find (λ t. t.tree == tree) schema.tables ≡ Some (desk_table tree)
+  pub low : nat_lt tree (2 ^ 31) ≡ true
+  pub below : nat_le (2 ^ 31) tree ≡ false
+  pub keyed : find (is_key_at (desk_table tree) (1 ∷ 2 ∷ 3 ∷ [])) schema.indexes ≡ Some (desk_index tree own)
+  pub stands : Has schema.tables (desk_table tree)
+  pub owns : Has schema.indexes (desk_index tree own)
+  pub apart : (t : Table) → Has schema.tables t → (t ≡ desk_table tree) ⊎ ((t.tree == tree) ≡ false)
+  pub sole : (i : Index) → Has schema.indexes i → guards i (desk_table tree) ≡ true → i.columns ≡ 1 ∷ 2 ∷ 3 ∷ []
+  pub elsewhere : list_all (λ t. list_all (is_key_if_to schema (desk_table tree)) t.references) schema.tables ≡ true
+  pub referred : (t : Table) (ref : Reference) → Has schema.tables t → Has t.references ref
+      → IsKeyBeside tree (parent_key schema.tables ref)
 
 -- the query that the second text is
-abbrev pub all_rows : Query
-all_rows = record {
-  from = inner 0 end;
+abbrev pub all_rows : ℕ → Query
+all_rows tree = record {
+  from = inner tree end;
   filter = [];
   group = None;
   project = col 1 0 ∷ col 1 1 ∷ col 1 2 ∷ col 1 3 ∷ col 1 4 ∷ [];
@@ -124,9 +133,9 @@ all_rows = record {
 }
 
 -- the query of what DO UPDATE writes
-abbrev pub new_body : Query
-new_body = record {
-  from = inner 0 end;
+abbrev pub new_body : ℕ → Query
+new_body tree = record {
+  from = inner tree end;
   filter = op2 (Compare Eq Binary) (col 1 0) (col 0 4) ∷ [];
   group = None;
   project = col 1 0 ∷ col 1 0 ∷ col 1 1 ∷ col 1 2 ∷ col 1 3 ∷ col 0 3 ∷ [];
@@ -141,14 +150,19 @@ new_body = record {
 abbrev pub given_row : List Term
 given_row = lit Null ∷ col 0 0 ∷ col 0 1 ∷ col 0 2 ∷ col 0 3 ∷ []
 
+-- what the third text does where a row has the key
+abbrev pub clauses : ℕ → List Upsert
+clauses tree =
+    (record { target = Some (1 ∷ 2 ∷ 3 ∷ []); update = Some (record { lets = []; body = new_body tree }) }) ∷ []
+
 -- the command that the third text is
-abbrev pub upsert : Command
-upsert =
-    InsertOr 0 Abort (Values given_row 5)
-    ((record { target = Some (1 ∷ 2 ∷ 3 ∷ []); update = Some (record { lets = []; body = new_body }) }) ∷ [])
+abbrev pub upsert : ℕ → ℕ → Command
+upsert place tree = InsertOr place Abort (Values given_row 5) (clauses tree)
+
+-- the names of what the second text shows
+abbrev pub names : List (List ℕ)
+names = codes "rowid" ∷ codes "kind" ∷ codes "owner" ∷ codes "place" ∷ codes "body" ∷ []
 
 -- the command that the second text is
-abbrev pub select : Command
-select =
-    Select (record { lets = []; body = all_rows })
-    (codes "rowid" ∷ codes "kind" ∷ codes "owner" ∷ codes "place" ∷ codes "body" ∷ [])
+abbrev pub select : ℕ → Command
+select tree = Select (record { lets = []; body = all_rows tree }) names

@@ -1,21 +1,19 @@
 -- The table's rows as lines, and what rows that are put make of them.
-use Rattle.std.specs.Prelude.{◌≡◌, ◌≢◌, ℤ, pos, IsTrue, List, [], ◌∷◌, map, Ok, IsPermutation, IsSorted}
+use Rattle.std.specs.Prelude.{◌≡◌, ◌≢◌, ℕ, ℤ, pos, IsTrue, List, [], ◌∷◌, map, Ok, IsPermutation, IsSorted}
 use Rattle.std.specs.List.{AllByRecursion}
 use Rattle.std.specs.declared.cmp.Ordering.{Ordering}
 use Rattle.desk_packing.specs.Lines.{Line, put_lines}
 use Rattle.sqlite.specs.declared.types.Value.TheVariants.{Int, Blob}
-use Rattle.sqlite.specs.Change.{created}
+use Rattle.sqlite.specs.Change.{created, KeepsRows}
 use Rattle.sqlite.specs.Compile.{table_defined_by}
 use Rattle.sqlite.specs.Effect.{Database, IsDatabase}
-use Rattle.sqlite.specs.Files.{HoldsDatabase}
+use Rattle.sqlite.specs.Edit.{IsNoIndex}
 use Rattle.sqlite.specs.Order.{Row, column}
 use Rattle.sqlite.specs.Schema.{Schema}
 use Rattle.sqlite.specs.Table.{Table}
 use Rattle.sqlite.specs.Tree.{Trees, rowid}
-use Rattle.sqlite_catalog.specs.Listing.{IsSound}
 use Rattle.sqlite_sql.specs.Query.{key_cmp}
-use Rattle.sqlite_wal.specs.Recovery.{Image}
-use Rattle.row_store.specs.Table.{ascending, create_text, is_desk}
+use Rattle.row_store.specs.Table.{ascending, create_text, is_desk, tree_of}
 
 -- the four columns of a stored row, which begins with its rowid
 abbrev pub shown_row : Row → Row
@@ -42,18 +40,23 @@ pub record Holds (rows : List Row) (lines : List Line) : Type 0 where
   pub keyed : AllByRecursion HasId rows
   pub same : IsPermutation (map shown_row rows) (map shown_line lines)
 
+-- the rows of the table
+abbrev pub stored_rows : Database → List Row
+stored_rows db = db.trees (tree_of db.schema)
+
 -- the table stands in the database with these lines
 abbrev pub Stands : Database → List Line → Type 0
-Stands db lines = IsTrue (is_desk db.schema) × Holds (db.trees 0) lines
+Stands db lines = IsTrue (is_desk db.schema) × Holds (stored_rows db) lines
 
--- the rows of each table but the first are as before
-abbrev pub OthersStay : List Table → Trees → Trees → Type 0
-OthersStay tables old new = AllByRecursion (λ table. table.tree ≢ 0 → new table.tree ≡ old table.tree) tables
+-- the rows of each table but the one in this tree are as before, and so is each tree that is no index's
+pub record OthersStay (tree : ℕ) (schema : Schema) (old new : Trees) : Type 0 where
+  pub tables : AllByRecursion (λ table. table.tree ≢ tree → new table.tree ≡ old table.tree) schema.tables
+  pub others : (other : ℕ) → other ≢ tree → IsNoIndex schema other → new other ≡ old other
 
--- the schema and the rows of each other table are as before, and a schema that was obeyed is so still
+-- the schema and the rows of each other table are as before, and a schema that was obeyed is so still, with each index
 pub record LeavesOthers (old new : Database) : Type 0 where
   pub schema : new.schema ≡ old.schema
-  pub rows : OthersStay old.schema.tables old.trees new.trees
+  pub rows : OthersStay (tree_of old.schema) old.schema old.trees new.trees
   pub obeys : IsDatabase old → IsDatabase new
 
 -- the lines are put over those that stand, and all else stays
@@ -70,10 +73,11 @@ pub record AddsTable (old new : Schema) : Type 0 where
   pub defined : table_defined_by create_text ≡ Ok table
   pub added : new ≡ created old table
 
--- the table is made and nothing else, and no row stands in it
+-- the table is made and nothing else, no row stands in it, and the rows of each other table are as before
 pub record MakesTable (old new : Database) : Type 0 where
   pub adds : AddsTable old.schema new.schema
   pub stands : Stands new []
+  pub rows : KeepsRows old.schema.tables old.trees new.trees
   pub sound : IsDatabase new
 
 -- trees in which it is made so
@@ -92,7 +96,7 @@ AreInKeyOrder lines = IsSorted by_key (map (λ line. Int (pos 0) ∷ shown_line 
 pub record Shows (rows : List Row) (old new : Database) : Type 0 where
   pub unchanged : new ≡ old
   pub stands : IsTrue (is_desk new.schema)
-  pub same : IsPermutation (map whole_row (new.trees 0)) rows
+  pub same : IsPermutation (map whole_row (stored_rows new)) rows
   pub sorted : IsSorted by_key rows
 
 -- these are the lines of the table, in the order of their keys, and nothing changes
@@ -100,9 +104,3 @@ pub record Reads (lines : List Line) (old new : Database) : Type 0 where
   pub unchanged : new ≡ old
   pub stand : Stands new lines
   pub order : AreInKeyOrder lines
-
--- what files held before an open is a sound database in which the table stands with these lines
-abbrev pub StartsWith : Image → List Line → Type 0
-StartsWith image lines =
-    (trees : Trees) × (schema : Schema) × HoldsDatabase image trees × IsSound schema trees
-    × Stands (record { schema = schema; trees = trees }) lines

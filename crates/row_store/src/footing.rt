@@ -1,11 +1,12 @@
-//! What stands in the schema of a file: nothing, the one table, or something else.
-ghost use Rattle.std.specs.Prelude.{◌≡◌, ◌↔◌, true, IsErr, IfOk, OnOk};
+//! What stands in the schema of a file: no object of the table's name, the one table, or something else.
+ghost use Rattle.std.specs.Prelude.{◌≡◌, ◌↔◌, false, true, find, option_map, unwrap_or, IsErr, IfOk, OnOk};
 ghost use Rattle.std.specs.List.{list_all};
 ghost use Rattle.sqlite.specs.Held.{state};
 ghost use Rattle.row_store.specs.Calls.{Lasts};
 ghost use Rattle.row_store.specs.Table as desk;
 
 use crate::rest::at_rest;
+use crate::vacancy::is_absent;
 use sqlite::types::Value;
 use sqlite::{Alter, Connection, Error};
 use sqlite_items::Items;
@@ -13,21 +14,22 @@ use sqlite_schema::code::Terms;
 use sqlite_schema::names::same_name;
 use sqlite_schema::schema::{Column, Index, Kind, Reference, Schema, Stamps, Table};
 use sqlite_value::keys::{Collation, Order};
+use sqlite_value::value::Bytes;
 
-const NAME: &[u8] = b"desk_rows";
+pub const NAME: &[u8] = b"desk_rows";
 
-const INDEX_NAME: &[u8] = b"sqlite_autoindex_desk_rows_1";
+pub const INDEX_NAME: &[u8] = b"sqlite_autoindex_desk_rows_1";
 
 const KEY: &[usize] = &[1, 2, 3];
 
 /// What stands in the schema of a file.
 #[derive(Clone, Copy, Debug, PartialEq, Eq)]
 pub enum Footing {
-    /// Nothing stands in it.
-    Blank,
-    /// The table stands in it, first of all, as this crate makes it. Other tables may stand behind it.
+    /// No table, index or view of the table's name, nor of its index. Others may stand in it.
+    Absent,
+    /// The table stands in it as this crate makes it. Other tables, indexes and views may stand beside it.
     Desk,
-    /// Something else: another writer made it.
+    /// Something else has the name, or touches the table: another writer made it.
     Other,
 }
 
@@ -47,19 +49,13 @@ pub fn footing_of<S: Alter>(conn: &Connection<S>) -> Result<Footing, Error>
 fn found_in(schema: &Schema) -> Footing
     ensures { result ≡ desk.footing_of schema.now }
 {
-    if is_blank(schema) {
-        Footing::Blank
+    if is_absent(schema) {
+        Footing::Absent
     } else if is_desk(schema) {
         Footing::Desk
     } else {
         Footing::Other
     }
-}
-
-fn is_blank(schema: &Schema) -> bool
-    ensures { result ≡ desk.is_blank schema.now }
-{
-    is_empty(&schema.tables) && is_empty(&schema.indexes) && is_empty(&schema.views)
 }
 
 fn is_empty<T>(items: &Items<T>) -> bool
@@ -68,69 +64,115 @@ fn is_empty<T>(items: &Items<T>) -> bool
     items.as_slice().is_empty()
 }
 
-/// Whether the table stands first, with its own index, and nothing else touches it.
+/// Whether the table stands in the schema, with its own index, and nothing else touches it.
 fn is_desk(schema: &Schema) -> bool
     ensures { result ≡ desk.is_desk schema.now }
 {
-    have_desk_table(schema.tables.as_slice()) && have_desk_index(schema.indexes.as_slice())
-}
-
-fn have_desk_table(tables: &[Table]) -> bool
-    ensures { result ≡ desk.have_desk_table tables.now }
-{
-    match tables {
-        [] => false,
-        [table, others @ ..] => is_desk_table(table) && are_beside(others),
+    match called(schema.tables.as_slice()) {
+        None => false,
+        Some(table) => stands_in(schema, table),
     }
 }
 
-fn have_desk_index(indexes: &[Index]) -> bool
-    ensures { result ≡ desk.have_desk_index indexes.now }
+/// The table that has the name.
+fn called(tables: &[Table]) -> Option<&Table>
+    ensures { option_map (λ table. table.now) result ≡ find desk.is_called tables.now }
 {
-    match indexes {
-        [] => false,
-        [index, others @ ..] => is_desk_index(index) && are_indexes_beside(others),
+    tables.iter().find(|table| is_called(table))
+}
+
+fn is_called(table: &Table) -> bool
+    ensures { result ≡ desk.is_called table.now }
+{
+    same_name(table.name.as_slice(), NAME)
+}
+
+fn stands_in(schema: &Schema, table: &Table) -> bool
+    ensures { result ≡ desk.stands_in schema.now table.now }
+{
+    is_desk_table(table)
+        && are_beside(schema.tables.as_slice(), table.tree)
+        && have_desk_index(schema.indexes.as_slice(), table.tree)
+}
+
+fn have_desk_index(indexes: &[Index], tree: u32) -> bool
+    ensures { result ≡ desk.have_desk_index tree indexes.now }
+{
+    begin_with_own(indexes, tree) && are_indexes_beside(indexes, tree)
+}
+
+/// Whether the first index on the table is that of its key.
+fn begin_with_own(indexes: &[Index], tree: u32) -> bool
+    ensures { result ≡ unwrap_or (option_map (desk.is_desk_index tree) (find (desk.is_on tree) indexes.now)) false }
+{
+    match indexes.iter().find(|index| index.table == tree) {
+        None => false,
+        Some(index) => is_desk_index(index, tree),
     }
 }
 
-fn are_beside(tables: &[Table]) -> bool
-    ensures { result ≡ list_all desk.is_beside tables.now }
+fn are_beside(tables: &[Table], tree: u32) -> bool
+    ensures { result ≡ list_all (desk.is_beside tree) tables.now }
 {
-    tables.iter().all(|table| is_beside(table))
+    tables.iter().all(|table| is_beside(table, tree))
 }
 
-fn are_indexes_beside(indexes: &[Index]) -> bool
-    ensures { result ≡ list_all desk.is_index_beside indexes.now }
+fn are_indexes_beside(indexes: &[Index], tree: u32) -> bool
+    ensures { result ≡ list_all (desk.is_index_beside tree) indexes.now }
 {
-    indexes.iter().all(|index| index.table != 0)
+    indexes.iter().all(|index| is_index_beside(index, tree))
 }
 
-fn is_beside(table: &Table) -> bool
-    ensures { result ≡ desk.is_beside table.now }
+fn is_index_beside(index: &Index, tree: u32) -> bool
+    ensures { result ≡ desk.is_index_beside tree index.now }
 {
-    table.tree != 0 && refer_elsewhere(table.references.as_slice())
+    index.table != tree || !index.is_unique || index.columns.as_slice() == KEY
 }
 
-fn refer_elsewhere(references: &[Reference]) -> bool
-    ensures { result ≡ list_all desk.refers_elsewhere references.now }
+fn is_beside(table: &Table, tree: u32) -> bool
+    ensures { result ≡ desk.is_beside tree table.now }
 {
-    references
-        .iter()
-        .all(|reference| refers_elsewhere(reference))
+    (table.tree != tree || is_desk_table(table)) && all_fit_key(table.references.as_slice())
 }
 
-fn refers_elsewhere(reference: &Reference) -> bool
-    ensures { result ≡ desk.refers_elsewhere reference.now }
+pub fn all_fit_key(references: &[Reference]) -> bool
+    ensures { result ≡ list_all desk.fits_key references.now }
 {
-    !same_name(NAME, reference.parent.as_slice())
+    references.iter().all(|reference| fits_key(reference))
 }
 
-fn is_desk_index(index: &Index) -> bool
-    ensures { result ≡ desk.is_desk_index index.now }
+/// Whether a foreign key refers to another table, or to the key of this one.
+fn fits_key(reference: &Reference) -> bool
+    ensures { result ≡ desk.fits_key reference.now }
+{
+    !same_name(NAME, reference.parent.as_slice()) || refers_to_key(reference)
+}
+
+fn refers_to_key(reference: &Reference) -> bool
+    ensures { result ≡ desk.refers_to_key reference.now }
+{
+    reference.columns.as_slice().len() == 3 && names_key(reference.parent_columns.as_slice())
+}
+
+fn names_key(names: &[Bytes]) -> bool
+    ensures { result ≡ desk.names_key names.now }
+{
+    match names {
+        [] => true,
+        [kind, owner, place] => {
+            same_name(b"kind", kind.as_slice())
+                && same_name(b"owner", owner.as_slice())
+                && same_name(b"place", place.as_slice())
+        }
+        _ => false,
+    }
+}
+
+fn is_desk_index(index: &Index, tree: u32) -> bool
+    ensures { result ≡ desk.is_desk_index tree index.now }
 {
     index.name.as_slice() == INDEX_NAME
-        && index.tree == 1
-        && index.table == 0
+        && index.table == tree
         && index.columns.as_slice() == KEY
         && index.order.digits == 0
         && index.is_unique
@@ -140,7 +182,7 @@ fn is_desk_table(table: &Table) -> bool
     ensures { result ≡ desk.is_desk_table table.now }
 {
     table.name.as_slice() == NAME
-        && table.tree == 0
+        && table.tree < 65_536
         && are_desk_columns(table.columns.as_slice())
         && has_desk_key(table)
         && is_bare(table)

@@ -5,14 +5,16 @@
 #![tactic(auto)]
 
 mod footing;
+mod looking;
 mod making;
 mod opening;
 mod putting;
 mod reading;
 mod rest;
+mod vacancy;
 
 pub use footing::{Footing, footing_of};
 pub use making::make_table;
-pub use opening::{Opening, open};
+pub use opening::{OpenFault, Opening, close, open};
 pub use putting::put_rows;
 pub use reading::all_rows;

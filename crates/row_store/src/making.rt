@@ -1,26 +1,26 @@
 //! The table is made.
-ghost use Rattle.std.specs.Prelude.{◌≡◌, ◌≢◌, false, true, IsTrue, IfErr, OnOk, OnErr};
+ghost use Rattle.std.specs.Prelude.{◌≡◌, ◌≢◌, false, true, None, IsTrue, IfErr, OnOk, OnErr};
 ghost use Rattle.sqlite.specs.Held.{state};
 ghost use Rattle.sqlite.specs.State.{HasCleanDisk, KeepsCommit, Survives};
 ghost use Rattle.row_store.specs.Calls.{Becomes, GoesOn, IsAtRest, IsCommitted, Leaves, Stays};
-ghost use Rattle.row_store.specs.Refusals.{IsStopped, no_memory};
+ghost use Rattle.row_store.specs.Refusals.{IsHalted, IsStopped, no_memory};
 ghost use Rattle.row_store.specs.Stored.{MakesTable, MakesTableIn};
-ghost use Rattle.row_store.specs.Table.{is_blank};
+ghost use Rattle.row_store.specs.Table.{is_absent};
 
 use crate::rest::at_rest;
 use sqlite::{Alter, Connection, Error, Transaction};
 
-/// Makes the table in a file in which nothing stands.
+/// Makes the table in a file in which no object has its name, beside what stands there.
 pub fn make_table<S: Alter>(conn: &mut Connection<S>) -> Result<(), Error>
-    requires { IsTrue (is_blank (state S.Store conn.old).now.schema) }
+    requires { IsTrue (is_absent (state S.Store conn.old).now.schema) }
     ensures made { OnOk result (Becomes MakesTable (state S.Store conn.old) (state S.Store conn.new)) }
     ensures unchanged { OnErr result (Stays (state S.Store conn.old) (state S.Store conn.new)) }
     ensures crash { Leaves MakesTable (state S.Store conn.old) (state S.Store conn.new) }
     ensures autocommit { conn.old.in_transaction ≡ false → conn.new.in_transaction ≡ false }
     ensures goes_on { GoesOn (state S.Store conn.old) (state S.Store conn.new) }
     ensures cause { IfErr result (λ e. e ≢ no_memory → conn.old.in_transaction ≡ false
-        → HasCleanDisk (state S.Store conn.new)
-        → IsStopped (state S.Store conn.old) (state S.Store conn.new)) }
+        → conn.old.step_limit ≡ None → HasCleanDisk (state S.Store conn.new)
+        → IsHalted (state S.Store conn.old) (state S.Store conn.new)) }
 {
     at_rest(conn)?;
     make_alone(conn)
@@ -29,7 +29,7 @@ pub fn make_table<S: Alter>(conn: &mut Connection<S>) -> Result<(), Error>
 /// Makes the table in a transaction of its own, over a connection at rest.
 fn make_alone<S: Alter>(conn: &mut Connection<S>) -> Result<(), Error>
     requires rests { IsAtRest (state S.Store conn.old) }
-    requires blank { IsTrue (is_blank (state S.Store conn.old).now.schema) }
+    requires absent { IsTrue (is_absent (state S.Store conn.old).now.schema) }
     ensures made { HasCleanDisk (state S.Store conn.new)
         → OnOk result (MakesTable (state S.Store conn.old).now (state S.Store conn.new).now) }
     ensures ends { HasCleanDisk (state S.Store conn.new)
@@ -52,7 +52,7 @@ fn make_alone<S: Alter>(conn: &mut Connection<S>) -> Result<(), Error>
 /// Makes the table in a transaction.
 fn make_in<S: Alter>(tx: &mut Transaction<'_, S>) -> Result<usize, Error>
     requires inside { tx.old.conn.now.in_transaction ≡ true }
-    requires blank { IsTrue (is_blank (state S.Store tx.old.conn.now).now.schema) }
+    requires absent { IsTrue (is_absent (state S.Store tx.old.conn.now).now.schema) }
     ensures same_reference { tx.new.conn.ghost_name ≡ tx.old.conn.ghost_name }
     ensures made { HasCleanDisk (state S.Store tx.new.conn.now)
         → OnOk result (MakesTable (state S.Store tx.old.conn.now).now (state S.Store tx.new.conn.now).now) }

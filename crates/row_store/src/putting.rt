@@ -1,5 +1,5 @@
 //! Rows are put over those that stand.
-ghost use Rattle.std.specs.Prelude.{◌≡◌, ◌≢◌, ◌⊎◌, false, pos, List, map, [], ◌∷◌, IsTrue, IfErr, OnOk, OnErr};
+ghost use Rattle.std.specs.Prelude.{◌≡◌, ◌≢◌, ◌⊎◌, false, pos, List, map, [], ◌∷◌, None, IsTrue, IfErr, OnOk, OnErr};
 ghost use Rattle.desk_packing.specs.Lines.{Line, line_of};
 ghost use Rattle.sqlite.specs.declared.types.Value.TheVariants.{Int};
 ghost use Rattle.sqlite.specs.Effect.{IsDatabase};
@@ -8,7 +8,8 @@ ghost use Rattle.sqlite.specs.State.{HasCleanDisk, KeepsCommit, Survives};
 ghost use Rattle.sqlite.specs.Values.{bound_value};
 ghost use Rattle.sqlite_value.specs.Value.{owned};
 ghost use Rattle.row_store.specs.Calls.{Becomes, GoesOn, IsAtRest, IsCommitted, Lasts, Leaves, Stays};
-ghost use Rattle.row_store.specs.Refusals.{IsStopped, LacksRoom, LacksRoomFor, no_memory};
+ghost use Rattle.row_store.specs.Numbers.{TakesNumbers};
+ghost use Rattle.row_store.specs.Refusals.{IsHalted, IsStopped, LacksRoom, LacksRoomFor, no_memory};
 ghost use Rattle.row_store.specs.Stored.{Puts, PutsIn, Stands};
 
 use crate::rest::at_rest;
@@ -27,9 +28,9 @@ pub fn put_rows<S: Alter>(conn: &mut Connection<S>, rows: &[PackedRow]) -> Resul
         → Stands (state S.Store conn.old).now lines → Lasts (state S.Store conn.new) }
     ensures goes_on { GoesOn (state S.Store conn.old) (state S.Store conn.new) }
     ensures cause { IfErr result (λ e. e ≢ no_memory → conn.old.in_transaction ≡ false
-        → HasCleanDisk (state S.Store conn.new)
+        → conn.old.step_limit ≡ None → HasCleanDisk (state S.Store conn.new)
         → (lines : List Line) → Stands (state S.Store conn.old).now lines
-        → IsStopped (state S.Store conn.old) (state S.Store conn.new)
+        → IsHalted (state S.Store conn.old) (state S.Store conn.new)
         ⊎ LacksRoomFor (map line_of rows.now) (state S.Store conn.old).now) }
 {
     at_rest(conn)?;
@@ -69,6 +70,9 @@ fn put_row<S: Alter>(tx: &mut Transaction<'_, S>, row: &PackedRow) -> Result<usi
     ensures puts { HasCleanDisk (state S.Store tx.new.conn.now) → IsTrue (state S.Store tx.old.conn.now).in_transaction
         → OnOk result (Puts (line_of row.now ∷ []) (state S.Store tx.old.conn.now).now
         (state S.Store tx.new.conn.now).now) }
+    ensures numbers { HasCleanDisk (state S.Store tx.new.conn.now)
+        → IsTrue (state S.Store tx.old.conn.now).in_transaction
+        → OnOk result (TakesNumbers 1 (state S.Store tx.old.conn.now).now (state S.Store tx.new.conn.now).now) }
     ensures inside { HasCleanDisk (state S.Store tx.new.conn.now)
         → IsTrue (state S.Store tx.old.conn.now).in_transaction
         → OnOk result (IsTrue (state S.Store tx.new.conn.now).in_transaction) }
@@ -80,7 +84,7 @@ fn put_row<S: Alter>(tx: &mut Transaction<'_, S>, row: &PackedRow) -> Result<usi
         → (lines : List Line) → Stands (state S.Store tx.old.conn.now).now lines
         → IsDatabase (state S.Store tx.old.conn.now).now
         → IsStopped (state S.Store tx.old.conn.now) (state S.Store tx.new.conn.now)
-        ⊎ LacksRoom (line_of row.now) ((state S.Store tx.old.conn.now).now.trees 0)) }
+        ⊎ LacksRoom 1 (line_of row.now) (state S.Store tx.old.conn.now).now) }
 {
     tx.execute(
         "INSERT INTO desk_rows (kind, owner, place, body) VALUES (?1, ?2, ?3, ?4) \

@@ -1,11 +1,11 @@
 //! All rows are read.
-ghost use Rattle.std.specs.Prelude.{◌≡◌, ◌≢◌, false, List, map, IsTrue, IfErr, IfOk, OnOk};
+ghost use Rattle.std.specs.Prelude.{◌≡◌, ◌≢◌, false, List, map, None, IsTrue, IfErr, IfOk, OnOk};
 ghost use Rattle.std.specs.List.{AllByRecursion, AllZip, Any};
 ghost use Rattle.desk_packing.specs.Lines.{Line, line_of};
 ghost use Rattle.sqlite.specs.Held.{state};
 ghost use Rattle.sqlite.specs.State.{HasCleanDisk};
 ghost use Rattle.row_store.specs.Calls.{Becomes, GoesOn, Lasts, Leaves, Stays};
-ghost use Rattle.row_store.specs.Refusals.{IsNoLine, IsShort, IsStopped, no_memory};
+ghost use Rattle.row_store.specs.Refusals.{IsHalted, IsNoLine, IsShort, IsStopped, no_memory};
 ghost use Rattle.row_store.specs.Stored.{IsLineRow, Reads, Shows, Stands};
 ghost use Rattle.row_store.specs.Table.{is_desk};
 
@@ -27,9 +27,9 @@ pub fn all_rows<S: Alter>(conn: &mut Connection<S>) -> Result<List<PackedRow>, E
     ensures lasts { OnOk result (Lasts (state S.Store conn.new)) }
     ensures goes_on { GoesOn (state S.Store conn.old) (state S.Store conn.new) }
     ensures cause { IfErr result (λ e. e ≢ no_memory → conn.old.in_transaction ≡ false
-        → HasCleanDisk (state S.Store conn.new)
+        → conn.old.step_limit ≡ None → HasCleanDisk (state S.Store conn.new)
         → (lines : List Line) → AllByRecursion IsShort lines → Stands (state S.Store conn.old).now lines
-        → IsStopped (state S.Store conn.old) (state S.Store conn.new)) }
+        → IsHalted (state S.Store conn.old) (state S.Store conn.new)) }
 {
     let rows = shown_rows(conn)?;
     Ok(List::from_vec(lines_in(*rows.allocator(), &rows)?))

@@ -1,6 +1,7 @@
 use Rattle.std.proofs.Common.{refl, sym, true≢false, ◌∙◌}
 use Rattle.sqlite.specs.Held.{state}
 use Rattle.row_store.specs.Stored.{MakesTable, MakesTableIn}
+use Rattle.row_store.proofs.Halted.{halts}
 use Rattle.row_store.proofs.Rests.{leaves, same_database, goes_on, stays_on}
 use Rattle.row_store.proofs.making.make_table.Goals as goal
 
@@ -22,3 +23,8 @@ returns-clause-goes_on g c =
 
 pub returns-in_err-at_rest-clause-goes_on : goal.returns-in_err-at_rest-clause-goes_on
 returns-in_err-at_rest-clause-goes_on g c = stays_on (state g.S.Store c.args.conn.now)
+
+pub returns-clause-cause : goal.returns-clause-cause
+returns-clause-cause g c =
+    halts c.make_alone.result _ _ (state g.S.Store c.args.conn.now) (state g.S.Store c.make_alone.new.conn)
+    c.make_alone.ensures.cause

@@ -1,11 +1,13 @@
-use Rattle.std.proofs.Common.{◌≡◌, ◌∙◌, ◌++◌, ◌∷◌, [], List, ◌+◌, fold, map, refl, sym, ap, subst, arith, rules, take}
+use Rattle.std.proofs.Common.{◌≡◌, ◌≢◌, ◌∙◌, ◌++◌, ◌∷◌, [], List, ◌+◌, fold, map, refl, sym, ap, subst, arith, rules}
+use Rattle.std.proofs.Common.{take}
 use Rattle.std.proofs.Common.{true, add-one, ◌⊎◌, ◌<◌, ℕ, inl, inr, length, slice_get, slice_index_or, Some, option_map}
 use Rattle.std.proofs.Math.Seq.{take-suc}
-use Rattle.std.proofs.lemmas.List.{take_all, map-append, take-map}
+use Rattle.std.proofs.lemmas.List.{take_all, map-append}
 use Rattle.sqlite.specs.Store.{Ghosts}
 use Rattle.sqlite.specs.Effect.{Database}
 use Rattle.sqlite.specs.State.{State, HasCleanDisk, Survives, KeepsCommit}
 use Rattle.sqlite.specs.Held.{Held, state}
+use Rattle.sqlite_trees.proofs.ListLemmas.{all_of}
 use Rattle.sqlite.proofs.StateLemmas.{survives_then}
 use Rattle.sqlite.proofs.Callers.{survives_begin}
 use Rattle.desk_packing.specs.declared.line.PackedRow.{PackedRow}
@@ -13,28 +15,41 @@ use Rattle.sqlite.specs.Tree.{Trees}
 use Rattle.sqlite.specs.Schema.{Schema}
 use Rattle.sqlite.specs.Table.{Table}
 use Rattle.desk_packing.specs.Lines.{Line, line_of}
+use Rattle.std.specs.List.{AllByRecursion}
 use Rattle.row_store.specs.Stored.{OthersStay, LeavesOthers, Puts, PutsIn}
+use Rattle.row_store.specs.Table.{tree_of}
 use Rattle.row_store.proofs.putting.put_all.Goals as goal
 use Rattle.std.proofs.lemmas.Bool.{cases_Bool}
 use Rattle.std.proofs.lemmas.Option.{slice_get-map, slice_get_read}
+use Rattle.row_store.specs.Numbers.{TakesNumbers}
 use Rattle.row_store.specs.Refusals.{IsStopped, LacksRoomFor}
+use Rattle.row_store.proofs.Numbers.{lacks_before, takes_more, takes_none}
 use Rattle.row_store.proofs.Refused.{passed_on, stopped_within, uncommitted}
 
 fold-more : {A B : Type 0} (f : B → A → B) (b : B) (xs : List A) (y : A) → fold f b (xs ++ y ∷ []) ≡ f (fold f b xs) y
 fold-more f b [] y = refl
 fold-more f b (x ∷ xs) y = fold-more f (f b x) xs y
 
-others_then : (tables : List Table) (a b c : Trees) → OthersStay tables a b → OthersStay tables b c
-    → OthersStay tables a c
-others_then [] a b c p q = tt
-others_then (t ∷ tables) a b c p q = (λ other. q.0 other ∙ p.0 other, others_then tables a b c p.1 q.1)
+tables_then : (tree : ℕ) (tables : List Table) (a b c : Trees)
+    → AllByRecursion (λ (t : Table). t.tree ≢ tree → b t.tree ≡ a t.tree) tables
+    → AllByRecursion (λ (t : Table). t.tree ≢ tree → c t.tree ≡ b t.tree) tables
+    → AllByRecursion (λ (t : Table). t.tree ≢ tree → c t.tree ≡ a t.tree) tables
+tables_then tree [] a b c p q = tt
+tables_then tree (t ∷ tables) a b c p q = (λ other. q.0 other ∙ p.0 other, tables_then tree tables a b c p.1 q.1)
+
+others_then : (tree : ℕ) (schema : Schema) (a b c : Trees) → OthersStay tree schema a b → OthersStay tree schema b c
+    → OthersStay tree schema a c
+others_then tree schema a b c p q = record {
+  tables = tables_then tree schema.tables a b c p.tables q.tables;
+  others = λ t other none. q.others t other none ∙ p.others t other none;
+}
 
 leaves_then : (a b c : Database) → LeavesOthers a b → LeavesOthers b c → LeavesOthers a c
 leaves_then a b c p q = record {
   schema = q.schema ∙ p.schema;
   rows =
-      others_then a.schema.tables a.trees b.trees c.trees p.rows
-      (subst (λ (s : Schema). OthersStay s.tables b.trees c.trees) p.schema q.rows);
+      others_then (tree_of a.schema) a.schema a.trees b.trees c.trees p.rows
+      (subst (λ (s : Schema). OthersStay (tree_of s) s b.trees c.trees) p.schema q.rows);
   obeys = λ obeyed. q.obeys (p.obeys obeyed);
 }
 
@@ -51,6 +66,31 @@ kept_then a b c p q =
     record {
       was_open = λ opened. p.was_open (q.was_open opened);
       committed = λ opened. q.committed opened ∙ p.committed (q.was_open opened);
+    }
+
+-- nothing was put
+puts_none : (db : Database) → Puts [] db db
+puts_none db lines stands = (
+  stands,
+  record {
+    schema = refl;
+    rows = record { tables = all_of _ (λ t other. refl) db.schema.tables; others = λ t other none. refl };
+    obeys = λ obeyed. obeyed;
+  },
+)
+
+pub rows-init : goal.rows-init
+rows-init g c =
+    let begun = record c.args.conn.now { in_transaction = true } in
+    let is = sym c.transaction-tx.ensures.begun in
+    let db = (state g.S.Store begun).now in
+    record {
+      same_reference = search rules;
+      survives = search rules;
+      inside = search rules;
+      kept = search rules;
+      put = λ clean. subst (λ held. Puts [] db (state g.S.Store held).now) is (puts_none db);
+      numbers = λ clean. subst (λ held. TakesNumbers 0 db (state g.S.Store held).now) is (takes_none db);
     }
 
 pub rows-preserved : goal.rows-preserved
@@ -80,6 +120,9 @@ rows-preserved g c =
           after_more (map line_of (take c.rows.row-index c.args.rows.now)) (line_of c.row-item.result) old.now
           mid.now new.now (before.put (early clean)) (step.puts clean (before.inside (early clean))) in
           subst (λ ls. Puts ls old.now new.now) (sym lines) more;
+      numbers = λ clean.
+          takes_more c.rows.row-index (map line_of (take c.rows.row-index c.args.rows.now)) old.now mid.now new.now
+          (before.put (early clean)) (before.numbers (early clean)) (step.numbers clean (before.inside (early clean)));
     }
 
 -- a crash leaves what it left before, or trees that hold the lines
@@ -170,12 +213,11 @@ returns-in_err-put_row-clause-cause g c =
             | inl stop ↦ inl (stopped_within old last late (state g.S.Store end) before.counts before.limit
                 (before.closes early) c.put_row.ensures.survives.counts c.drop-tx.ensures.survives.counts stop)
             | inr lacks ↦ inr (record {
-              count = index;
+              before = index;
               line = line_of c.row-item.result;
               next = next_line rows (length rows) index c.row-item.result refl c.rows-test.true c.row-item.is;
-              now = last.now;
-              put = subst (λ ls. Puts ls old.now last.now) (sym (take-map line_of index rows)) put;
-              lacks = lacks;
+              lacks = lacks_before index (line_of c.row-item.result) lines old.now last.now stands placed.0.1.keyed
+                  placed.1 (c.rows.invariant.numbers early) lacks;
             })
           ]
     ]))

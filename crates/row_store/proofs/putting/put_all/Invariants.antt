@@ -2,6 +2,7 @@ use Rattle.std.proofs.Common.{◌≡◌, take, map, IsTrue, true}
 use Rattle.sqlite.specs.State.{HasCleanDisk, Survives, KeepsCommit}
 use Rattle.sqlite.specs.Held.{state}
 use Rattle.desk_packing.specs.Lines.{line_of}
+use Rattle.row_store.specs.Numbers.{TakesNumbers}
 use Rattle.row_store.specs.Stored.{Puts}
 use Rattle.row_store.proofs.putting.put_all.Given as goal
 
@@ -15,4 +16,6 @@ invariant-rows g l =
       kept : HasCleanDisk (state g.S.Store l.tx.conn.now) → KeepsCommit begun (state g.S.Store l.tx.conn.now);
       put : HasCleanDisk (state g.S.Store l.tx.conn.now)
           → Puts (map line_of (take l.row-index l.rows)) begun.now (state g.S.Store l.tx.conn.now).now;
+      numbers : HasCleanDisk (state g.S.Store l.tx.conn.now)
+          → TakesNumbers l.row-index begun.now (state g.S.Store l.tx.conn.now).now;
     }

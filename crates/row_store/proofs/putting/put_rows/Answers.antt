@@ -1,5 +1,4 @@
 use Rattle.std.proofs.Common.{◌≡◌, refl, sym, true≢false, ◌∙◌, map, List, Result, Ok, Err, IsTrue, OnOk, OnErr, subst}
-use Rattle.std.proofs.Common.{IfErr}
 use Rattle.desk_packing.specs.Lines.{Line, line_of}
 use Rattle.sqlite.specs.Effect.{IsDatabase}
 use Rattle.sqlite.specs.Held.{state}
@@ -7,6 +6,7 @@ use Rattle.sqlite.specs.State.{State, HasCleanDisk}
 use Rattle.sqlite.specs.declared.error.Error.{Error}
 use Rattle.row_store.specs.Calls.{IsCommitted, Lasts}
 use Rattle.row_store.specs.Stored.{Puts, PutsIn, Stands}
+use Rattle.row_store.proofs.Halted.{halts_or}
 use Rattle.row_store.proofs.Rests.{IsSettled, leaves, lasts, same_database, goes_on, stays_on}
 use Rattle.row_store.proofs.putting.put_rows.Goals as goal
 
@@ -51,14 +51,10 @@ returns-clause-lasts g c alone =
     (λ trees opened left. g.met.S.Store.settled c.put_all.new.conn.store trees opened left)
     c.in_ok-at_rest.ensures.rests.obeys c.put_all.ensures.put c.put_all.ensures.ends c.put_all.ensures.refused
 
--- where it was refused, it was so over a connection at rest
-caused : {T E : Type 0} (r : Result T E) (Other : E → Type 0) (Alone Cause : Type 0) → IfErr r (λ e. Other e → Cause)
-    → IfErr r (λ e. Other e → Alone → Cause)
-caused (Ok done) Other Alone Cause h = tt
-caused (Err e) Other Alone Cause h = λ other alone. h other
-
 pub returns-clause-cause : goal.returns-clause-cause
-returns-clause-cause g c = caused c.put_all.result _ _ _ c.put_all.ensures.cause
+returns-clause-cause g c =
+    halts_or c.put_all.result _ _ (List Line) (Stands (state g.S.Store c.args.conn.now).now) _
+    (state g.S.Store c.args.conn.now) (state g.S.Store c.put_all.new.conn) c.put_all.ensures.cause
 
 pub returns-clause-goes_on : goal.returns-clause-goes_on
 returns-clause-goes_on g c =

@@ -3,8 +3,10 @@ use Rattle.desk_packing.specs.Lines.{line_of}
 use Rattle.row_store.proofs.Meaning.{reads}
 use Rattle.row_store.proofs.reading.all_rows.Goals as goal
 use Rattle.sqlite.specs.Effect.{Database}
-use Rattle.row_store.specs.Stored.{whole_row}
+use Rattle.row_store.specs.Stored.{stored_rows, whole_row}
+use Rattle.row_store.proofs.Halted.{halted}
 use Rattle.row_store.proofs.Refused.{passed_on}
+use Rattle.sqlite.specs.Held.{state}
 use Rattle.row_store.proofs.Strays.{no_stray}
 
 pub returns-clause-read : goal.returns-clause-read
@@ -19,16 +21,18 @@ returns-clause-read g c clean =
 
 pub returns-in_err-rows-clause-cause : goal.returns-in_err-rows-clause-cause
 returns-in_err-rows-clause-cause g c =
-    passed_on c.from_residual.result _ _ c.from_residual.ensures.1 (λ other alone clean lines short stand.
-    c.in_err-rows.ensures.cause other alone clean)
+    passed_on c.from_residual.result _ _ c.from_residual.ensures.1
+    (λ other alone unlimited clean lines short stand.
+    halted (state g.S.Store c.args.conn.now) (state g.S.Store c.shown_rows.new.conn) unlimited
+    (c.in_err-rows.ensures.cause other alone clean))
 
 pub returns-in_err-lines_in-clause-cause : goal.returns-in_err-lines_in-clause-cause
 returns-in_err-lines_in-clause-cause g c =
     passed_on c.from_residual-in_err-lines_in.result _ _ c.from_residual-in_err-lines_in.ensures.1
-    (λ other alone clean lines short stand.
+    (λ other alone unlimited clean lines short stand.
     let shown = (c.in_ok-rows.ensures.shown clean).2 in
     let stray = rw c.deref.ensures.value at (c.in_err-lines_in.ensures.cause other) in
     absurd
     (no_stray _ c.in_ok-rows.rows.items lines
-    (subst (λ (d : Database). IsPermutation (map whole_row (d.trees 0)) c.in_ok-rows.rows.items) shown.unchanged
+    (subst (λ (d : Database). IsPermutation (map whole_row (stored_rows d)) c.in_ok-rows.rows.items) shown.unchanged
     shown.same) stand.1 short stray))
