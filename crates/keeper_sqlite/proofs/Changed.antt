@@ -4,6 +4,7 @@ use Rattle.std.specs.List.{AllByRecursion}
 use Rattle.desk_words.specs.Changes.{changed_all}
 use Rattle.desk_words.specs.Tables.{Rows}
 use Rattle.desk_words.specs.declared.change.Change.{Change}
+use Rattle.desk_packing.proofs.Changing.{StandIn-changes, shape-changed_all}
 use Rattle.desk_packing.specs.Lines.{Line, put_lines}
 use Rattle.desk_packing.specs.Shapes.{FitsFields, Lengths, grown_all, lines_of_changes, shape_of}
 use Rattle.keeper_core.specs.Keeping.{FitTold}
@@ -14,7 +15,6 @@ use Rattle.sqlite.specs.State.{State}
 use Rattle.keeper_sqlite.specs.declared.loading.Age.TheVariants as age
 use Rattle.keeper_sqlite.specs.Steps.{ChangesTables, Known, Knows}
 use Rattle.keeper_sqlite.specs.Telling.{HoldsTables, told}
-use Rattle.keeper_sqlite.proofs.Packing.{changed_stand, shape_changed}
 use Rattle.keeper_sqlite.proofs.Told.{told_holding, told_up}
 
 -- a database holds one value of tables at most
@@ -36,7 +36,7 @@ module _ (lengths : Lengths) (changes : List Change) (more : List Line) (old new
       record {
         lines = put_lines holds.lines more;
         stand = (put holds.lines holds.stand).0;
-        tables = rw lines (changed_stand holds.lines rows changes holds.tables fit fields);
+        tables = rw lines (StandIn-changes holds.lines rows changes holds.tables fit fields);
       }
 
   pub becomes_changed : Becomes (Puts more) old new → Becomes (ChangesTables changes) old new
@@ -60,7 +60,7 @@ module _ (lengths : Lengths) (changes : List Change) (more : List Line) (old new
         record {
           rows = changed_all k.rows changes;
           holds = puts_change made.0 new.now made.2 k.rows k.holds fits;
-          long = shape_changed k.rows changes ∙ ap (λ l. grown_all l changes) k.long ∙ sym shape;
+          long = shape-changed_all k.rows changes ∙ ap (λ l. grown_all l changes) k.long ∙ sym shape;
         },
   )
 

@@ -1,18 +1,19 @@
 -- Calls that change nothing that is told.
-use Rattle.std.proofs.Common.{◌≡◌, inl, inr, false, List, [], IsTrue, refl, sym, ap, ◌∙◌}
+use Rattle.std.proofs.Common.{Option, Some, None, is_some, true, true≢false, ◌≡◌, inl, inr, false, List, [], IsTrue}
+use Rattle.std.proofs.Common.{refl, sym, ap, ◌∙◌}
 use Rattle.desk_words.specs.Tables.{Rows, empty_rows}
 use Rattle.desk_packing.specs.Lines.{Line, put_lines}
-use Rattle.desk_packing.specs.Shapes.{migration_lines}
+use Rattle.desk_packing.specs.Shapes.{Lengths, migration_lines}
 use Rattle.desk_packing.specs.Stands.{StandIn, lines_of}
-use Rattle.row_store.specs.declared.footing.Footing.TheVariants.{Blank}
-use Rattle.row_store.specs.Stored.{MakesTable, Puts}
+use Rattle.row_store.specs.declared.footing.Footing.TheVariants.{Absent}
+use Rattle.row_store.specs.Stored.{MakesTable, Puts, stored_rows}
 use Rattle.row_store.specs.Table.{footing_of}
 use Rattle.row_store.specs.Calls.{Becomes, IsUp, Lasts, Leaves, MayFind, Stays}
 use Rattle.sqlite.specs.Effect.{Database}
 use Rattle.sqlite.specs.State.{State, HasCleanDisk}
 use Rattle.keeper_sqlite.specs.declared.loading.Age.{Age}
 use Rattle.keeper_sqlite.specs.declared.loading.Age.TheVariants as age
-use Rattle.keeper_sqlite.specs.Steps.{IsFound, IsHeld, KeepsTold}
+use Rattle.keeper_sqlite.specs.Steps.{IsFound, IsHeld, KeepsTold, Knows}
 use Rattle.keeper_sqlite.specs.Telling.{AgesAs, HoldsTables, told_in, told_under}
 use Rattle.keeper_sqlite.proofs.Packing.{first_stand, migrated_stand}
 use Rattle.keeper_sqlite.proofs.Told.{told_holding}
@@ -55,7 +56,12 @@ keeps_same s lasts = record {
   autocommit = λ alone. alone;
 }
 
--- one call behind another
+-- where the lists are known an open after a crash finds what is held
+pub known_lasts : (s : State) (lengths : Option Lengths) → is_some lengths ≡ true → Knows s lengths → Lasts s
+known_lasts s None known h = absurd (true≢false (sym known))
+known_lasts s (Some l) known h = h.0
+
+-- one call after another
 pub keeps_then : (a b c : State) → KeepsTold a b → (IsUp a → HasCleanDisk b → IsTrue b.is_open) → KeepsTold b c
     → KeepsTold a c
 keeps_then a b c first stays_up next = record {
@@ -73,11 +79,11 @@ keeps_then a b c first stays_up next = record {
 
 -- ---- what is made of the table, and what it tells
 
--- the table is made where nothing stands
-pub make_tells : (s : State) → footing_of s.now.schema ≡ Blank → TellsAs MakesTable s
-make_tells s blank = λ clean db made.
+-- the table is made where it is missing
+pub make_tells : (s : State) → footing_of s.now.schema ≡ Absent → TellsAs MakesTable s
+make_tells s absent = λ clean db made.
     told_holding age.Blank db empty_rows (record { lines = []; stand = made.stands; tables = (refl, refl) })
-    ∙ sym (ap (λ footing. told_under footing s.now.trees) blank)
+    ∙ sym (ap (λ footing. told_under footing (stored_rows s.now)) absent)
 
 module _ (a : Age) (s : State) (rows : Rows) (more : List Line) (found : IsFound a s rows)
     (renews : (lines : List Line) → AgesAs a lines rows → StandIn false (put_lines lines more) rows) where

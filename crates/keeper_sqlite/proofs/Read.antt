@@ -22,7 +22,8 @@ use Rattle.desk_packing.specs.Stands as stands
 use Rattle.desk_packing.specs.Stands.{StandFor, edition_in, list_lines, own_lines, version_line}
 use Rattle.desk_words.specs.Tables.{AreTables, IsShort as IsShortList, Rows}
 use Rattle.row_store.specs.Refusals.{IsShort}
-use Rattle.row_store.specs.Stored.{AreInKeyOrder, HasId, Stands, by_key, shown_line, shown_row}
+use Rattle.row_store.proofs.Made.{footing_desk}
+use Rattle.row_store.specs.Stored.{AreInKeyOrder, HasId, Stands, by_key, shown_line, shown_row, stored_rows}
 use Rattle.row_store.specs.Table.{is_desk}
 use Rattle.sqlite.specs.Effect.{Database}
 use Rattle.sqlite.specs.Order.{Row, column, value_cmp}
@@ -32,7 +33,6 @@ use Rattle.sqlite.specs.declared.types.Value.TheVariants.{Null, Int, Real, Text,
 use Rattle.sqlite_value.proofs.OrderLemmas.{value_cmp-Int}
 use Rattle.keeper_sqlite.specs.Telling.{bytes_in, columns_in, is_integer, line_in, lines_in, number_in, told_in}
 use Rattle.keeper_sqlite.specs.Telling.{told_under}
-use Rattle.keeper_sqlite.proofs.Told.{footing_desk}
 
 -- ---- a stored row that is read as a line is that line's
 
@@ -105,12 +105,12 @@ rows_are (row ∷ rows) lines h =
 pub told_lines : (db : Database) (rows : Rows) → IsTrue (is_desk db.schema) → told_in db ≡ Some rows
     → (lines : List Line) × Stands db lines × StandFor lines rows
 told_lines db rows desk told =
-    let read = ap (λ footing. told_under footing db.trees) (sym (footing_desk db.schema desk)) ∙ told in
-    let lines = chained (lines_in (db.trees 0)) rows_in rows read in
-    let are = rows_are (db.trees 0) lines.0 lines.1 in
+    let read = ap (λ footing. told_under footing (stored_rows db)) (sym (footing_desk db.schema desk)) ∙ told in
+    let lines = chained (lines_in (stored_rows db)) rows_in rows read in
+    let are = rows_are (stored_rows db) lines.0 lines.1 in
     let same =
-    subst (λ shown. IsPermutation (map shown_row (db.trees 0)) shown) are.1
-    (IsPermutation-refl (map shown_row (db.trees 0))) in
+    subst (λ shown. IsPermutation (map shown_row (stored_rows db)) shown) are.1
+    (IsPermutation-refl (map shown_row (stored_rows db))) in
     (lines.0, (desk, record { keyed = are.0; same = same }), (rows_in-StandFor lines.0 rows).0 lines.2)
 
 -- ---- lines of tables have short numbers

@@ -5,12 +5,12 @@ use Rattle.desk_words.specs.Changes.{changed_all}
 use Rattle.desk_words.specs.Tables.{Rows}
 use Rattle.desk_words.specs.declared.change.Change.{Change}
 use Rattle.keeper_core.specs.declared.keeper.KeepFail.{KeepFail}
-use Rattle.keeper_core.specs.Keeping.{ChangeTold, FitTold, IfTold, IsLoaded, StayTold}
+use Rattle.keeper_core.specs.Keeping.{ChangeTold, FitTold, IfTold, IsLoaded, LoadsHeld, StayTold}
 use Rattle.desk_packing.specs.Shapes.{Lengths}
 use Rattle.row_store.specs.Calls.{Becomes, Stays}
 use Rattle.sqlite.specs.State.{State, HasCleanDisk}
 use Rattle.keeper_sqlite.specs.declared.loading.Age.TheVariants as age
-use Rattle.keeper_sqlite.specs.Steps.{ChangesTables, IsHeld, KeepsTold, Knows, told_loaded}
+use Rattle.keeper_sqlite.specs.Steps.{ChangesTables, IsHeld, KeepsTold, Knows, TellsUp, told_loaded}
 use Rattle.keeper_sqlite.specs.Telling.{told, told_in}
 use Rattle.keeper_sqlite.proofs.Told.{told_cases, told_holding, told_up}
 
@@ -75,7 +75,38 @@ changed_told lengths old new changes known fit becomes = elim (told_cases new) [
   | inr none ↦ subst (λ b. ChangeTold (told old) b changes) (sym none) (change_lost (told old) changes)
 ]
 
+-- what an open connection told before is what was loaded, where it is told still
+pub held_kept : (old new : State) (rows : Rows) → KeepsTold old new → IsHeld new rows
+    → LoadsHeld (TellsUp old) (told new) rows
+held_kept old new rows keeps held before tells some = elim (told_cases new) [
+  | inl up ↦ (let back = keeps.told up.0.0 up.0.1 in
+      let was : told_in old.now ≡ Some before = tells (keeps.clean up.0.0) back.0 in
+      let now : told_in new.now ≡ Some rows = told_holding age.New new.now rows (held up.0.0).1 in
+      let both : ◌≡◌ {A = Option Rows} (Some rows) (Some before) = sym now ∙ back.1 ∙ was in
+      cc)
+  | inr none ↦ absurd (true≢false (sym some ∙ ap is_some none))
+]
+
+pub held_kept_as : (now : Option Lengths) (old new : State) (rows : Rows) → KeepsTold old new → IsHeld new rows
+    → LoadsHeld (TellsUp old) (told_loaded new now) rows
+held_kept_as None old new rows keeps held = λ before tells some. absurd (true≢false (sym some))
+held_kept_as (Some lengths) old new rows keeps held = held_kept old new rows keeps held
+
 -- ---- by the answer
+
+-- what was loaded is what was told before
+pub loaded_kept : {T : Type 0} (rows_in : T → Rows) (r : Result T KeepFail) (old new : State) → KeepsTold old new
+    → IfOk r (λ made. IsHeld new (rows_in made))
+    → IfOk r (λ made. LoadsHeld (TellsUp old) (told new) (rows_in made))
+loaded_kept rows_in (Ok made) old new keeps held = held_kept old new (rows_in made) keeps held
+loaded_kept rows_in (Err fail) old new keeps held = tt
+
+-- the same of a keeper that tells nothing before it has loaded
+pub first_kept : {T : Type 0} (rows_in : T → Rows) (r : Result T KeepFail) (old new : State) (now : Option Lengths)
+    → KeepsTold old new → IfOk r (λ made. IsHeld new (rows_in made))
+    → IfOk r (λ made. LoadsHeld (TellsUp old) (told_loaded new now) (rows_in made))
+first_kept rows_in (Ok made) old new now keeps held = held_kept_as now old new (rows_in made) keeps held
+first_kept rows_in (Err fail) old new now keeps held = tt
 
 -- what a refused commit leaves
 pub refused_told : {T : Type 0} (r : Result T KeepFail) (old new : State) → OnErr r (Stays old new)

@@ -1,6 +1,6 @@
 -- Which tables a database tells in which the table stands.
-use Rattle.std.proofs.Common.{◌≡◌, ◌⊎◌, ◌&&◌, inl, inr, None, List, [], ◌∷◌, map, Bool, true, false, Some, IsTrue}
-use Rattle.std.proofs.Common.{if◌then◌else◌, refl, sym, ap, ap₂, subst, ◌∙◌, arith, true≢false, IsPermutation}
+use Rattle.std.proofs.Common.{◌≡◌, ◌⊎◌, ◌&&◌, inl, inr, None, List, [], ◌∷◌, map, Bool, true, false, Some}
+use Rattle.std.proofs.Common.{if◌then◌else◌, refl, ap, ap₂, subst, ◌∙◌, arith, IsPermutation}
 use Rattle.std.specs.List.{AllByRecursion}
 use Rattle.std.proofs.lemmas.List.Elements.{All-from_recursion, recursion_from_All}
 use Rattle.std.proofs.lemmas.List.Sorted.{All-permutation, IsPermutation-refl, IsPermutation-sym, IsPermutation-trans}
@@ -8,20 +8,15 @@ use Rattle.std.proofs.lemmas.List.Sorted.{length_permutation}
 use Rattle.std.proofs.lemmas.Bool.{and_parts, cases_Bool}
 use Rattle.sqlite_trees.proofs.Doubt.{clean_of, no_doubt}
 use Rattle.row_store.specs.Calls.{IsUp}
-use Rattle.desk_words.specs.Tables.{Rows, empty_rows}
+use Rattle.desk_words.specs.Tables.{Rows}
 use Rattle.desk_packing.specs.Lines.{Line}
 use Rattle.desk_packing.specs.Stands.{StandFor, StandIn}
-use Rattle.row_store.specs.declared.footing.Footing.TheVariants.{Blank, Desk, Other}
-use Rattle.row_store.specs.Stored.{HasId, Holds, shown_line, shown_row}
-use Rattle.row_store.specs.Table.{footing_of, is_blank, is_desk}
+use Rattle.row_store.specs.Stored.{HasId, Holds, shown_line, shown_row, stored_rows}
 use Rattle.row_store.proofs.Lines.{holds_once}
+use Rattle.row_store.proofs.Made.{footing_desk}
 use Rattle.sqlite.specs.Effect.{Database}
 use Rattle.sqlite.specs.Order.{Row, column}
-use Rattle.sqlite.specs.Schema.{Schema}
-use Rattle.sqlite.specs.Table.{Table}
 use Rattle.sqlite.specs.State.{State}
-use Rattle.sqlite_schema.specs.declared.schema.Index.{Index}
-use Rattle.sqlite_schema.specs.declared.schema.View.{View}
 use Rattle.keeper_sqlite.specs.declared.loading.Age.{Age}
 use Rattle.keeper_sqlite.specs.declared.loading.Age.TheVariants as age
 use Rattle.keeper_sqlite.specs.Telling.{AgesAs, HoldsAs, line_in, lines_in, told, told_in, told_under}
@@ -102,30 +97,14 @@ stand_moved (line ∷ lines) (next ∷ more) rows same (is_old, h) =
 
 -- ---- what is told
 
-desk_first : (tables : List Table) (indexes : List Index) (views : List View)
-    → IsTrue (is_desk (record { tables = tables; indexes = indexes; views = views }))
-    → footing_of (record { tables = tables; indexes = indexes; views = views }) ≡ Desk
-desk_first [] indexes views h = absurd (true≢false (sym h))
-desk_first (table ∷ tables) indexes views h = ap (λ b. if b then Desk else Other) h
-
-pub footing_desk : (schema : Schema) → IsTrue (is_desk schema) → footing_of schema ≡ Desk
-footing_desk schema h = desk_first schema.tables schema.indexes schema.views h
-
-pub footing_blank : (schema : Schema) → IsTrue (is_blank schema) → footing_of schema ≡ Blank
-footing_blank schema h = ap (λ b. if b then Blank else (if is_desk schema then Desk else Other)) h
-
 -- where the table stands for tables these are told
 pub told_holding : (a : Age) (db : Database) (rows : Rows) → HoldsAs a db rows → told_in db ≡ Some rows
 told_holding a db rows holds =
-    let found = lines_held (db.trees 0) holds.lines holds.stand.1 in
+    let found = lines_held (stored_rows db) holds.lines holds.stand.1 in
     let read =
     stand_read found.0 rows
     (stand_moved holds.lines found.0 rows found.2 (ages_stand a holds.lines rows holds.tables)) in
-    ap (λ footing. told_under footing db.trees) (footing_desk db.schema holds.stand.0) ∙ rw found.1 read
-
--- where nothing stands those of a new desk are told
-pub told_blank : (db : Database) → IsTrue (is_blank db.schema) → told_in db ≡ Some empty_rows
-told_blank db blank = ap (λ footing. told_under footing db.trees) (footing_blank db.schema blank)
+    ap (λ footing. told_under footing (stored_rows db)) (footing_desk db.schema holds.stand.0) ∙ rw found.1 read
 
 -- a connection that is up tells what its database tells
 pub told_up : (s : State) → IsUp s → told s ≡ told_in s.now

@@ -1,11 +1,12 @@
 -- What the calls of a keeper make of a connection.
-use Rattle.std.specs.Prelude.{◌≡◌, false, IsTrue, Option, Some, None, List, ⊤}
+use Rattle.std.specs.Prelude.{◌≡◌, ◌⊎◌, false, IsTrue, Option, Some, None, List, ⊤}
 use Rattle.desk_words.specs.Changes.{FitAll, changed_all}
 use Rattle.desk_words.specs.Tables.{Rows}
 use Rattle.desk_words.specs.declared.change.Change.{Change}
 use Rattle.desk_packing.specs.Shapes.{Lengths, shape_of}
 use Rattle.keeper_core.specs.Keeping.{FitTold}
 use Rattle.row_store.specs.Calls.{IsUp, Lasts, MayFind}
+use Rattle.row_store.specs.Stored.{MakesTable}
 use Rattle.row_store.specs.Table.{is_desk}
 use Rattle.sqlite.specs.Effect.{Database}
 use Rattle.sqlite.specs.State.{State, HasCleanDisk}
@@ -19,6 +20,18 @@ pub record KeepsTold (old new : State) : Type 0 where
   pub crash : old.in_transaction ≡ false → IsUp old → HasCleanDisk new → (db : Database)
       → MayFind new db → told_in db ≡ told_in old.now
   pub autocommit : old.in_transaction ≡ false → new.in_transaction ≡ false
+
+-- the database is as before, or the table was made in it where nothing stood
+abbrev pub IsSpared : Database → Database → Type 0
+IsSpared old new = (new ≡ old) ⊎ MakesTable old new
+
+-- so a call leaves the database of an open connection, which was open before
+abbrev pub Spares : State → State → Type 0
+Spares old new = HasCleanDisk new → IsTrue new.is_open → IsTrue old.is_open × IsSpared old.now new.now
+
+-- a connection that is up tells these tables
+abbrev pub TellsUp : State → Rows → Type 0
+TellsUp s rows = HasCleanDisk s → IsTrue s.is_open → told_in s.now ≡ Some rows
 
 -- the table is ready to be read
 pub record IsReady (old new : State) : Type 0 where

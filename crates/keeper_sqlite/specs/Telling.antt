@@ -6,15 +6,15 @@ use Rattle.desk_packing.specs.Lines.{Line}
 use Rattle.desk_packing.specs.Reading.{rows_in, ◌>>=◌}
 use Rattle.desk_packing.specs.Stands.{StandIn}
 use Rattle.row_store.specs.declared.footing.Footing.{Footing}
-use Rattle.row_store.specs.declared.footing.Footing.TheVariants.{Blank, Desk, Other}
-use Rattle.row_store.specs.Stored.{Stands}
+use Rattle.row_store.specs.declared.footing.Footing.TheVariants.{Absent, Desk, Other}
+use Rattle.row_store.specs.Stored.{Stands, stored_rows}
 use Rattle.row_store.specs.Table.{footing_of}
 use Rattle.keeper_sqlite.specs.declared.loading.Age.{Age}
 use Rattle.keeper_sqlite.specs.declared.loading.Age.TheVariants as age
 use Rattle.sqlite.specs.Effect.{Database}
 use Rattle.sqlite.specs.Order.{Row, column}
 use Rattle.sqlite.specs.State.{State}
-use Rattle.sqlite.specs.Tree.{Trees, rowid}
+use Rattle.sqlite.specs.Tree.{rowid}
 use Rattle.sqlite.specs.declared.types.Value.{Value}
 use Rattle.sqlite.specs.declared.types.Value.TheVariants.{Int, Blob}
 
@@ -56,16 +56,16 @@ abbrev pub lines_in : List Row → Option (List Line)
 lines_in [] = Some []
 lines_in (row ∷ rows) = option_and_then (λ line. option_map (λ lines. line ∷ lines) (lines_in rows)) (line_in row)
 
--- the tables that trees tell under a schema with this footing: of a new desk where nothing stands, and where the table
--- stands those that its lines stand for
-abbrev pub told_under : Footing → Trees → Option Rows
-told_under Blank trees = Some empty_rows
-told_under Desk trees = option_and_then rows_in (lines_in (trees 0))
-told_under Other trees = None
+-- the tables that stored rows tell under a schema with this footing: of a new desk where the table is missing, and
+-- where it stands those that its lines stand for
+abbrev pub told_under : Footing → List Row → Option Rows
+told_under Absent stored = Some empty_rows
+told_under Desk stored = option_and_then rows_in (lines_in stored)
+told_under Other stored = None
 
 -- the tables that a database tells
 abbrev pub told_in : Database → Option Rows
-told_in db = told_under (footing_of db.schema) db.trees
+told_in db = told_under (footing_of db.schema) (stored_rows db)
 
 -- the tables that a connection tells: none but while its store is clean and it is open
 abbrev pub told : State → Option Rows

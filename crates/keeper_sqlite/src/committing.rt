@@ -1,5 +1,5 @@
 //! Changes are packed and put.
-ghost use Rattle.std.specs.Prelude.{◌≡◌, false, Some, IfOk, IsErrOf, OnOk, OnErr};
+ghost use Rattle.std.specs.Prelude.{◌≡◌, false, None, Some, IfOk, IsErrOf, OnOk, OnErr};
 ghost use Rattle.keeper_core.specs.Keeping.{FitTold};
 ghost use Rattle.sqlite.specs.Held.{state};
 ghost use Rattle.row_store.specs.Calls.{Becomes, Leaves, Stays};
@@ -24,6 +24,7 @@ pub fn commit_changes<S: Alter>(
     changes: &List<Change>,
 ) -> Result<Shape, KeepFail>
     requires autocommit { conn.old.in_transaction ≡ false }
+    requires unlimited { conn.old.step_limit ≡ None }
     requires known { Knows (state S.Store conn.old) (Some shape.now) }
     requires fit { FitTold (told (state S.Store conn.old)) changes.now }
     ensures committed { OnOk result (Becomes (ChangesTables changes.now) (state S.Store conn.old)
@@ -33,6 +34,7 @@ pub fn commit_changes<S: Alter>(
     ensures unchanged { OnErr result (Stays (state S.Store conn.old) (state S.Store conn.new)) }
     ensures crash { Leaves (ChangesTables changes.now) (state S.Store conn.old) (state S.Store conn.new) }
     ensures autocommit { conn.new.in_transaction ≡ false }
+    ensures unlimited { conn.new.step_limit ≡ None }
     ensures fails { IsErrOf result KeepFail.Failed → HasCleanDisk (state S.Store conn.new)
         → RefusesChanges shape.now changes.now (state S.Store conn.old) (state S.Store conn.new) }
 {

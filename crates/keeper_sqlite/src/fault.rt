@@ -1,9 +1,9 @@
 //! Why a keeper refuses, by what refused it.
-ghost use Rattle.std.specs.Prelude.{◌≡◌, ◌↔◌, ◌≤◌, Err, ℕ};
-ghost use Rattle.keeper_core.specs.Keeping.{CountsFailures};
+ghost use Rattle.std.specs.Prelude.{◌≡◌, ◌↔◌};
 
 use desk_packing::{PackFault, UnpackFault};
 use keeper_core::KeepFail;
+use row_store::OpenFault;
 use sqlite::{Error, ErrorCode};
 
 /// What the database refuses is a failure, but for want of memory.
@@ -36,14 +36,10 @@ pub fn unpack_fail(fault: UnpackFault) -> KeepFail
     }
 }
 
-/// Counts a failure; want of memory is none.
-pub fn count(faults: &mut u64, fail: KeepFail) -> KeepFail
-    ensures same { result ≡ fail }
-    ensures counted { CountsFailures {T = ℕ} faults.old faults.new (Err fail) }
-    ensures later { faults.old ≤ faults.new }
-{
-    if fail == KeepFail::Failed {
-        *faults = faults.saturating_add(1);
+/// Files that are not opened are a failure, but for want of memory.
+pub fn open_fail(fault: OpenFault) -> KeepFail {
+    match fault {
+        OpenFault::Refused(error) | OpenFault::Uncopied(error) => store_fail(error),
+        OpenFault::Foreign => KeepFail::Failed,
     }
-    fail
 }

@@ -1,27 +1,33 @@
 //! A keeper over the files at a path. It opens them with its first `load`.
-ghost use Rattle.std.specs.Prelude.{◌≡◌, ◌≤◌, None, Some, Err, IfOk, IsErrOf, IsSome, OnOk, OnErr};
+ghost use Rattle.std.specs.Prelude.{◌≡◌, None, Some, Err, IfOk, IsErrOf, IsSome, OnOk, OnErr};
+ghost use Rattle.desk_base.specs.Counts.{risen};
 ghost use Rattle.desk_words.specs.Tables.{AreTables, rows_of};
-ghost use Rattle.keeper_core.specs.Keeping.{ChangeTold, CountsFailures, FailsRise, FitTold};
-ghost use Rattle.keeper_core.specs.Keeping.{IsLoaded, NeverFails, StayTold};
+ghost use Rattle.keeper_core.specs.Keeping.{ChangeTold, CountsFailures, FitTold};
+ghost use Rattle.keeper_core.specs.Keeping.{IsLoaded, LoadsHeld, NeverFails, StayTold};
 ghost use Rattle.row_store.specs.Calls.{Becomes, Lasts, Leaves, Stays};
 ghost use Rattle.sqlite.specs.State.{HasCleanDisk};
 ghost use Rattle.sqlite.specs.WalFiles.{image_at};
 ghost use Rattle.keeper_sqlite.specs.Causes.{FailsToCommit};
-ghost use Rattle.keeper_sqlite.specs.Files.{FailsClean, Finds, IfLoaded, IfOpen, IfOpened};
-ghost use Rattle.keeper_sqlite.specs.Files.{IfUnloaded, KeepsFound, told_opened};
+ghost use Rattle.keeper_sqlite.specs.Files.{FailsClean, FailsFound, Finds, HoldsFiled, IfLoaded, IfOpen, IfOpened};
+ghost use Rattle.keeper_sqlite.specs.Files.{IfUnloaded, IsLeft, KeepsFound, SparesFound, told_opened};
 ghost use Rattle.keeper_sqlite.specs.Keeping.{connection_of, lengths_of};
-ghost use Rattle.keeper_sqlite.specs.Steps.{ChangesTables, IsHeld, KeepsTold};
+ghost use Rattle.keeper_sqlite.specs.Steps.{ChangesTables, IsHeld, KeepsTold, Spares};
 
-use crate::fault::{count, store_fail};
-use crate::open::OpenTables;
+use crate::counts::Counts;
+use crate::fault::{open_fail, store_fail};
+use crate::holding::Holding;
 use desk_base::{List, Str};
 use desk_words::{Change, Tables};
 use keeper_core::{KeepFail, Keeper};
-use sqlite::{Alter, FileFrom, FileStore, Start, Unknown};
+use row_store::OpenFault;
+use sqlite::{Alter, FileFrom, FileStore, Files, Start, Unknown};
 use std::marker::Model;
 
-/// What keeps tables in the files of `S`, once they are open.
-type Opened<S> = OpenTables<FileStore<FileFrom<S>>>;
+/// The connection of the files of `S`, once they are open.
+type Opened<S> = Holding<FileStore<FileFrom<S>>>;
+
+/// What is left of the files of `S` after a close.
+type Closed<S> = Option<Files<FileFrom<S>>>;
 
 /// A keeper over the files at a path, of which `S` says what they held. `T` is the store over them.
 #[derive(Drop)]
@@ -29,8 +35,9 @@ pub struct FileKeeper<'r, S: Start, T: Alter> {
     rt: &'r HostRuntime,
     path: Str,
     start: Option<S>,
-    tables: Option<OpenTables<T>>,
-    faults: u64,
+    tables: Option<Holding<T>>,
+    counts: Counts,
+    fault: Option<OpenFault>,
 }
 
 impl<'r, S: Start, T: Alter> Model for FileKeeper<'r, S, T> {
@@ -40,7 +47,13 @@ impl<'r, S: Start, T: Alter> Model for FileKeeper<'r, S, T> {
 
     ghost coded = { filed_code S.code T.code };
 
-    ghost view = { λ k. record { path = k.path; start = k.start; tables = k.tables; faults = k.faults } };
+    ghost view = { λ k. record {
+      path = k.path;
+      start = k.start;
+      tables = k.tables;
+      calls = k.counts.calls;
+      faults = k.counts.faults;
+    } };
 }
 
 /// The keeper of a program. Of the files it says nothing that a clause could use (`Unknown`): what it does is what
@@ -51,7 +64,8 @@ impl<'r> FileKeeper<'r, Unknown, FileStore<FileFrom<Unknown>>> {
     /// The keeper over the files at this path, none of which is touched yet.
     pub fn at(rt: &'r HostRuntime, path: Str) -> SqlKeeper<'r>
         ensures new { (result.path ≡ path) × IsSome result.start }
-        ensures shut { (result.tables ≡ None) × (result.faults ≡ 0) }
+        ensures shut { result.tables ≡ None }
+        ensures uncalled { (result.calls ≡ 0) × (result.faults ≡ 0) }
     {
         FileKeeper::over(rt, path, Unknown)
     }
@@ -64,26 +78,33 @@ impl<'r, S: Start> FileKeeper<'r, S, FileStore<FileFrom<S>>> {
         path: Str,
         start: S,
     ) -> FileKeeper<'r, S, FileStore<FileFrom<S>>>
-        ensures { result ≡ record { path = path; start = Some start; tables = None; faults = 0 } }
+        ensures { result ≡ record { path = path; start = Some start; tables = None; calls = 0; faults = 0 } }
     {
         FileKeeper {
             rt,
             path,
             start: Some(start),
             tables: None,
-            faults: 0,
+            counts: Counts::new(),
+            fault: None,
         }
+    }
+
+    /// Why the files were not opened, where that was refused. Nothing else is promised of it.
+    pub fn fault(&self) -> Option<OpenFault> {
+        self.fault
     }
 
     /// Opens the files, where they are not open. They are opened once: where that was refused, it is refused from then
     /// on.
     fn open_once(&mut self) -> Result<(), KeepFail>
         ensures told { told_opened self.new.tables ≡ told_opened self.old.tables }
-        ensures faults { self.new.faults ≡ self.old.faults }
+        ensures counts { (self.new.calls ≡ self.old.calls) × (self.new.faults ≡ self.old.faults) }
         ensures same { IsSome self.old.tables → self.new.tables ≡ self.old.tables }
         ensures opened { OnOk result (IsSome self.new.tables) }
         ensures refused { OnErr result ((self.old.tables ≡ None) × (self.new.tables ≡ None)) }
         ensures found { self.old.tables ≡ None → IfOpened self.new.tables (Finds (image_at S.Start)) }
+        ensures unloaded { self.old.tables ≡ None → lengths_of self.new.tables ≡ None }
     {
         if self.tables.is_some() {
             return Ok(());
@@ -93,10 +114,56 @@ impl<'r, S: Start> FileKeeper<'r, S, FileStore<FileFrom<S>>> {
         };
         match row_store::open(self.rt, self.path.as_str(), start) {
             Ok(connection) => {
-                self.tables = Some(OpenTables::over(connection));
+                self.tables = Some(Holding::over(connection));
                 Ok(())
             }
-            Err((error, _left)) => Err(store_fail(error)),
+            Err((fault, _left)) => {
+                self.fault = Some(fault);
+                Err(open_fail(fault))
+            }
+        }
+    }
+
+    /// Opens the files and loads the tables, once.
+    fn load_once(&mut self) -> Result<Tables, KeepFail>
+        ensures counts { (self.new.calls ≡ self.old.calls) × (self.new.faults ≡ self.old.faults) }
+        ensures loaded { IfOk result (λ made. IsLoaded (told_opened self.old.tables)
+            (told_opened self.new.tables) (rows_of made)) }
+        ensures kept { IfOk result (λ made. LoadsHeld (HoldsFiled (image_at S.Start) self.old.tables)
+            (told_opened self.new.tables) (rows_of made)) }
+        ensures whole { IfOk result (λ made. AreTables (rows_of made)) }
+        ensures unchanged { OnErr result (StayTold (told_opened self.old.tables) (told_opened self.new.tables)) }
+        ensures held { IfOk result (λ made. IfOpened self.new.tables (λ s. IsHeld s (rows_of made))) }
+        ensures keeps { IfOpen self.old.tables self.new.tables KeepsTold }
+        ensures found { self.old.tables ≡ None → IfOpened self.new.tables (KeepsFound (image_at S.Start)) }
+        ensures spares { self.old.tables ≡ None
+            → OnErr result (IfOpened self.new.tables (SparesFound (image_at S.Start))) }
+        ensures lasts { OnOk result (IfOpened self.new.tables Lasts) }
+        ensures fails { IsErrOf result KeepFail.Failed → IfUnloaded self.old.tables self.new.tables FailsClean }
+        ensures fails_first { IsErrOf result KeepFail.Failed → self.old.tables ≡ None
+            → IfOpened self.new.tables (FailsFound (image_at S.Start)) }
+    {
+        if let Err(fail) = self.open_once() {
+            return Err(fail);
+        }
+        load_opened(&mut self.tables)
+    }
+
+    /// Ends the keeper. Where tables were loaded the log is copied into the database file, which alone holds them then.
+    pub fn close(self) -> Result<Closed<S>, KeepFail>
+        ensures { IfOk result (IsLeft self.entry.tables) }
+    {
+        let FileKeeper {
+            rt: _,
+            path: _,
+            start: _,
+            tables,
+            counts: _,
+            fault: _,
+        } = self;
+        match tables {
+            Some(holding) => close_loaded(holding),
+            None => Ok(None),
         }
     }
 }
@@ -104,7 +171,11 @@ impl<'r, S: Start> FileKeeper<'r, S, FileStore<FileFrom<S>>> {
 impl<'r, S: Start> Keeper for FileKeeper<'r, S, FileStore<FileFrom<S>>> {
     ghost tables = { λ k. told_opened k.tables };
 
+    ghost calls = { λ k. k.calls };
+
     ghost faults = { λ k. k.faults };
+
+    ghost holds = { λ k rows. HoldsFiled (image_at S.Start) k.tables rows };
 
     ghost is_steady = { λ _. ⊥ };
 
@@ -112,28 +183,28 @@ impl<'r, S: Start> Keeper for FileKeeper<'r, S, FileStore<FileFrom<S>>> {
     fn load(&mut self) -> Result<Tables, KeepFail>
         ensures loaded { IfOk result (λ made. IsLoaded (told_opened self.old.tables)
             (told_opened self.new.tables) (rows_of made)) }
+        ensures kept { IfOk result (λ made. LoadsHeld (HoldsFiled (image_at S.Start) self.old.tables)
+            (told_opened self.new.tables) (rows_of made)) }
         ensures whole { IfOk result (λ made. AreTables (rows_of made)) }
         ensures unchanged { OnErr result (StayTold (told_opened self.old.tables) (told_opened self.new.tables)) }
-        ensures later { self.old.faults ≤ self.new.faults }
-        ensures cause { FailsRise self.old.faults self.new.faults result }
+        ensures called { self.new.calls ≡ risen self.old.calls }
+        ensures faults { CountsFailures self.old.faults self.new.faults result }
         ensures steady { ⊥ → NeverFails result × ⊥ }
 
-        // What stands in the table then, what a crash leaves, what of it stood in the files at first, why it fails, and
-        // the count of faults.
+        // What stands in the table then, what a crash leaves, what of it stood in the files at first, what a refused
+        // load leaves of it, and why it fails.
         ensures held { IfOk result (λ made. IfOpened self.new.tables (λ s. IsHeld s (rows_of made))) }
         ensures keeps { IfOpen self.old.tables self.new.tables KeepsTold }
         ensures found { self.old.tables ≡ None → IfOpened self.new.tables (KeepsFound (image_at S.Start)) }
+        ensures spares { self.old.tables ≡ None
+            → OnErr result (IfOpened self.new.tables (SparesFound (image_at S.Start))) }
         ensures lasts { OnOk result (IfOpened self.new.tables Lasts) }
         ensures fails { IsErrOf result KeepFail.Failed → IfUnloaded self.old.tables self.new.tables FailsClean }
-        ensures faults { CountsFailures self.old.faults self.new.faults result }
+        ensures fails_first { IsErrOf result KeepFail.Failed → self.old.tables ≡ None
+            → IfOpened self.new.tables (FailsFound (image_at S.Start)) }
     {
-        if let Err(fail) = self.open_once() {
-            return Err(count(&mut self.faults, fail));
-        }
-        match load_opened(&mut self.tables) {
-            Ok(made) => Ok(made),
-            Err(fail) => Err(count(&mut self.faults, fail)),
-        }
+        let answer = self.load_once();
+        self.counts.count(answer)
     }
 
     /// Commits the changes in one transaction. Before a `load` has answered the tables it is a failure, and nothing is
@@ -143,11 +214,11 @@ impl<'r, S: Start> Keeper for FileKeeper<'r, S, FileStore<FileFrom<S>>> {
         ensures committed { OnOk result (ChangeTold (told_opened self.old.tables)
             (told_opened self.new.tables) changes.now) }
         ensures unchanged { OnErr result (StayTold (told_opened self.old.tables) (told_opened self.new.tables)) }
-        ensures later { self.old.faults ≤ self.new.faults }
-        ensures cause { FailsRise self.old.faults self.new.faults result }
+        ensures called { self.new.calls ≡ risen self.old.calls }
+        ensures faults { CountsFailures self.old.faults self.new.faults result }
         ensures steady { ⊥ → NeverFails result × ⊥ }
 
-        // What stands in the table then, what a crash leaves, why it fails, and the count of faults.
+        // What stands in the table then, what a crash leaves, and why it fails.
         ensures put { OnOk result (IfOpen self.old.tables self.new.tables (Becomes (ChangesTables changes.now))) }
         ensures stays { OnErr result (IfOpen self.old.tables self.new.tables Stays) }
         ensures crash { IfLoaded self.old.tables self.new.tables (λ _. Leaves (ChangesTables changes.now)) }
@@ -156,12 +227,9 @@ impl<'r, S: Start> Keeper for FileKeeper<'r, S, FileStore<FileFrom<S>>> {
             → (result ≡ Err KeepFail.Failed) × (connection_of self.new.tables ≡ connection_of self.old.tables) }
         ensures fails { IsErrOf result KeepFail.Failed → IfLoaded self.old.tables self.new.tables (λ lengths old new.
             HasCleanDisk new → FailsToCommit lengths changes.now old new) }
-        ensures faults { CountsFailures self.old.faults self.new.faults result }
     {
-        match commit_opened(&mut self.tables, changes) {
-            Ok(()) => Ok(()),
-            Err(fail) => Err(count(&mut self.faults, fail)),
-        }
+        let answer = commit_opened(&mut self.tables, changes);
+        self.counts.count(answer)
     }
 }
 
@@ -173,10 +241,11 @@ fn load_opened<S: Start>(tables: &mut Option<Opened<S>>) -> Result<Tables, KeepF
     ensures held { IfOk result (λ made. IfOpened tables.new (λ s. IsHeld s (rows_of made))) }
     ensures keeps { IfOpen tables.old tables.new KeepsTold }
     ensures lasts { OnOk result (IfOpened tables.new Lasts) }
+    ensures spares { OnErr result (IfOpen tables.old tables.new Spares) }
     ensures fails { IsErrOf result KeepFail.Failed → IfUnloaded tables.old tables.new FailsClean }
 {
     match tables {
-        Some(tables) => tables.load(),
+        Some(holding) => holding.load_once(),
         None => Err(KeepFail::Failed),
     }
 }
@@ -199,7 +268,28 @@ fn commit_opened<S: Start>(
         HasCleanDisk new → FailsToCommit lengths changes.now old new) }
 {
     match tables {
-        Some(tables) => tables.commit(changes),
+        Some(holding) => holding.commit_loaded(changes),
         None => Err(KeepFail::Failed),
+    }
+}
+
+/// Closes files, where tables were loaded from them.
+fn close_loaded<S: Start>(holding: Opened<S>) -> Result<Closed<S>, KeepFail>
+    ensures { IfOk result (IsLeft (Some holding)) }
+{
+    if !holding.is_loaded() {
+        return Ok(None);
+    }
+    close_opened(holding)
+}
+
+/// Closes files from which tables were loaded.
+fn close_opened<S: Start>(holding: Opened<S>) -> Result<Closed<S>, KeepFail>
+    requires { IsSome holding.lengths }
+    ensures { IfOk result (IsLeft (Some holding)) }
+{
+    match row_store::close(holding.into_connection()) {
+        Ok(files) => Ok(Some(files)),
+        Err(error) => Err(store_fail(error)),
     }
 }

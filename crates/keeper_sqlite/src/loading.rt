@@ -1,5 +1,5 @@
-//! The tables are read, and made where nothing stands.
-ghost use Rattle.std.specs.Prelude.{◌≡◌, false, map, IfOk, IsErrOf, OnOk, IsTrue};
+//! The tables are read, and made where the table is missing.
+ghost use Rattle.std.specs.Prelude.{◌≡◌, false, map, None, IfOk, IsErrOf, OnOk, OnErr, IsTrue};
 ghost use Rattle.desk_packing.specs.Lines.{line_of};
 ghost use Rattle.desk_packing.specs.Shapes.{shape_of};
 ghost use Rattle.desk_words.specs.Tables.{AreTables, Rows, rows_of};
@@ -7,11 +7,11 @@ ghost use Rattle.desk_packing.specs.Stands.{StandAs, StandFor};
 ghost use Rattle.keeper_sqlite.specs.Telling.{AgesAs};
 ghost use Rattle.sqlite.specs.Held.{state};
 ghost use Rattle.sqlite.specs.State.{HasCleanDisk};
-ghost use Rattle.row_store.specs.Calls.{GoesOn, Lasts};
+ghost use Rattle.row_store.specs.Calls.{GoesOn, Lasts, Stays};
 ghost use Rattle.row_store.specs.Stored.{AreInKeyOrder};
 ghost use Rattle.row_store.specs.Table.{is_desk};
 ghost use Rattle.keeper_sqlite.specs.Causes.{FailsToLoad, IsStoppedTelling};
-ghost use Rattle.keeper_sqlite.specs.Steps.{IsFound, IsHeld, IsReady, KeepsTold};
+ghost use Rattle.keeper_sqlite.specs.Steps.{IsFound, IsHeld, IsReady, KeepsTold, Spares};
 
 use crate::fault::{store_fail, unpack_fail};
 use crate::renewing::renew;
@@ -47,35 +47,40 @@ pub struct Loaded {
     pub shape: Shape,
 }
 
-/// Reads the tables. Where nothing stands the table and its first rows are made, and rows of the old version are put
+/// Reads the tables. Where the table is missing it is made with its first rows, and rows of the old version are put
 /// anew: nothing of it changes what is told.
 pub fn load_tables<S: Alter>(conn: &mut Connection<S>) -> Result<Loaded, KeepFail>
-    requires { conn.old.in_transaction ≡ false }
+    requires autocommit { conn.old.in_transaction ≡ false }
+    requires unlimited { conn.old.step_limit ≡ None }
     ensures held { IfOk result (λ loaded. IsHeld (state S.Store conn.new) (rows_of loaded.tables)) }
     ensures was_up { OnOk result (HasCleanDisk (state S.Store conn.new) → IsTrue (state S.Store conn.old).is_open) }
     ensures shape { IfOk result (λ loaded. loaded.shape ≡ shape_of (rows_of loaded.tables)) }
     ensures whole { IfOk result (λ loaded. AreTables (rows_of loaded.tables)) }
     ensures keeps { KeepsTold (state S.Store conn.old) (state S.Store conn.new) }
     ensures lasts { OnOk result (Lasts (state S.Store conn.new)) }
+    ensures spares { OnErr result (Spares (state S.Store conn.old) (state S.Store conn.new)) }
+    ensures unlimited { conn.new.step_limit ≡ None }
     ensures fails { IsErrOf result KeepFail.Failed → HasCleanDisk (state S.Store conn.new)
         → FailsToLoad (state S.Store conn.old) (state S.Store conn.new) }
 {
     ready_table(conn)?;
     let (alloc, found) = read_found(conn)?;
-    renew(alloc, conn, &found)?;
     let shape = Shape::of(alloc, &found.tables)?;
+    renew(alloc, conn, &found)?;
     Ok(Loaded {
         tables: found.tables,
         shape,
     })
 }
 
-/// Finds the table, or makes it where nothing stands.
+/// Finds the table, or makes it where it is missing.
 fn ready_table<S: Alter>(conn: &mut Connection<S>) -> Result<(), KeepFail>
-    requires { conn.old.in_transaction ≡ false }
+    requires autocommit { conn.old.in_transaction ≡ false }
+    requires unlimited { conn.old.step_limit ≡ None }
     ensures ready { OnOk result (IsReady (state S.Store conn.old) (state S.Store conn.new)) }
     ensures keeps { KeepsTold (state S.Store conn.old) (state S.Store conn.new) }
     ensures goes_on { GoesOn (state S.Store conn.old) (state S.Store conn.new) }
+    ensures spares { Spares (state S.Store conn.old) (state S.Store conn.new) }
     ensures fails { IsErrOf result KeepFail.Failed → HasCleanDisk (state S.Store conn.new)
         → IsStoppedTelling (state S.Store conn.old) (state S.Store conn.new) }
 {
@@ -85,7 +90,7 @@ fn ready_table<S: Alter>(conn: &mut Connection<S>) -> Result<(), KeepFail>
     };
     match footing {
         Footing::Desk => Ok(()),
-        Footing::Blank => match make_table(conn) {
+        Footing::Absent => match make_table(conn) {
             Ok(()) => Ok(()),
             Err(error) => Err(store_fail(error)),
         },
@@ -96,6 +101,7 @@ fn ready_table<S: Alter>(conn: &mut Connection<S>) -> Result<(), KeepFail>
 /// Reads the rows of the table.
 fn read_found<S: Alter>(conn: &mut Connection<S>) -> Result<(Global, Found), KeepFail>
     requires autocommit { conn.old.in_transaction ≡ false }
+    requires unlimited { conn.old.step_limit ≡ None }
     requires desk { HasCleanDisk (state S.Store conn.old) → IsTrue (is_desk (state S.Store conn.old).now.schema) }
     ensures found { IfOk result (λ pair. IsFound pair.1.age (state S.Store conn.new) (rows_of pair.1.tables)) }
     ensures was_up { OnOk result (HasCleanDisk (state S.Store conn.new) → IsTrue (state S.Store conn.old).is_open) }
@@ -103,6 +109,7 @@ fn read_found<S: Alter>(conn: &mut Connection<S>) -> Result<(Global, Found), Kee
     ensures keeps { KeepsTold (state S.Store conn.old) (state S.Store conn.new) }
     ensures lasts { OnOk result (Lasts (state S.Store conn.new)) }
     ensures goes_on { GoesOn (state S.Store conn.old) (state S.Store conn.new) }
+    ensures unchanged { Stays (state S.Store conn.old) (state S.Store conn.new) }
     ensures fails { IsErrOf result KeepFail.Failed → HasCleanDisk (state S.Store conn.new)
         → IsStoppedTelling (state S.Store conn.old) (state S.Store conn.new) }
 {

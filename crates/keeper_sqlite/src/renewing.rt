@@ -1,11 +1,11 @@
 //! The first rows are put, and rows of the old version anew.
-ghost use Rattle.std.specs.Prelude.{◌≡◌, ◌⊎◌, false, IsErrOf, OnOk};
+ghost use Rattle.std.specs.Prelude.{◌≡◌, ◌⊎◌, false, None, IsErrOf, OnOk, OnErr};
 ghost use Rattle.desk_words.specs.Tables.{AreTables, empty_rows, rows_of};
 ghost use Rattle.sqlite.specs.Held.{state};
 ghost use Rattle.sqlite.specs.State.{HasCleanDisk};
-ghost use Rattle.row_store.specs.Calls.{Lasts};
-ghost use Rattle.row_store.specs.Refusals.{IsStopped};
-ghost use Rattle.keeper_sqlite.specs.Causes.{LacksRoomToRenew};
+ghost use Rattle.row_store.specs.Calls.{GoesOn, Lasts, Stays};
+ghost use Rattle.row_store.specs.Refusals.{IsHalted};
+ghost use Rattle.keeper_sqlite.specs.Causes.{LacksRoomFirst, LacksRoomToMigrate};
 ghost use Rattle.keeper_sqlite.specs.Steps.{IsFound, IsHeld, KeepsTold};
 
 use crate::fault::{pack_fail, store_fail};
@@ -24,15 +24,19 @@ pub fn renew<S: Alter>(
     found: &Found,
 ) -> Result<(), KeepFail>
     requires autocommit { conn.old.in_transaction ≡ false }
+    requires unlimited { conn.old.step_limit ≡ None }
     requires found { IsFound found.now.age (state S.Store conn.old) (rows_of found.now.tables) }
     requires whole { AreTables (rows_of found.now.tables) }
     requires lasts { Lasts (state S.Store conn.old) }
     ensures held { OnOk result (IsHeld (state S.Store conn.new) (rows_of found.now.tables)) }
     ensures keeps { KeepsTold (state S.Store conn.old) (state S.Store conn.new) }
     ensures lasts { OnOk result (Lasts (state S.Store conn.new)) }
+    ensures goes_on { GoesOn (state S.Store conn.old) (state S.Store conn.new) }
+    ensures unchanged { OnErr result (Stays (state S.Store conn.old) (state S.Store conn.new)) }
     ensures fails { IsErrOf result KeepFail.Failed → HasCleanDisk (state S.Store conn.new)
-        → IsStopped (state S.Store conn.old) (state S.Store conn.new)
-        ⊎ LacksRoomToRenew found.now.age (rows_of found.now.tables) (state S.Store conn.old).now }
+        → IsHalted (state S.Store conn.old) (state S.Store conn.new)
+        ⊎ (LacksRoomToMigrate (rows_of found.now.tables) (state S.Store conn.old).now
+        ⊎ LacksRoomFirst (state S.Store conn.old).now) }
 {
     match found.age {
         Age::Blank => put_first(alloc, conn),
@@ -44,14 +48,16 @@ pub fn renew<S: Alter>(
 /// Puts the rows of a new desk.
 fn put_first<S: Alter>(alloc: Global, conn: &mut Connection<S>) -> Result<(), KeepFail>
     requires autocommit { conn.old.in_transaction ≡ false }
+    requires unlimited { conn.old.step_limit ≡ None }
     requires found { IsFound Age.Blank (state S.Store conn.old) empty_rows }
     requires lasts { Lasts (state S.Store conn.old) }
     ensures held { OnOk result (IsHeld (state S.Store conn.new) empty_rows) }
     ensures keeps { KeepsTold (state S.Store conn.old) (state S.Store conn.new) }
     ensures lasts { OnOk result (Lasts (state S.Store conn.new)) }
+    ensures goes_on { GoesOn (state S.Store conn.old) (state S.Store conn.new) }
+    ensures unchanged { OnErr result (Stays (state S.Store conn.old) (state S.Store conn.new)) }
     ensures fails { IsErrOf result KeepFail.Failed → HasCleanDisk (state S.Store conn.new)
-        → IsStopped (state S.Store conn.old) (state S.Store conn.new)
-        ⊎ LacksRoomToRenew Age.Blank empty_rows (state S.Store conn.old).now }
+        → IsHalted (state S.Store conn.old) (state S.Store conn.new) ⊎ LacksRoomFirst (state S.Store conn.old).now }
 {
     let rows = pack_empty(alloc)?;
     match put_rows(conn, rows.as_slice()) {
@@ -67,15 +73,18 @@ fn migrate<S: Alter>(
     tables: &Tables,
 ) -> Result<(), KeepFail>
     requires autocommit { conn.old.in_transaction ≡ false }
+    requires unlimited { conn.old.step_limit ≡ None }
     requires found { IsFound Age.Old (state S.Store conn.old) (rows_of tables.now) }
     requires whole { AreTables (rows_of tables.now) }
     requires lasts { Lasts (state S.Store conn.old) }
     ensures held { OnOk result (IsHeld (state S.Store conn.new) (rows_of tables.now)) }
     ensures keeps { KeepsTold (state S.Store conn.old) (state S.Store conn.new) }
     ensures lasts { OnOk result (Lasts (state S.Store conn.new)) }
+    ensures goes_on { GoesOn (state S.Store conn.old) (state S.Store conn.new) }
+    ensures unchanged { OnErr result (Stays (state S.Store conn.old) (state S.Store conn.new)) }
     ensures fails { IsErrOf result KeepFail.Failed → HasCleanDisk (state S.Store conn.new)
-        → IsStopped (state S.Store conn.old) (state S.Store conn.new)
-        ⊎ LacksRoomToRenew Age.Old (rows_of tables.now) (state S.Store conn.old).now }
+        → IsHalted (state S.Store conn.old) (state S.Store conn.new)
+        ⊎ LacksRoomToMigrate (rows_of tables.now) (state S.Store conn.old).now }
 {
     let renewed = match migrated(alloc, tables) {
         Ok(renewed) => renewed,

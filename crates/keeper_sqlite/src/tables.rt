@@ -1,15 +1,17 @@
 //! A keeper over an open connection in memory. It tells its tables from the beginning.
-ghost use Rattle.std.specs.Prelude.{◌≡◌, ◌≤◌, false, None, Err, IfOk, IsErrOf, OnOk, OnErr, IsSome};
+ghost use Rattle.std.specs.Prelude.{◌≡◌, false, None, Err, IfOk, IsErrOf, OnOk, OnErr, IsSome};
+ghost use Rattle.desk_base.specs.Counts.{risen};
 ghost use Rattle.desk_words.specs.Tables.{AreTables, rows_of};
-ghost use Rattle.keeper_core.specs.Keeping.{ChangeTold, CountsFailures, FailsRise, FitTold};
-ghost use Rattle.keeper_core.specs.Keeping.{IsLoaded, NeverFails, StayTold};
+ghost use Rattle.keeper_core.specs.Keeping.{ChangeTold, CountsFailures, FitTold};
+ghost use Rattle.keeper_core.specs.Keeping.{IsLoaded, LoadsHeld, NeverFails, StayTold};
 ghost use Rattle.row_store.specs.Calls.{Becomes, Lasts, Leaves, Stays};
 ghost use Rattle.sqlite.specs.Held.{state};
 ghost use Rattle.keeper_sqlite.specs.Causes.{FailsToCommit, FailsToLoad};
-ghost use Rattle.keeper_sqlite.specs.Steps.{ChangesTables, IsHeld, KeepsTold};
+ghost use Rattle.keeper_sqlite.specs.Steps.{ChangesTables, IsHeld, KeepsTold, Spares, TellsUp};
 ghost use Rattle.keeper_sqlite.specs.Telling.{told};
 
-use crate::open::OpenTables;
+use crate::counts::Counts;
+use crate::holding::Holding;
 use desk_base::List;
 use desk_words::{Change, Tables};
 use keeper_core::{KeepFail, Keeper};
@@ -33,7 +35,8 @@ impl NeverUnclean for MemStore {
 /// A keeper over an open connection of a store that returns what was written.
 #[derive(Drop)]
 pub struct SqlTables<S: NeverUnclean> {
-    inner: OpenTables<S>,
+    inner: Holding<S>,
+    counts: Counts,
 }
 
 impl<S: NeverUnclean> Model for SqlTables<S> {
@@ -43,17 +46,29 @@ impl<S: NeverUnclean> Model for SqlTables<S> {
 
     ghost coded = { kept_code S.code };
 
-    ghost view = { λ k. k.inner };
+    ghost view = { λ k. record {
+      connection = k.inner.connection;
+      lengths = k.inner.lengths;
+      calls = k.counts.calls;
+      faults = k.counts.faults;
+    } };
 }
 
 impl<S: NeverUnclean> SqlTables<S> {
-    /// The keeper over this connection, which tells the tables that stand in it.
+    /// The keeper over this connection, which tells the tables that stand in it. It takes the limit on the steps of a
+    /// statement away, where one is set.
     pub fn over(connection: Connection<S>) -> SqlTables<S>
         requires { connection.in_transaction ≡ false }
-        ensures { result ≡ record { connection = connection; lengths = None; faults = 0 } }
+        ensures { result ≡ record {
+          connection = record connection { step_limit = None };
+          lengths = None;
+          calls = 0;
+          faults = 0;
+        } }
     {
         SqlTables {
-            inner: OpenTables::over(connection),
+            inner: Holding::over(connection),
+            counts: Counts::new(),
         }
     }
 
@@ -61,8 +76,9 @@ impl<S: NeverUnclean> SqlTables<S> {
     pub fn into_connection(self) -> Connection<S>
         ensures given { result ≡ self.connection }
         ensures autocommit { result.in_transaction ≡ false }
+        ensures unlimited { result.step_limit ≡ None }
     {
-        let SqlTables { inner } = self;
+        let SqlTables { inner, counts: _ } = self;
         inner.into_connection()
     }
 }
@@ -70,7 +86,11 @@ impl<S: NeverUnclean> SqlTables<S> {
 impl<S: NeverUnclean> Keeper for SqlTables<S> {
     ghost tables = { λ k. told (state S.Store k.connection) };
 
+    ghost calls = { λ k. k.calls };
+
     ghost faults = { λ k. k.faults };
+
+    ghost holds = { λ k rows. TellsUp (state S.Store k.connection) rows };
 
     ghost is_steady = { λ _. ⊥ };
 
@@ -78,22 +98,26 @@ impl<S: NeverUnclean> Keeper for SqlTables<S> {
     fn load(&mut self) -> Result<Tables, KeepFail>
         ensures loaded { IfOk result (λ made. IsLoaded (told (state S.Store self.old.connection)) (told
             (state S.Store self.new.connection)) (rows_of made)) }
+        ensures kept { IfOk result (λ made. LoadsHeld (TellsUp (state S.Store self.old.connection))
+            (told (state S.Store self.new.connection)) (rows_of made)) }
         ensures whole { IfOk result (λ made. AreTables (rows_of made)) }
         ensures unchanged { OnErr result (StayTold (told (state S.Store self.old.connection)) (told
             (state S.Store self.new.connection))) }
-        ensures later { self.old.faults ≤ self.new.faults }
-        ensures cause { FailsRise self.old.faults self.new.faults result }
+        ensures called { self.new.calls ≡ risen self.old.calls }
+        ensures faults { CountsFailures self.old.faults self.new.faults result }
         ensures steady { ⊥ → NeverFails result × ⊥ }
 
-        // What stands in the table then, what a crash leaves, and the count of faults.
+        // What stands in the table then, what a crash leaves, and why it fails.
         ensures held { IfOk result (λ made. IsHeld (state S.Store self.new.connection) (rows_of made)) }
         ensures keeps { KeepsTold (state S.Store self.old.connection) (state S.Store self.new.connection) }
         ensures lasts { OnOk result (Lasts (state S.Store self.new.connection)) }
+        ensures spares { OnErr result (Spares (state S.Store self.old.connection)
+            (state S.Store self.new.connection)) }
         ensures fails { IsErrOf result KeepFail.Failed
             → FailsToLoad (state S.Store self.old.connection) (state S.Store self.new.connection) }
-        ensures faults { CountsFailures self.old.faults self.new.faults result }
     {
-        self.inner.load_known()
+        let answer = self.inner.load();
+        self.counts.count(answer)
     }
 
     /// Commits the changes in one transaction. Before tables were loaded it is a failure, and nothing is touched.
@@ -103,11 +127,11 @@ impl<S: NeverUnclean> Keeper for SqlTables<S> {
             (state S.Store self.new.connection)) changes.now) }
         ensures unchanged { OnErr result (StayTold (told (state S.Store self.old.connection)) (told
             (state S.Store self.new.connection))) }
-        ensures later { self.old.faults ≤ self.new.faults }
-        ensures cause { FailsRise self.old.faults self.new.faults result }
+        ensures called { self.new.calls ≡ risen self.old.calls }
+        ensures faults { CountsFailures self.old.faults self.new.faults result }
         ensures steady { ⊥ → NeverFails result × ⊥ }
 
-        // What stands in the table then, what a crash leaves, and the count of faults.
+        // What stands in the table then, what a crash leaves, and why it fails.
         ensures put { OnOk result (Becomes (ChangesTables changes.now) (state S.Store self.old.connection)
             (state S.Store self.new.connection)) }
         ensures stays { OnErr result (Stays (state S.Store self.old.connection) (state S.Store self.new.connection)) }
@@ -119,8 +143,8 @@ impl<S: NeverUnclean> Keeper for SqlTables<S> {
             → (result ≡ Err KeepFail.Failed) × (self.new.connection ≡ self.old.connection) }
         ensures fails { IsErrOf result KeepFail.Failed → FailsToCommit self.old.lengths changes.now
             (state S.Store self.old.connection) (state S.Store self.new.connection) }
-        ensures faults { CountsFailures self.old.faults self.new.faults result }
     {
-        self.inner.commit_known(changes)
+        let answer = self.inner.commit(changes);
+        self.counts.count(answer)
     }
 }

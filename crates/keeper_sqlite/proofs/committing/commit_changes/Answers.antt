@@ -66,4 +66,5 @@ returns-in-Err-put_rows-clause-fails g c failed clean =
     (◌∙◌ {c = lines_of_changes c.args.shape.now c.args.changes.now} (ap (map line_of) c.as_slice.ensures)
     c.in-Ok.ensures.rows)
     c.in-Err-put_rows.ensures.unchanged clean
-    (λ lines stands. c.in-Err-put_rows.ensures.cause other c.requires.autocommit clean lines stands)
+    (λ lines stands.
+    c.in-Err-put_rows.ensures.cause other c.requires.autocommit c.requires.unlimited clean lines stands)

@@ -13,7 +13,8 @@ returns-in-Err-clause-fails g c failed clean rows told =
     let other = not_memory c.store_fail.result c.in-Err.error no_memory c.store_fail.ensures is in
     let desk = c.requires.desk (c.in-Err.ensures.unchanged clean).0 in
     let lines = told_lines (state g.S.Store c.args.conn.now).now rows desk told in
-    c.in-Err.ensures.cause other c.requires.autocommit clean lines.0 (short_lines lines.0 rows lines.2) lines.1
+    c.in-Err.ensures.cause other c.requires.autocommit c.requires.unlimited clean lines.0
+    (short_lines lines.0 rows lines.2) lines.1
 
 pub returns-in_err-found_in-clause-fails : goal.returns-in_err-found_in-clause-fails
 returns-in_err-found_in-clause-fails g c failed clean rows told =

@@ -7,8 +7,8 @@ use Rattle.keeper_sqlite.specs.declared.loading.Age.TheVariants as age
 use Rattle.keeper_sqlite.proofs.Keeps.{old_renews, keeps_done, keeps_refused, put_held, put_tells}
 use Rattle.keeper_sqlite.proofs.renewing.migrate.Goals as goal
 use Rattle.keeper_core.specs.declared.keeper.KeepFail.TheVariants.{Failed}
-use Rattle.row_store.specs.Refusals.{no_memory, IsStopped, LacksRoomFor}
-use Rattle.keeper_sqlite.proofs.Failing.{not_memory}
+use Rattle.row_store.specs.Refusals.{no_memory, IsHalted, LacksRoomFor}
+use Rattle.keeper_sqlite.proofs.Failing.{lacks_held, not_memory}
 
 pub returns-in-Ok-put_rows-clause-held : goal.returns-in-Ok-put_rows-clause-held
 returns-in-Ok-put_rows-clause-held g c =
@@ -45,6 +45,7 @@ returns-clause-fails g c failed clean =
     let other = not_memory c.store_fail.result c.in-Err-put_rows.error no_memory c.store_fail.ensures is in
     let held = (c.requires.found (c.in-Err-put_rows.ensures.unchanged clean).0).1 in
     let rows_are = ap (map line_of) c.as_slice.ensures ∙ c.in-Ok.ensures.rows in
-    subst (λ ls. IsStopped (state g.S.Store c.args.conn.now) (state g.S.Store c.put_rows.new.conn)
+    lacks_held _ _ held
+    (subst (λ ls. IsHalted (state g.S.Store c.args.conn.now) (state g.S.Store c.put_rows.new.conn)
     ⊎ LacksRoomFor ls (state g.S.Store c.args.conn.now).now) rows_are
-    (c.in-Err-put_rows.ensures.cause other c.requires.autocommit clean held.lines held.stand)
+    (c.in-Err-put_rows.ensures.cause other c.requires.autocommit c.requires.unlimited clean held.lines held.stand))

@@ -2,13 +2,13 @@ use Rattle.std.proofs.Common.{map, ap, ◌∙◌, ◌≡◌, ◌⊎◌, subst}
 use Rattle.desk_packing.specs.Lines.{line_of}
 use Rattle.desk_words.specs.Tables.{empty_rows}
 use Rattle.sqlite.specs.Held.{state}
-use Rattle.row_store.specs.Stored.{Puts}
+use Rattle.row_store.specs.Stored.{Puts, Stands}
 use Rattle.keeper_sqlite.specs.declared.loading.Age.TheVariants as age
 use Rattle.keeper_sqlite.proofs.Keeps.{first_renews, keeps_done, keeps_refused, put_held, put_tells}
 use Rattle.keeper_sqlite.proofs.renewing.put_first.Goals as goal
 use Rattle.keeper_core.specs.declared.keeper.KeepFail.TheVariants.{Failed}
-use Rattle.row_store.specs.Refusals.{no_memory, IsStopped, LacksRoomFor}
-use Rattle.keeper_sqlite.proofs.Failing.{not_memory}
+use Rattle.row_store.specs.Refusals.{no_memory, IsHalted, LacksRoomFor}
+use Rattle.keeper_sqlite.proofs.Failing.{lacks_first, not_memory}
 
 pub returns-in-Ok-clause-held : goal.returns-in-Ok-clause-held
 returns-in-Ok-clause-held g c =
@@ -42,6 +42,8 @@ returns-clause-fails g c failed clean =
     let other = not_memory c.store_fail.result c.in-Err.error no_memory c.store_fail.ensures is in
     let held = (c.requires.found (c.in-Err.ensures.unchanged clean).0).1 in
     let rows_are = ap (map line_of) c.as_slice.ensures ∙ c.in_ok-rows.ensures in
-    subst (λ ls. IsStopped (state g.S.Store c.args.conn.now) (state g.S.Store c.put_rows.new.conn)
+    lacks_first (state g.S.Store c.args.conn.now).now
+    (subst (Stands (state g.S.Store c.args.conn.now).now) held.tables.0 held.stand)
+    (subst (λ ls. IsHalted (state g.S.Store c.args.conn.now) (state g.S.Store c.put_rows.new.conn)
     ⊎ LacksRoomFor ls (state g.S.Store c.args.conn.now).now) rows_are
-    (c.in-Err.ensures.cause other c.requires.autocommit clean held.lines held.stand)
+    (c.in-Err.ensures.cause other c.requires.autocommit c.requires.unlimited clean held.lines held.stand))

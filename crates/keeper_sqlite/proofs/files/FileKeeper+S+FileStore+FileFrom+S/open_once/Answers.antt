@@ -9,7 +9,9 @@ returns-in-Ok-clause-told g c =
 
 pub returns-in-Ok-clause-found : goal.returns-in-Ok-clause-found
 returns-in-Ok-clause-found g c first =
-    rw c.over.ensures (
-      c.in-Ok.ensures.autocommit,
-      λ clean. (c.in-Ok.ensures.opened clean, λ lines starts. c.in-Ok.ensures.found clean lines starts),
-    )
+    rw c.over.ensures (record {
+      autocommit = c.in-Ok.ensures.autocommit;
+      is_open = λ clean. c.in-Ok.ensures.opened clean;
+      database = λ clean. c.in-Ok.ensures.found clean;
+      nothing = λ clean. c.in-Ok.ensures.nothing clean;
+    })

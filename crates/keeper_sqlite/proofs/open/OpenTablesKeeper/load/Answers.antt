@@ -1,15 +1,16 @@
-use Rattle.std.proofs.Common.{sym, ◌∙◌}
 use Rattle.desk_words.specs.Tables.{rows_of}
 use Rattle.sqlite.specs.Held.{state}
-use Rattle.keeper_sqlite.proofs.Tells.{loaded_first, none_of, stay_same}
+use Rattle.keeper_sqlite.proofs.Tells.{first_kept}
 use Rattle.keeper_sqlite.proofs.open.OpenTablesKeeper.load.Goals as goal
 
-pub returns-then-is_some-clause-unchanged : goal.returns-then-is_some-clause-unchanged
-returns-then-is_some-clause-unchanged g c = rw (← c.self.view_is) (stay_same _)
+pub returns-clause-kept : goal.returns-clause-kept
+returns-clause-kept g c =
+    rw (← c.self.view_is) (rw c.count.ensures.same
+    (first_kept rows_of c.load_once-answer.result (state g.S.Store c.self.inside.inner.connection)
+    (state g.S.Store c.load_once-answer.new.self.connection) c.load_once-answer.new.self.lengths
+    c.load_once-answer.ensures.keeps c.load_once-answer.ensures.held))
 
-pub returns-clause-loaded : goal.returns-clause-loaded
-returns-clause-loaded g c =
-    rw (← c.self.view_is)
-    (loaded_first rows_of c.load_known.result (state g.S.Store c.self.inside.connection)
-    (state g.S.Store c.load_known.new.self.connection) c.self.inside.shape c.load_known.new.self.lengths
-    (none_of c.self.inside.shape (sym c.is_some.ensures ∙ c.if-is_some.false)) c.load_known.ensures.held)
+pub returns-clause-fails : goal.returns-clause-fails
+returns-clause-fails g c failed first clean =
+    let answer = rw c.count.ensures.same at failed in
+    rw (← c.self.view_is) (c.load_once-answer.ensures.fails answer (rw (← c.self.view_is) at first) clean)

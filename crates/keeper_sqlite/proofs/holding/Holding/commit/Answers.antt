@@ -1,12 +1,12 @@
 use Rattle.sqlite.specs.Held.{state}
 use Rattle.keeper_sqlite.proofs.Tells.{changed_told}
-use Rattle.keeper_sqlite.proofs.open.OpenTables.commit_known.Goals as goal
-use Rattle.std.proofs.Common.{◌≡◌, Err, sym, ap, ◌∙◌}
+use Rattle.std.proofs.Common.{◌≡◌, Err, ap}
 use Rattle.keeper_core.specs.declared.keeper.KeepFail.TheVariants.{Failed}
+use Rattle.keeper_sqlite.proofs.holding.Holding.commit.Goals as goal
 
 pub returns-in-Ok-clause-told : goal.returns-in-Ok-clause-told
 returns-in-Ok-clause-told g c =
-    let known = rw c.in-Some.is at c.self.invariant.1 in
+    let known = rw c.in-Some.is at c.self.invariant.2 in
     let fit = rw c.in-Some.is at (rw (← c.self.view_is) at c.requires) in
     rw (← c.self.view_is)
     (changed_told c.in-Some.shape (state g.S.Store c.self.inside.connection)
@@ -18,5 +18,5 @@ returns-in-Err-clause-crash g c = rw (← c.self.view_is) (λ known. c.commit_ch
 pub returns-in-Err-clause-fails : goal.returns-in-Err-clause-fails
 returns-in-Err-clause-fails g c =
     rw (← c.self.view_is) (rw c.in-Some.is (λ failed clean.
-    let is : c.count-in-Err.result ≡ Failed = let e = failed in cc in
-    c.in-Err.ensures.fails (ap Err (sym c.count-in-Err.ensures.same ∙ is)) clean))
+    let is : c.in-Err.fail ≡ Failed = let e = failed in cc in
+    c.in-Err.ensures.fails (ap Err is) clean))
