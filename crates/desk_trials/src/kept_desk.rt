@@ -1,5 +1,5 @@
-//! A desk with its keeper in memory. A clause sees what the keeper has: its rows, which are the desk's too, which of its
-//! calls fail, and how many have.
+//! A desk with its keeper in memory. A clause sees what the keeper has: its rows, which are the desk's too, which of
+//! its calls fail, and how many have.
 ghost use Rattle.std.specs.Prelude.{◌≡◌, ◌≢◌, ℕ, [], IfErr, IfOk, Some};
 ghost use Rattle.desk_words.specs.Tables.{AreTables, Rows, empty_rows, rows_of};
 ghost use Rattle.machine_core.specs.Starting.{AreStarted, IsUnstarted, StartsAvailable};
@@ -59,8 +59,9 @@ impl KeptDesk {
     /// there was no memory, and then nothing is changed.
     pub fn act(&mut self, command: &Command) -> Reply
         requires { IsNumbered command.now }
-        ensures acts { IsAct self.old.rows self.new.rows command.now result self.old.faults self.new.faults
-            (self.new ≡ self.old) }
+        ensures acts { IsAct self.old.rows self.new.rows command.now result
+            (record { calls = self.old.schedule.calls; faults = self.old.faults })
+            (record { calls = self.new.schedule.calls; faults = self.new.faults }) (self.new ≡ self.old) }
         ensures steady { self.old.schedule.fails ≡ []
             → (result ≢ Reply.Refused Refusal.Unavailable) × (self.new.schedule.fails ≡ []) }
     {

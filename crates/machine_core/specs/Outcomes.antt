@@ -1,5 +1,5 @@
 -- What a part of the machine answers, by what is checked. Want of memory is free.
-use Rattle.std.specs.Prelude.{◌≡◌, Result, Ok, Err, ⊤}
+use Rattle.std.specs.Prelude.{◌≡◌, ◌≢◌, Result, Ok, Err, ⊤}
 use Rattle.std.specs.Borrow.{Bor}
 use Rattle.desk_words.specs.declared.refusal.Refusal.{Refusal as RefusalOf}
 use Rattle.machine_core.specs.declared.stop.Stop.{Stop}
@@ -23,6 +23,11 @@ abbrev pub Answers : {A : Type 0} → Result A Stop → Checked A → Type 0
 Answers (Ok found) checked = Gives checked (Ok found)
 Answers (Err (Refused refusal)) checked = Gives checked (Err refusal)
 Answers (Err NoMemory) checked = ⊤
+
+-- no want of memory is answered
+abbrev pub WantsNone : {A : Type 0} → Result A Stop → Type 0
+WantsNone (Ok found) = ⊤
+WantsNone (Err stop) = stop ≢ NoMemory
 
 -- a fact for a refusal
 abbrev pub IfRefused : Stop → (RefusalOf → Type 0) → Type 0

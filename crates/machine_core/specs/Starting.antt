@@ -1,5 +1,6 @@
 -- How a machine begins over a keeper's tables, and why it does not.
-use Rattle.std.specs.Prelude.{◌≢◌, ℕ, Option, Some, None, Result, Ok, Err, ⊤}
+use Rattle.std.specs.Prelude.{◌≡◌, ◌≢◌, ℕ, Option, Some, None, Result, Ok, Err, ⊤}
+use Rattle.desk_base.specs.Counts.{risen}
 use Rattle.desk_base.specs.Faults.{Rose}
 use Rattle.desk_words.specs.Tables.{Rows}
 use Rattle.desk_valid.specs.Damage.{IsFirstDamage}
@@ -24,6 +25,13 @@ abbrev pub IsUnstarted : Option Rows → Option Rows → ℕ → ℕ → StartFa
 IsUnstarted old new before now (Damaged damage) = (rows : Rows) × IsLoaded old new rows × IsFirstDamage rows damage
 IsUnstarted old new before now Unavailable = StayTold old new × Rose before now
 IsUnstarted old new before now NoMemory = IfStillTold old new
+
+-- that the keeper failed raises its count of faults by one, up to its last value, and nothing else changes it
+abbrev pub CountsStart : {T : Type 0} → ℕ → ℕ → Result T StartFail → Type 0
+CountsStart before now (Ok value) = now ≡ before
+CountsStart before now (Err (Damaged damage)) = now ≡ before
+CountsStart before now (Err Unavailable) = now ≡ risen before
+CountsStart before now (Err NoMemory) = now ≡ before
 
 -- that the keeper failed is not answered
 abbrev pub StartsAvailable : {T : Type 0} → Result T StartFail → Type 0

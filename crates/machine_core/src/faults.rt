@@ -51,9 +51,11 @@ pub fn read_rulebook(alloc: Global, body: &[u8], schema: &Schema) -> Result<Rule
     }
 }
 
-/// That a body is no schema.
+/// That a body is no schema. Want of memory is told only where it is the reader's.
 fn schema_stop(fault: SchemaFault) -> Stop
-    ensures { IfRefused result (λ refusal. (refusal ≡ schema_refusal fault) × (fault ≢ SchemaFault.NoMemory)) }
+    ensures refused { IfRefused result
+        (λ refusal. (refusal ≡ schema_refusal fault) × (fault ≢ SchemaFault.NoMemory)) }
+    ensures memory { result ≡ Stop.NoMemory → fault ≡ SchemaFault.NoMemory }
 {
     let (code, first) = match fault {
         SchemaFault::NotToml => (1, 0),
@@ -68,9 +70,11 @@ fn schema_stop(fault: SchemaFault) -> Stop
     Stop::Refused(Refusal::BadText(Reader::Schema, code, first, 0))
 }
 
-/// That a body is no sheet.
+/// That a body is no sheet. Want of memory is told only where it is the reader's.
 pub(crate) fn sheet_stop(fault: SheetFault) -> Stop
-    ensures { IfRefused result (λ refusal. (refusal ≡ sheet_refusal fault) × (fault ≢ SheetFault.NoMemory)) }
+    ensures refused { IfRefused result
+        (λ refusal. (refusal ≡ sheet_refusal fault) × (fault ≢ SheetFault.NoMemory)) }
+    ensures memory { result ≡ Stop.NoMemory → fault ≡ SheetFault.NoMemory }
 {
     let (code, first, second) = match fault {
         SheetFault::NotUtf8(row) => (1, row, 0),
@@ -86,9 +90,11 @@ pub(crate) fn sheet_stop(fault: SheetFault) -> Stop
     Stop::Refused(Refusal::BadText(Reader::Sheet, code, first, second))
 }
 
-/// That a body is no rulebook.
+/// That a body is no rulebook. Want of memory is told only where it is the reader's.
 fn rules_stop(fault: RuleFault) -> Stop
-    ensures { IfRefused result (λ refusal. (refusal ≡ rules_refusal fault) × (fault ≢ RuleFault.NoMemory)) }
+    ensures refused { IfRefused result
+        (λ refusal. (refusal ≡ rules_refusal fault) × (fault ≢ RuleFault.NoMemory)) }
+    ensures memory { result ≡ Stop.NoMemory → fault ≡ RuleFault.NoMemory }
 {
     let (code, line, column) = match fault {
         RuleFault::Syntax(line, column) => (1, line, column),
@@ -104,9 +110,11 @@ fn rules_stop(fault: RuleFault) -> Stop
     Stop::Refused(Refusal::BadText(Reader::Rules, code, line, column))
 }
 
-/// That a rulebook does not bind.
+/// That a rulebook does not bind. Want of memory is told only where it is the binding's.
 pub(crate) fn bind_stop(fault: BindFault) -> Stop
-    ensures { IfRefused result (λ refusal. (refusal ≡ bind_refusal fault) × (fault ≢ BindFault.NoMemory)) }
+    ensures refused { IfRefused result
+        (λ refusal. (refusal ≡ bind_refusal fault) × (fault ≢ BindFault.NoMemory)) }
+    ensures memory { result ≡ Stop.NoMemory → fault ≡ BindFault.NoMemory }
 {
     let (code, rule, position) = match fault {
         BindFault::NoMaster(rule) => (9, rule, 0),

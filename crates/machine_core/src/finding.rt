@@ -4,7 +4,7 @@ ghost use Rattle.std.specs.Str.{bytes_eq};
 ghost use Rattle.desk_words.specs.declared.refusal.Refusal.TheVariants.{NoSuch};
 ghost use Rattle.machine_core.specs.Checked.{some_or};
 ghost use Rattle.machine_core.specs.Finding.{newest_of, next_version, place_of};
-ghost use Rattle.machine_core.specs.Outcomes.{Finds};
+ghost use Rattle.machine_core.specs.Outcomes.{Finds, WantsNone};
 ghost use Rattle.machine_core.specs.Versions.{AreVersions, IsLastNamed};
 
 use crate::stop::Stop;
@@ -20,10 +20,12 @@ pub(crate) fn place_of<T: Versioned>(rows: &[T], name: &str, version: u32) -> Op
     rows.iter().position(|row| row.name().as_str() == name && row.version() == version)
 }
 
-/// The place of the row with this name and version, counted from 0; refused where no row of the kind has them.
+/// The place of the row with this name and version, counted from 0; refused where no row of the kind has them. No
+/// want of memory is answered.
 pub fn named<T: Versioned>(rows: &[T], name: &Str, version: u32, kind: Kind) -> Result<u32, Stop>
     requires { length rows.now < 2 ^ 31 }
     ensures finds { Finds result (some_or (place_of T.name_of T.version_of rows.now name.now version) (NoSuch kind)) }
+    ensures memory { WantsNone result }
     ensures within { IfOk result (λ place. place < length rows.now) }
 {
     match place_of(rows, name.as_str(), version) {

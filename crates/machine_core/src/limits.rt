@@ -1,7 +1,7 @@
 //! The limits that requests can meet.
 ghost use Rattle.std.specs.Prelude.{◌≡◌};
 ghost use Rattle.machine_core.specs.Limits.{limit_of, within};
-ghost use Rattle.machine_core.specs.Outcomes.{Finds};
+ghost use Rattle.machine_core.specs.Outcomes.{Finds, WantsNone};
 
 use crate::stop::Stop;
 use desk_base::{
@@ -30,9 +30,10 @@ fn limit_of(which: Which) -> u64
     }
 }
 
-/// So many would stand, and no more than may.
+/// So many would stand, and no more than may. No want of memory is answered.
 pub fn within(which: Which, count: u64) -> Result<(), Stop>
-    ensures { Finds result (within which count) }
+    ensures finds { Finds result (within which count) }
+    ensures memory { WantsNone result }
 {
     let most = limit_of(which);
     if count <= most {

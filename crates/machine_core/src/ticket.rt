@@ -1,7 +1,7 @@
 //! Whether a write is a new one, or the last one again.
 ghost use Rattle.std.specs.Prelude.{◌≡◌, ◌≤◌, ◌↔◌, IfOk, IsTrue};
 ghost use Rattle.desk_base.specs.declared.limits.TheConstants.{MAX_REQUEST};
-ghost use Rattle.machine_core.specs.Outcomes.{Finds};
+ghost use Rattle.machine_core.specs.Outcomes.{Finds, WantsNone};
 ghost use Rattle.machine_core.specs.Ticket.{IsNumbered, ticketed, use_of};
 
 use crate::stop::Stop;
@@ -29,10 +29,11 @@ pub fn is_numbered(command: &Command) -> bool
     }
 }
 
-/// Whether a write of a caller is a new one, or the last one again.
+/// Whether a write of a caller is a new one, or the last one again. No want of memory is answered.
 pub fn use_of(row: &ClerkRow, ticket: &Ticket) -> Result<Use, Stop>
     requires { row.now.last ≤ MAX_REQUEST }
-    ensures { Finds result (use_of row.now ticket.now) }
+    ensures finds { Finds result (use_of row.now ticket.now) }
+    ensures memory { WantsNone result }
 {
     let last = row.last;
     if ticket.number < last {

@@ -101,8 +101,8 @@ stale-listed rows caller event one again earlier later valid asked_it accepted w
         is.found in
         omega (arith, next.0)
 
--- a caller's accepted writes, from this one on, have numbers that go up by one
-numbers-from : (rows : Rows) (caller : Caller) (place : ℕ) (events : List Event) → AreValid rows
+-- a caller's accepted writes have numbers that go up by one, from the one behind the last
+pub numbers-from : (rows : Rows) (caller : Caller) (place : ℕ) (events : List Event) → AreValid rows
     → place_of rows caller ≡ done place → AreAnswered rows events
     → numbers_of caller events ≡ range_with_len ((own_of rows place).row.last + 1) (length (numbers_of caller events))
 numbers-from rows caller place [] valid found steps = refl
@@ -134,6 +134,7 @@ numbers-from rows caller place (event ∷ events) valid found steps =
           subst (λ told. Up (head told)) (sym quiet) whole
     ]
 
+-- and from one of them on
 pub numbers-listed : (rows : Rows) (caller : Caller) (event : Event) (events : List Event) → AreValid rows
     → is_write_of caller event ≡ true → AreAnswered rows (event ∷ events)
     → numbers_of caller (event ∷ events)

@@ -26,10 +26,14 @@ pub fn an_accepted_write_has_the_next_number(tables: &Tables, command: &Command)
         → number_of command.now ≡ own.row.last + 1 }
 {}
 
-/// In a list of requests the accepted writes of a caller have numbers that go up by one.
+/// In any list of requests the accepted writes of a caller have numbers that go up by one: from the number behind the
+/// last one in the caller's row on, and from one of them on, also where the clerk comes while the list goes on.
 pub fn accepted_numbers_go_up_by_one(tables: &Tables)
     requires { AreValid (rows_of tables.now) }
-    ensures { (caller : Caller) (event : Event) (events : List Event) → is_write_of caller event ≡ true
+    ensures all { (caller : Caller) (own : Own) (events : List Event)
+        → own_by (rows_of tables.now) caller ≡ done own → AreAnswered (rows_of tables.now) events
+        → numbers_of caller events ≡ range_with_len (own.row.last + 1) (length (numbers_of caller events)) }
+    ensures from_one_on { (caller : Caller) (event : Event) (events : List Event) → is_write_of caller event ≡ true
         → AreAnswered (rows_of tables.now) (event ∷ events)
         → numbers_of caller (event ∷ events)
         ≡ range_with_len (number_of event.command) (length (numbers_of caller (event ∷ events))) }

@@ -5,7 +5,7 @@ ghost use Rattle.desk_words.specs.Tables.{published_of, rows_of};
 ghost use Rattle.desk_words.specs.declared.command.Command.TheVariants.{Clerk, Look as LookAt};
 ghost use Rattle.desk_valid.specs.Valid.{AreValid};
 ghost use Rattle.machine_core.specs.Machine.{clerk_of, machine};
-ghost use Rattle.machine_core.specs.Outcomes.{Answers, Finds};
+ghost use Rattle.machine_core.specs.Outcomes.{Answers, Finds, WantsNone};
 ghost use Rattle.machine_core.specs.Own.{own_of};
 ghost use Rattle.machine_core.specs.Shelves.{AreHeld, IsFullRoom};
 ghost use Rattle.session_machine.specs.Booked.{IsBooked};
@@ -78,10 +78,11 @@ pub fn clerk_look(
     Ok((reply, List::new(alloc)))
 }
 
-/// The place of the clerk with this name, counted from 0; the steward is none.
+/// The place of the clerk with this name, counted from 0; the steward is none. No want of memory is answered.
 fn clerk_of(tables: &Tables, name: &Str) -> Result<u32, Stop>
     requires { AreValid (rows_of tables.now) }
     ensures finds { Finds result (clerk_of tables.now.clerks.items name.now) }
+    ensures memory { WantsNone result }
     ensures behind { IfOk result (λ place. 0 < place) }
     ensures within { IfOk result (λ place. place < length tables.now.clerks.items) }
 {

@@ -1,20 +1,22 @@
 //! The desk. A clause sees the rows of its tables and the shelf of its books.
-ghost use Rattle.std.specs.Prelude.{◌≡◌, ◌≢◌, ◌<◌, ◌≤◌, [], length, nat_eq, None, Some, IfErr, IfOk, IsSome};
+ghost use Rattle.std.specs.Prelude.{◌≡◌, ◌≢◌, ◌<◌, [], length, nat_eq, None, Some, IfErr, IfOk, IsSome};
 ghost use Rattle.std.specs.Prelude.{OnErr, OnOk};
 ghost use Rattle.std.specs.Map.{lookup};
+ghost use Rattle.desk_base.specs.Counts.{risen};
 ghost use Rattle.desk_words.specs.Changes.{changed_all};
 ghost use Rattle.desk_words.specs.Tables.{published_of, rows_of};
 ghost use Rattle.desk_valid.specs.Bindings.{bound_at};
 ghost use Rattle.desk_valid.specs.Valid.{AreValid};
-ghost use Rattle.keeper_core.specs.Keeping.{IfTold};
+ghost use Rattle.keeper_core.specs.Keeping.{IfTold, LoadsHeld, TellsNoMore};
 ghost use Rattle.master_index.specs.Held.{brought_first, put_first};
 ghost use Rattle.master_index.specs.declared.shelf.Shelved.{Shelved as ShelvedBook};
 ghost use Rattle.machine_core.specs.Machine.{machine};
 ghost use Rattle.machine_core.specs.Outcomes.{Answers};
 ghost use Rattle.machine_core.specs.Shelves.{AreHeld, IsFirst, IsFullRoom, bound_on};
-ghost use Rattle.machine_core.specs.Starting.{AreStarted, IsUnstarted, StartsAvailable};
+ghost use Rattle.machine_core.specs.Starting.{AreStarted, CountsStart, IsUnstarted, StartsAvailable};
 ghost use Rattle.machine_core.specs.Ticket.{IsNumbered, turn_of};
-ghost use Rattle.machine_core.specs.Weighing.{IsSettleable, IsWeighed, NeverUnavailable, UnavailableRises};
+ghost use Rattle.machine_core.specs.Weighing.{CallsOnce, CountsUnavailable, IsSettleable, IsWeighed};
+ghost use Rattle.machine_core.specs.Weighing.{NeverUnavailable};
 ghost use Rattle.session_machine.specs.Acting.{IsAct};
 ghost use Rattle.session_machine.specs.Booked.{IsBooked};
 
@@ -148,15 +150,16 @@ impl Desk {
     }
 
     /// Weighs a request, settles what it changes with the keeper, and answers the reply. Where the keeper failed or
-    /// there was no memory, that is the reply, and nothing is changed.
+    /// there was no memory, that is the reply, and nothing is changed. The keeper is called at most once, and not where
+    /// nothing is changed.
     pub fn act<K: Keeper>(&mut self, keeper: &mut K, command: &Command) -> Reply
         requires numbered { IsNumbered command.now }
         requires told { IfTold (K.tables keeper.old) self.old.rows }
-        ensures acts { IsAct self.old.rows self.new.rows command.now result (K.faults keeper.old)
-            (K.faults keeper.new) (keeper.new ≡ keeper.old) }
+        ensures acts { IsAct self.old.rows self.new.rows command.now result
+            (record { calls = K.calls keeper.old; faults = K.faults keeper.old })
+            (record { calls = K.calls keeper.new; faults = K.faults keeper.new }) (keeper.new ≡ keeper.old) }
         ensures booked { IsBooked self.old.rows command.now result self.new.shelf }
         ensures told { IfTold (K.tables keeper.new) self.new.rows }
-        ensures later { K.faults keeper.old ≤ K.faults keeper.new }
         ensures steady { K.is_steady keeper.old
             → (result ≢ Reply.Refused Refusal.Unavailable) × K.is_steady keeper.new }
     {
@@ -185,9 +188,11 @@ impl Machine for Desk {
         ensures started { IfOk result
             (λ desk. AreStarted (K.tables keeper.old) (K.tables keeper.new) desk.rows) }
         ensures shelf { IfOk result (λ desk. desk.shelf ≡ []) }
+        ensures kept { IfOk result (λ desk. LoadsHeld (K.holds keeper.old) (K.tables keeper.new) desk.rows) }
         ensures unstarted { IfErr result
             (IsUnstarted (K.tables keeper.old) (K.tables keeper.new) (K.faults keeper.old) (K.faults keeper.new)) }
-        ensures later { K.faults keeper.old ≤ K.faults keeper.new }
+        ensures called { K.calls keeper.new ≡ risen (K.calls keeper.old) }
+        ensures faults { CountsStart (K.faults keeper.old) (K.faults keeper.new) result }
         ensures steady { K.is_steady keeper.old → StartsAvailable result × K.is_steady keeper.new }
     {
         let tables = match keeper.load() {
@@ -231,10 +236,11 @@ impl Machine for Desk {
         ensures unchanged { OnErr result (self.new.rows ≡ self.old.rows) }
         ensures shelf { self.new.shelf ≡ self.old.shelf }
         ensures told { IfTold (K.tables keeper.new) self.new.rows }
+        ensures no_more { TellsNoMore (K.tables keeper.old) (K.tables keeper.new) }
         ensures idle { weighed.changes ≡ [] → keeper.new ≡ keeper.old }
         ensures idle_too { weighed.changes ≡ [] → OnErr result ⊥ }
-        ensures later { K.faults keeper.old ≤ K.faults keeper.new }
-        ensures cause { UnavailableRises (K.faults keeper.old) (K.faults keeper.new) result }
+        ensures called { CallsOnce weighed.changes (K.calls keeper.old) (K.calls keeper.new) result }
+        ensures faults { CountsUnavailable (K.faults keeper.old) (K.faults keeper.new) result }
         ensures steady { K.is_steady keeper.old → NeverUnavailable result × K.is_steady keeper.new }
     {
         let Weighed { reply, changes, .. } = weighed;

@@ -4,7 +4,7 @@ ghost use Rattle.desk_base.specs.declared.limits.TheConstants.{MAX_TEXT};
 ghost use Rattle.desk_words.specs.declared.limit.Which.TheVariants as which;
 ghost use Rattle.desk_valid.specs.Tallies.{bytes_in, text_bytes};
 ghost use Rattle.machine_core.specs.Limits.{within};
-ghost use Rattle.machine_core.specs.Outcomes.{Finds};
+ghost use Rattle.machine_core.specs.Outcomes.{Finds, WantsNone};
 
 use desk_base::Text;
 use desk_words::Which;
@@ -24,17 +24,20 @@ pub(crate) fn bytes_in(texts: &[Text]) -> u64
 }
 
 /// So many bytes come to a clerk's texts, and no more stand then than may. A sum that is too great to be counted is
-/// more than may.
+/// more than may. No want of memory is answered.
 pub(crate) fn within_bytes(own: &Own, come: u64) -> Result<(), Stop>
-    ensures { Finds result (within which.Bytes (text_bytes own.now.sessions own.now.records + come)) }
+    ensures finds { Finds result (within which.Bytes (text_bytes own.now.sessions own.now.records + come)) }
+    ensures memory { WantsNone result }
 {
     within(Which::Bytes, own.bytes().saturating_add(come))
 }
 
-/// So many bytes go from a clerk's texts and so many come to them, and no more stand then than may.
+/// So many bytes go from a clerk's texts and so many come to them, and no more stand then than may. No want of
+/// memory is answered.
 pub(crate) fn within_replaced(own: &Own, gone: u64, come: u64) -> Result<(), Stop>
     requires { gone ≤ text_bytes own.now.sessions own.now.records }
-    ensures { Finds result (within which.Bytes (text_bytes own.now.sessions own.now.records - gone + come)) }
+    ensures finds { Finds result (within which.Bytes (text_bytes own.now.sessions own.now.records - gone + come)) }
+    ensures memory { WantsNone result }
 {
     within(Which::Bytes, (own.bytes() - gone).saturating_add(come))
 }

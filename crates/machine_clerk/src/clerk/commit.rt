@@ -6,7 +6,7 @@ ghost use Rattle.fix_engine.specs.WorkSeen.{IsRoomFor, KeepsSize};
 ghost use Rattle.fix_model.specs.States.{Fits, record_of, uncovered_count};
 ghost use Rattle.machine_core.specs.Answers.{state_of};
 ghost use Rattle.machine_core.specs.Clerk.Commit.{accepted_record, accepts, commit, commit_rows, fixed_end};
-ghost use Rattle.machine_core.specs.Outcomes.{Answers, Finds};
+ghost use Rattle.machine_core.specs.Outcomes.{Answers, Finds, WantsNone};
 ghost use Rattle.machine_core.specs.Own.{IsOwn};
 ghost use Rattle.machine_core.specs.Shelves.{AreHeld, IsFullRoom, bound_on};
 
@@ -79,11 +79,12 @@ fn commit_rows(
     Ok((after, row))
 }
 
-/// The state at the end of the first run, where the rules make a fix of the state.
+/// The state at the end of the first run, where the rules make a fix of the state. No want of memory is answered.
 fn fixed_end(work: &mut Work, book: &SortedBook, mut state: State) -> Result<State, Stop>
     requires fits { Fits book.now state }
     requires room { IsRoomFor work.old book.now }
     ensures answers { Answers result (fixed_end book.now state) }
+    ensures memory { WantsNone result }
     ensures fits { IfOk result (Fits book.now) }
     ensures size { KeepsSize work.old work.new }
 {
@@ -118,9 +119,10 @@ fn accepted_record(
     })
 }
 
-/// So many uncovered attributes are accepted.
+/// So many uncovered attributes are accepted. No want of memory is answered.
 fn accepts(accept: Accept, uncovered: u64) -> Result<(), Stop>
-    ensures { Finds result (accepts accept uncovered) }
+    ensures finds { Finds result (accepts accept uncovered) }
+    ensures memory { WantsNone result }
 {
     match accept {
         Accept::Certain if uncovered > 0 => Err(Stop::Refused(Refusal::NotCertain(uncovered))),

@@ -13,7 +13,7 @@ ghost use Rattle.desk_valid.specs.Readings.{rules_at};
 ghost use Rattle.desk_valid.specs.Bindings.{AreBindable};
 ghost use Rattle.desk_valid.specs.Valid.{AreValid};
 ghost use Rattle.machine_core.specs.Checked.{each_behind, unless};
-ghost use Rattle.machine_core.specs.Outcomes.{Finds};
+ghost use Rattle.machine_core.specs.Outcomes.{Finds, WantsNone};
 ghost use Rattle.machine_core.specs.Steward.AddEdition.{AreOthers, another_master, bindable, edition_row, in_order};
 ghost use Rattle.machine_core.specs.Steward.AddEdition.{next_edition, master_name, narrow};
 
@@ -183,9 +183,10 @@ fn narrow(alloc: Global, parts: &Parts, folded: &[u16]) -> Result<(), Stop>
     }
 }
 
-/// An index has so many entries, and no more than it may.
+/// An index has so many entries, and no more than it may. No want of memory is answered.
 fn few_entries(entries: u64) -> Result<(), Stop>
-    ensures { Finds result (unless (nat_le entries MAX_ENTRIES) (BadText reader.Index 1 entries 0)) }
+    ensures finds { Finds result (unless (nat_le entries MAX_ENTRIES) (BadText reader.Index 1 entries 0)) }
+    ensures memory { WantsNone result }
 {
     if entries <= MAX_ENTRIES {
         Ok(())

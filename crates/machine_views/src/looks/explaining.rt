@@ -8,7 +8,7 @@ ghost use Rattle.fix_model.specs.States.{Fits};
 ghost use Rattle.machine_core.specs.Checked.{Gives};
 ghost use Rattle.machine_core.specs.Clerk.Commit.{not_in_conflict};
 ghost use Rattle.machine_core.specs.Look.Explain.{explain, explained_on, explanation_of, fixed_at};
-ghost use Rattle.machine_core.specs.Outcomes.{Answers, Finds};
+ghost use Rattle.machine_core.specs.Outcomes.{Answers, Finds, WantsNone};
 ghost use Rattle.machine_core.specs.Own.{IsOwn};
 ghost use Rattle.machine_core.specs.Shelves.{AreHeld, IsFullRoom, bound_on};
 ghost use Rattle.machine_views.specs.Answered.{IsNamedBook, Suits};
@@ -72,9 +72,10 @@ fn explained_on(
     Ok(explanation_of(alloc, shelved, &state, work.first(), attribute)?)
 }
 
-/// The verdict is a fix.
+/// The verdict is a fix. No want of memory is answered.
 fn not_in_conflict(verdict: Verdict) -> Result<(), Stop>
-    ensures { Finds result (not_in_conflict verdict) }
+    ensures finds { Finds result (not_in_conflict verdict) }
+    ensures memory { WantsNone result }
 {
     match verdict {
         Verdict::Fix { .. } => Ok(()),

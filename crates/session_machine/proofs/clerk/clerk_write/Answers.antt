@@ -54,7 +54,7 @@ repeated-requires-clause-own c = own-there c.args.totalled.now (rows_of c.tables
 pub repeated-requires-clause-started : goal.repeated-requires-clause-started
 repeated-requires-clause-started c =
     let turn : use_of c.row.result.now c.args.ticket.now ≡ done Repeated =
-    c.in_ok-used.ensures ∙ ap (λ (used : Use). done used) c.in-Repeated.is in
+    c.in_ok-used.ensures.finds ∙ ap (λ (used : Use). done used) c.in-Repeated.is in
     omega (
       arith,
       use-again c.row.result.now c.args.ticket.now turn,
@@ -87,20 +87,21 @@ pub returns-in_err-used-clause-answers : goal.returns-in_err-used-clause-answers
 returns-in_err-used-clause-answers c = write-stopped c.args.totalled.now (rows_of c.tables-tables.result.now)
     c.tables-tables.ensures.tables c.in_ok-place.place c.own_at-own.result c.own_at-own.ensures c.row.result.now
     c.row.ensures c.args.name.now c.args.ticket.now c.args.work.now c.from_residual-in_err-used.result
-    c.in_ok-place.ensures.finds c.in_err-used.field-0.0 c.from_residual-in_err-used.ensures.1 c.in_err-used.ensures
+    c.in_ok-place.ensures.finds c.in_err-used.field-0.0 c.from_residual-in_err-used.ensures.1
+    c.in_err-used.ensures.finds
 
 pub returns-in-Repeated-clause-answers : goal.returns-in-Repeated-clause-answers
 returns-in-Repeated-clause-answers c = write-told c.args.totalled.now (rows_of c.tables-tables.result.now)
     c.tables-tables.ensures.tables c.in_ok-place.place c.own_at-own.result c.own_at-own.ensures c.row.result.now
     c.row.ensures c.args.name.now c.args.ticket.now c.args.work.now c.repeated.result c.in_ok-place.ensures.finds
-    Repeated (c.in_ok-used.ensures ∙ ap (λ (used : Use). done used) c.in-Repeated.is)
+    Repeated (c.in_ok-used.ensures.finds ∙ ap (λ (used : Use). done used) c.in-Repeated.is)
     (c.repeated.ensures.answers c.args.ticket.now c.args.work.now)
 
 pub returns-in-Fresh-clause-answers : goal.returns-in-Fresh-clause-answers
 returns-in-Fresh-clause-answers c = write-told c.args.totalled.now (rows_of c.tables-tables.result.now)
     c.tables-tables.ensures.tables c.in_ok-place.place c.own_at-own.result c.own_at-own.ensures c.row.result.now
     c.row.ensures c.args.name.now c.args.ticket.now c.args.work.now c.fresh.result c.in_ok-place.ensures.finds
-    Fresh (c.in_ok-used.ensures ∙ ap (λ (used : Use). done used) c.in-Fresh.is) c.fresh.ensures.answers
+    Fresh (c.in_ok-used.ensures.finds ∙ ap (λ (used : Use). done used) c.in-Fresh.is) c.fresh.ensures.answers
 
 pub returns-in-Repeated-clause-held : goal.returns-in-Repeated-clause-held
 returns-in-Repeated-clause-held c =

@@ -24,7 +24,7 @@ use_of-requires c =
 pub repeated-requires-clause-started : goal.repeated-requires-clause-started
 repeated-requires-clause-started c =
     let turn : use_of c.steward_of.result.now c.args.ticket.now ≡ done Repeated =
-    c.in_ok-use_of.ensures ∙ ap (λ (used : Use). done used) c.in-Repeated.is in
+    c.in_ok-use_of.ensures.finds ∙ ap (λ (used : Use). done used) c.in-Repeated.is in
     omega (
       arith,
       use-again c.steward_of.result.now c.args.ticket.now turn,
@@ -40,7 +40,7 @@ returns-in_err-use_of-clause-answers c =
     c.steward_of.ensures ∙ ap (λ (one : Rows). (own_of one 0).row) c.tables-tables.ensures.tables in
     let Stops : ClerkRow → Type 0 = λ one. Finds {A = Use} (Err stop) (use_of one c.args.ticket.now) in
     write-untimely rows c.args.ticket.now c.args.work.now stop c.from_residual.result c.from_residual.ensures.1
-    (subst Stops row c.in_err-use_of.ensures)
+    (subst Stops row c.in_err-use_of.ensures.finds)
 
 pub returns-in-Repeated-clause-answers : goal.returns-in-Repeated-clause-answers
 returns-in-Repeated-clause-answers c =
@@ -48,7 +48,7 @@ returns-in-Repeated-clause-answers c =
     let rows : Rows = rows_of c.tables-tables.result.now in
     let row : (own_of rows 0).row ≡ c.steward_of.result.now = sym c.steward_of.ensures in
     let turn : use_of (own_of rows 0).row c.args.ticket.now ≡ done Repeated =
-    ap (λ (one : ClerkRow). use_of one c.args.ticket.now) row ∙ c.in_ok-use_of.ensures
+    ap (λ (one : ClerkRow). use_of one c.args.ticket.now) row ∙ c.in_ok-use_of.ensures.finds
     ∙ ap (λ (used : Use). done used) c.in-Repeated.is in
     let Told : Rows → Type 0 = λ one. Answers result (machine one (Steward c.args.ticket.now c.args.work.now)) in
     subst Told c.tables-tables.ensures.tables (subst (Answers result)
@@ -68,7 +68,7 @@ returns-in-Fresh-clause-answers c =
     let row : (own_of rows 0).row ≡ c.steward_of.result.now =
     sym (c.steward_of.ensures ∙ ap (λ (one : Rows). (own_of one 0).row) c.tables-tables.ensures.tables) in
     let turn : use_of (own_of rows 0).row c.args.ticket.now ≡ done Fresh =
-    ap (λ (one : ClerkRow). use_of one c.args.ticket.now) row ∙ c.in_ok-use_of.ensures
+    ap (λ (one : ClerkRow). use_of one c.args.ticket.now) row ∙ c.in_ok-use_of.ensures.finds
     ∙ ap (λ (used : Use). done used) c.in-Fresh.is in
     subst (Answers c.fresh.result) (sym (write-timely rows c.args.ticket.now c.args.work.now Fresh turn))
     c.fresh.ensures.answers

@@ -36,14 +36,14 @@ returns-in_err-within_bytes c =
     let heading = c.args.heading.now in
     let session_of = row_session heading.edition heading.width (length own.batches + 1) heading.columns.now in
     let sessions = rw (c.sessions-2.ensures, c.batches-2.ensures) at c.in_ok-sessions.ensures.sessions in
-    let rows = rw (c.from.ensures, c.rows-count.ensures.rows) at c.in_ok-within.ensures in
-    let active = rw (c.active.ensures, c.from-2.ensures, c.rows-count.ensures.rows) at c.in_ok-within-2.ensures in
-    let all = rw (c.sessions.ensures, c.from-3.ensures, c.rows-count.ensures.rows) at c.in_ok-within-3.ensures in
-    let batches = rw c.batches.ensures at c.in_ok-within-4.ensures in
+    let rows = rw (c.from.ensures, c.rows-count.ensures.rows) at c.in_ok-within.ensures.finds in
+    let active = rw (c.active.ensures, c.from-2.ensures, c.rows-count.ensures.rows) at c.in_ok-within-2.ensures.finds in
+    let all = rw (c.sessions.ensures, c.from-3.ensures, c.rows-count.ensures.rows) at c.in_ok-within-3.ensures.finds in
+    let batches = rw c.batches.ensures at c.in_ok-within-4.ensures.finds in
     let typed = c.typed_bytes.ensures ∙ ap (λ puts. typed_bytes (map (λ put. put.1) puts))
     (c.as_slice.ensures ∙ sessions)
     ∙ ap typed_bytes (placed-sessions (length own.sessions) (map session_of c.args.grid.now.rows)) in
-    let bytes = rw typed at c.in_err-within_bytes.ensures in
+    let bytes = rw typed at c.in_err-within_bytes.ensures.finds in
     rw (rows, active, all, batches) (Finds-stopped _ _ c.in_err-within_bytes.field-0.0
     c.from_residual-in_err-within_bytes.result c.from_residual-in_err-within_bytes.ensures.1 bytes)
 
@@ -53,14 +53,14 @@ returns c =
     let heading = c.args.heading.now in
     let session_of = row_session heading.edition heading.width (length own.batches + 1) heading.columns.now in
     let sessions = rw (c.sessions-2.ensures, c.batches-2.ensures) at c.in_ok-sessions.ensures.sessions in
-    let rows = rw (c.from.ensures, c.rows-count.ensures.rows) at c.in_ok-within.ensures in
-    let active = rw (c.active.ensures, c.from-2.ensures, c.rows-count.ensures.rows) at c.in_ok-within-2.ensures in
-    let all = rw (c.sessions.ensures, c.from-3.ensures, c.rows-count.ensures.rows) at c.in_ok-within-3.ensures in
-    let batches = rw c.batches.ensures at c.in_ok-within-4.ensures in
+    let rows = rw (c.from.ensures, c.rows-count.ensures.rows) at c.in_ok-within.ensures.finds in
+    let active = rw (c.active.ensures, c.from-2.ensures, c.rows-count.ensures.rows) at c.in_ok-within-2.ensures.finds in
+    let all = rw (c.sessions.ensures, c.from-3.ensures, c.rows-count.ensures.rows) at c.in_ok-within-3.ensures.finds in
+    let batches = rw c.batches.ensures at c.in_ok-within-4.ensures.finds in
     let typed = c.typed_bytes.ensures ∙ ap (λ puts. typed_bytes (map (λ put. put.1) puts))
     (c.as_slice.ensures ∙ sessions)
     ∙ ap typed_bytes (placed-sessions (length own.sessions) (map session_of c.args.grid.now.rows)) in
-    let bytes = rw typed at c.in_ok-within_bytes.ensures in
+    let bytes = rw typed at c.in_ok-within_bytes.ensures.finds in
     rw (
       rows,
       active,

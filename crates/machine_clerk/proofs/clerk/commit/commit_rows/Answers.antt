@@ -69,7 +69,7 @@ returns-in_err-within_bytes-clause-answers c =
     let published = published_of (rows_of c.args.tables.now) in
     let bound = c.shelved-shelved.ensures.bound published c.in_ok-session.ensures.held in
     let gives = rw c.in_ok-state_of.ensures.state at c.in_ok-end.ensures.answers in
-    let bytes = rw (c.bytes_in.ensures.bytes, c.as_slice.ensures) at c.in_err-within_bytes.ensures in
+    let bytes = rw (c.bytes_in.ensures.bytes, c.as_slice.ensures) at c.in_err-within_bytes.ensures.finds in
     commit-recorded published c.args.own.now c.args.number c.args.accept c.in_ok-session.session.now
     (bound_on c.shelved-shelved.result.now) c.in_ok-end.end c.from_residual-in_err-within_bytes.result
     c.in_ok-session.ensures.finds bound gives (rw c.in_ok-row.ensures.finds (Finds-stopped _ _
@@ -81,7 +81,7 @@ returns-clause-answers c =
     let published = published_of (rows_of c.args.tables.now) in
     let bound = c.shelved-shelved.ensures.bound published c.in_ok-session.ensures.held in
     let gives = rw c.in_ok-state_of.ensures.state at c.in_ok-end.ensures.answers in
-    let bytes = rw (c.bytes_in.ensures.bytes, c.as_slice.ensures) at c.in_ok-within_bytes.ensures in
+    let bytes = rw (c.bytes_in.ensures.bytes, c.as_slice.ensures) at c.in_ok-within_bytes.ensures.finds in
     commit-recorded published c.args.own.now c.args.number c.args.accept c.in_ok-session.session.now
     (bound_on c.shelved-shelved.result.now) c.in_ok-end.end
     (Ok (record c.in_ok-after.after { stage = Committed }, c.in_ok-row.row))

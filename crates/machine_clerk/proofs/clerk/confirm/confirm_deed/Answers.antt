@@ -51,7 +51,7 @@ returns-in_err-within_replaced-clause-finds c =
     ∙ ap (λ session. bytes_in session.typed) is in
     let come = c.bytes_in.ensures.bytes ∙ ap bytes_in c.as_slice-2.ensures in
     let replaced = bytes-replaced sessions c.args.own.now.records place c.in_ok-session.session old within in
-    let bytes = rw (gone, come, replaced) at c.in_err-within_replaced.ensures in
+    let bytes = rw (gone, come, replaced) at c.in_err-within_replaced.ensures.finds in
     rw c.in_ok-session.ensures.finds (Finds-stopped _ _ c.in_err-within_replaced.field-0.0
     c.from_residual-in_err-within_replaced.result c.from_residual-in_err-within_replaced.ensures.1 bytes)
 
@@ -67,5 +67,5 @@ returns-clause-finds c =
     ∙ ap (λ session. bytes_in session.typed) is in
     let come = c.bytes_in.ensures.bytes ∙ ap bytes_in c.as_slice-2.ensures in
     let replaced = bytes-replaced sessions c.args.own.now.records place c.in_ok-session.session old within in
-    let bytes = rw (gone, come, replaced) at c.in_ok-within_replaced.ensures in
+    let bytes = rw (gone, come, replaced) at c.in_ok-within_replaced.ensures.finds in
     rw (c.in_ok-session.ensures.finds, bytes, c.in_ok-puts.ensures) refl

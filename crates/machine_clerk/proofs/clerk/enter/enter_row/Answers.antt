@@ -33,7 +33,7 @@ returns-in_err-within-clause-finds c =
     let bound = c.shelved.ensures.bound (published_of (rows_of c.args.tables.now)) c.in_ok-place.ensures.held in
     let texts = rw c.as_slice-attributes.ensures at c.in_ok-texts.ensures.finds in
     let places = rw c.as_slice-attributes.ensures at c.in_ok-places.ensures in
-    let active = rw c.active.ensures at c.in_err-within.ensures in
+    let active = rw c.active.ensures at c.in_err-within.ensures.finds in
     rw (c.in_ok-place.ensures.finds, bound, texts, places) (Finds-stopped _ _ c.in_err-within.field-0.0
     c.from_residual-in_err-within.result c.from_residual-in_err-within.ensures.1 active)
 
@@ -42,8 +42,8 @@ returns-in_err-within-2-clause-finds c =
     let bound = c.shelved.ensures.bound (published_of (rows_of c.args.tables.now)) c.in_ok-place.ensures.held in
     let texts = rw c.as_slice-attributes.ensures at c.in_ok-texts.ensures.finds in
     let places = rw c.as_slice-attributes.ensures at c.in_ok-places.ensures in
-    let active = rw c.active.ensures at c.in_ok-within.ensures in
-    let sessions = rw c.sessions.ensures at c.in_err-within-2.ensures in
+    let active = rw c.active.ensures at c.in_ok-within.ensures.finds in
+    let sessions = rw c.sessions.ensures at c.in_err-within-2.ensures.finds in
     rw (c.in_ok-place.ensures.finds, bound, texts, places, active) (Finds-stopped _ _ c.in_err-within-2.field-0.0
     c.from_residual-in_err-within-2.result c.from_residual-in_err-within-2.ensures.1 sessions)
 
@@ -75,10 +75,10 @@ returns-in_err-within_bytes-clause-finds c =
     let bound = c.shelved.ensures.bound (published_of (rows_of c.args.tables.now)) c.in_ok-place.ensures.held in
     let texts = rw c.as_slice-attributes.ensures at c.in_ok-texts.ensures.finds in
     let places = rw c.as_slice-attributes.ensures at c.in_ok-places.ensures in
-    let active = rw c.active.ensures at c.in_ok-within.ensures in
-    let sessions = rw c.sessions.ensures at c.in_ok-within-2.ensures in
+    let active = rw c.active.ensures at c.in_ok-within.ensures.finds in
+    let sessions = rw c.sessions.ensures at c.in_ok-within-2.ensures.finds in
     let session = rw (c.as_slice.ensures, c.as_slice-attributes.ensures) at c.in_ok-session.ensures in
-    let bytes = rw (c.bytes_in.ensures.bytes, c.as_slice-2.ensures, session) at c.in_err-within_bytes.ensures in
+    let bytes = rw (c.bytes_in.ensures.bytes, c.as_slice-2.ensures, session) at c.in_err-within_bytes.ensures.finds in
     rw (c.in_ok-place.ensures.finds, bound, texts, places, active, sessions) (Finds-stopped _ _
     c.in_err-within_bytes.field-0.0 c.from_residual-in_err-within_bytes.result
     c.from_residual-in_err-within_bytes.ensures.1 bytes)
@@ -88,8 +88,8 @@ returns-clause-finds c =
     let bound = c.shelved.ensures.bound (published_of (rows_of c.args.tables.now)) c.in_ok-place.ensures.held in
     let texts = rw c.as_slice-attributes.ensures at c.in_ok-texts.ensures.finds in
     let places = rw c.as_slice-attributes.ensures at c.in_ok-places.ensures in
-    let active = rw c.active.ensures at c.in_ok-within.ensures in
-    let sessions = rw c.sessions.ensures at c.in_ok-within-2.ensures in
+    let active = rw c.active.ensures at c.in_ok-within.ensures.finds in
+    let sessions = rw c.sessions.ensures at c.in_ok-within-2.ensures.finds in
     let session = rw (c.as_slice.ensures, c.as_slice-attributes.ensures) at c.in_ok-session.ensures in
-    let bytes = rw (c.bytes_in.ensures.bytes, c.as_slice-2.ensures, session) at c.in_ok-within_bytes.ensures in
+    let bytes = rw (c.bytes_in.ensures.bytes, c.as_slice-2.ensures, session) at c.in_ok-within_bytes.ensures.finds in
     rw (c.in_ok-place.ensures.finds, bound, texts, places, active, sessions, bytes, session) refl

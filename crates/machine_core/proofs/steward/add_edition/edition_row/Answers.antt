@@ -11,7 +11,7 @@ pub returns-in_err-bindable : goal.returns-in_err-bindable
 returns-in_err-bindable c =
     let book = rw c.as_slice.ensures at c.in_ok-book.ensures.finds in
     let attributes = rw c.as_slice-2.ensures at c.in_ok-attributes.ensures.finds in
-    let few = rw c.len.ensures at c.in_ok-within-2.ensures in
+    let few = rw c.len.ensures at c.in_ok-within-2.ensures.finds in
     let row = rw (c.in_ok-folded.ensures, c.as_slice-3.ensures, c.len-2.ensures) at c.in_ok-row.ensures in
     let binds = rw (row, c.in_ok-rules.ensures.rules) at c.in_err-bindable.ensures in
     rw (
@@ -19,7 +19,7 @@ returns-in_err-bindable c =
       book,
       c.in_ok-rules.ensures.rules,
       attributes,
-      c.in_ok-within.ensures,
+      c.in_ok-within.ensures.finds,
       c.in_ok-places.ensures.finds,
       few,
     )
@@ -30,7 +30,7 @@ pub returns : goal.returns
 returns c =
     let book = rw c.as_slice.ensures at c.in_ok-book.ensures.finds in
     let attributes = rw c.as_slice-2.ensures at c.in_ok-attributes.ensures.finds in
-    let few = rw c.len.ensures at c.in_ok-within-2.ensures in
+    let few = rw c.len.ensures at c.in_ok-within-2.ensures.finds in
     let row = rw (c.in_ok-folded.ensures, c.as_slice-3.ensures, c.len-2.ensures) at c.in_ok-row.ensures in
     let binds = rw (row, c.in_ok-rules.ensures.rules) at c.in_ok-bindable.ensures in
     rw (
@@ -38,7 +38,7 @@ returns c =
       book,
       c.in_ok-rules.ensures.rules,
       attributes,
-      c.in_ok-within.ensures,
+      c.in_ok-within.ensures.finds,
       c.in_ok-places.ensures.finds,
       few,
       binds,

@@ -22,4 +22,4 @@ returns-in-Ok-clause-few c =
 
 pub returns-in-Err-clause-finds : goal.returns-in-Err-clause-finds
 returns-in-Err-clause-finds c =
-    cells-fault c.args.sheet.now c.in-Err.fault c.sheet_stop.result c.sheet_stop.ensures c.in-Err.ensures.fault
+    cells-fault c.args.sheet.now c.in-Err.fault c.sheet_stop.result c.sheet_stop.ensures.refused c.in-Err.ensures.fault

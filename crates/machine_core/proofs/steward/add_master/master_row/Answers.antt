@@ -14,8 +14,8 @@ pub returns-in_err-within-2 : goal.returns-in_err-within-2
 returns-in_err-within-2 c =
     let read = rw c.as_slice.ensures at c.in_ok-brought.ensures.finds in
     let found = cells-found (read_sheet c.args.body.now) c.in_ok-brought.brought read in
-    let more = rw (c.requires.cells, sym found.2) at c.in_err-within-2.ensures in
-    rw (c.in_ok-proper_name.ensures.finds, found.1, c.in_ok-within.ensures)
+    let more = rw (c.requires.cells, sym found.2) at c.in_err-within-2.ensures.finds in
+    rw (c.in_ok-proper_name.ensures.finds, found.1, c.in_ok-within.ensures.finds)
     (Finds-stopped _ _ c.in_err-within-2.field-0.0 c.from_residual-in_err-within-2.result
     c.from_residual-in_err-within-2.ensures.1 more)
 
@@ -23,11 +23,11 @@ pub returns : goal.returns
 returns c =
     let read = rw c.as_slice.ensures at c.in_ok-brought.ensures.finds in
     let found = cells-found (read_sheet c.args.body.now) c.in_ok-brought.brought read in
-    let cells = rw (c.requires.cells, sym found.2) at c.in_ok-within-2.ensures in
+    let cells = rw (c.requires.cells, sym found.2) at c.in_ok-within-2.ensures.finds in
     rw (
       c.in_ok-proper_name.ensures.finds,
       found.1,
-      c.in_ok-within.ensures,
+      c.in_ok-within.ensures.finds,
       cells,
       c.next_version-version.ensures,
       c.as_str.ensures.text,

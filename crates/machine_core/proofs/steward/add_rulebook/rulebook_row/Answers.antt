@@ -20,7 +20,7 @@ pub returns-in_err-within : goal.returns-in_err-within
 returns-in_err-within c =
     let place = rw c.as_slice.ensures at c.in_ok-place.ensures.finds in
     let read = rw c.as_slice-2.ensures at c.in_ok-read_rulebook.ensures.finds in
-    let few = rw c.as_slice-rulebooks.ensures at c.in_err-within.ensures in
+    let few = rw c.as_slice-rulebooks.ensures at c.in_err-within.ensures.finds in
     rw (c.in_ok-proper_name.ensures.finds, place, c.in_ok-read.ensures.schema, read)
     (Finds-stopped (within which.Rulebooks (length c.args.tables.now.rulebooks.items + 1)) _ c.in_err-within.field-0.0
     c.from_residual-in_err-within.result c.from_residual-in_err-within.ensures.1 few)
@@ -33,7 +33,7 @@ pub returns : goal.returns
 returns c =
     let place = rw c.as_slice.ensures at c.in_ok-place.ensures.finds in
     let read = rw c.as_slice-2.ensures at c.in_ok-read_rulebook.ensures.finds in
-    let few = rw c.as_slice-rulebooks.ensures at c.in_ok-within.ensures in
+    let few = rw c.as_slice-rulebooks.ensures at c.in_ok-within.ensures.finds in
     rw (
       c.in_ok-proper_name.ensures.finds,
       place,

@@ -6,7 +6,7 @@ returns c =
     let read = rw c.as_slice.ensures at c.in_ok-schema.ensures.finds in
     rw (
       read,
-      c.in_ok-within.ensures,
+      c.in_ok-within.ensures.finds,
       c.next_version-version.ensures,
       c.as_str.ensures.text,
       c.in_ok-copy.ensures.copied,

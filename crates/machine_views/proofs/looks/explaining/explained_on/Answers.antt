@@ -18,7 +18,7 @@ returns-in_err-not_in_conflict-clause-explained c =
     explained-conflicting (bound_on c.args.shelved.now) c.args.session.now c.args.word.now c.in_ok-attribute.field-0
     (answer_in c.answer_to.new.work c.in_ok-answered.answered.verdict) found c.in_ok-answered.ensures.answered.answer
     c.in_err-not_in_conflict.field-0.0 c.from_residual-in_err-not_in_conflict.result
-    c.from_residual-in_err-not_in_conflict.ensures.1 c.in_err-not_in_conflict.ensures
+    c.from_residual-in_err-not_in_conflict.ensures.1 c.in_err-not_in_conflict.ensures.finds
 
 pub returns-in_err-fixed_at-clause-explained : goal.returns-in_err-fixed_at-clause-explained
 returns-in_err-fixed_at-clause-explained c =
@@ -31,9 +31,10 @@ returns-in_err-fixed_at-clause-explained c =
     let stop = c.in_err-fixed_at.field-0.0 in
     let found = rw c.as_slice.ensures at c.in_ok-attribute.ensures.finds in
     let end = c.in_ok-answered.ensures.answered.shown
-    ∙ end-shown bound state answer verdict c.in_ok-not_in_conflict.ensures in
+    ∙ end-shown bound state answer verdict c.in_ok-not_in_conflict.ensures.finds in
     explained-unfixed bound c.args.session.now word attribute answer found c.in_ok-answered.ensures.answered.answer stop
-    c.from_residual-in_err-fixed_at.result c.from_residual-in_err-fixed_at.ensures.1 c.in_ok-not_in_conflict.ensures
+    c.from_residual-in_err-fixed_at.result c.from_residual-in_err-fixed_at.ensures.1
+    c.in_ok-not_in_conflict.ensures.finds
     (subst (λ (one : State). Finds {A = Unit {0}} (Err stop) (fixed_at one attribute word)) end
     c.in_err-fixed_at.ensures)
 
@@ -46,7 +47,7 @@ explanation_of-requires-clause-fixed c =
     let attribute = c.in_ok-attribute.field-0 in
     let word = c.args.word.now in
     let end = c.in_ok-answered.ensures.answered.shown
-    ∙ end-shown bound state (answer_in work verdict) verdict c.in_ok-not_in_conflict.ensures in
+    ∙ end-shown bound state (answer_in work verdict) verdict c.in_ok-not_in_conflict.ensures.finds in
     rw (c.in_ok-state.ensures.state, c.first.ensures) (fixed-is (end_of bound.kit state work.first) attribute word
     (subst (λ (one : State). fixed_at one attribute word ≡ done tt) end c.in_ok-fixed_at.ensures))
 
@@ -80,8 +81,8 @@ returns-clause-explained c =
     let word = c.args.word.now in
     let found = rw c.as_slice.ensures at c.in_ok-attribute.ensures.finds in
     let end = c.in_ok-answered.ensures.answered.shown
-    ∙ end-shown bound state answer verdict c.in_ok-not_in_conflict.ensures in
+    ∙ end-shown bound state answer verdict c.in_ok-not_in_conflict.ensures.finds in
     explained-fixed bound c.args.session.now word attribute answer found c.in_ok-answered.ensures.answered.answer
-    (Ok c.in_ok-explanation_of.field-0) c.in_ok-not_in_conflict.ensures
+    (Ok c.in_ok-explanation_of.field-0) c.in_ok-not_in_conflict.ensures.finds
     (subst (λ (one : State). fixed_at one attribute word ≡ done tt) end c.in_ok-fixed_at.ensures)
     (rw (c.in_ok-state.ensures.state, c.first.ensures) at c.in_ok-explanation_of.ensures)
