@@ -13,7 +13,7 @@ use Rattle.machine_core.proofs.Chains.{Gives-unique}
 use Rattle.http_cut.specs.declared.step.BadRest.{BadRest}
 use Rattle.http_cut.specs.declared.step.BadRest.TheVariants as bad_rest
 use Rattle.http_cut.specs.Cut.{WholeRequest, Begins, End, clean, bad, truncated, IsCut}
-use Rattle.http_cut.proofs.Cuts.{IsCut_unique}
+use Rattle.http_cut.proofs.Cuts.{Begins-more, IsCut_unique}
 use Rattle.http_desk.specs.declared.declined.Declined.{Declined}
 use Rattle.http_desk.specs.declared.serving.Ended.{Ended}
 use Rattle.http_desk.specs.declared.serving.Ended.TheVariants as ended
@@ -24,7 +24,7 @@ use Rattle.http_desk.specs.Commands.{command_for}
 use Rattle.http_desk.specs.Replies.{declined_text, reply_text}
 use Rattle.http_desk.specs.Scenes.{Scene}
 use Rattle.http_desk.specs.Streams.{Streams, IsOwnEnd, AnswersAll}
-use Rattle.http_desk.proofs.Cutting.{Begins-more, Begins-first, Begins-one}
+use Rattle.http_desk.proofs.Cutting.{Begins-first, Begins-one}
 
 -- the machine gives one step
 step_one : (rows : Rows) (command : Command) (reply other : Reply) (changes others : List Change)

@@ -5,26 +5,10 @@ use Rattle.httparse.specs.Grammar.{RequestHead}
 use Rattle.http_cut.specs.declared.step.BadRest.{BadRest}
 use Rattle.http_cut.specs.declared.step.BadRest.TheVariants.{BadHead, Chunked, BodyLong}
 use Rattle.http_cut.specs.Head.{HasHead, AsksHead}
-use Rattle.http_cut.specs.Cut.{WholeRequest, BeginsRequest, Begins, IsOpen, IsBadRest, End, clean, truncated}
+use Rattle.http_cut.specs.Cut.{WholeRequest, BeginsRequest, Begins, IsBadRest, End}
 use Rattle.http_cut.specs.Cut.{IsEnd}
 use Rattle.http_cut.proofs.Heads.{HasHead-append, HasHead_same, NeverHasHead-append}
-use Rattle.http_cut.proofs.Cuts.{BeginsRequest-append, BeginsRequest_unique, request_is_no_end}
-
--- one more request
-pub Begins-push : (bytes : List ℕ) (requests : List WholeRequest) (middle : List ℕ) (request : WholeRequest)
-    (rest : List ℕ) → Begins bytes requests middle → BeginsRequest middle request.0 request.1 rest
-    → Begins bytes (requests ++ request ∷ []) rest
-Begins-push bytes [] middle request rest same whole =
-    (rest, subst (λ (all : List ℕ). BeginsRequest all request.0 request.1 rest) (sym same) whole, refl)
-Begins-push bytes (first ∷ requests) middle request rest h whole =
-    (h.0, h.1, Begins-push h.0 requests middle request rest h.2 whole)
-
--- the requests stay as bytes come
-pub Begins-more : (bytes : List ℕ) (requests : List WholeRequest) (rest more : List ℕ) → Begins bytes requests rest
-    → Begins (bytes ++ more) requests (rest ++ more)
-Begins-more bytes [] rest more same = ap (λ (all : List ℕ). all ++ more) same
-Begins-more bytes (first ∷ requests) rest more h =
-    (h.0 ++ more, BeginsRequest-append bytes more first.0 first.1 h.0 h.1, Begins-more h.0 requests rest more h.2)
+use Rattle.http_cut.proofs.Cuts.{BeginsRequest_unique, request_is_no_end}
 
 -- requests that stand at the front of cut bytes are the first of the cut
 pub Begins-first : (bytes : List ℕ) (requests all : List WholeRequest) (rest last : List ℕ) (end : End)
@@ -76,8 +60,3 @@ AsksHead-append bytes more kind wrong = (
   λ asks. (asks.0, HasHead-append bytes more asks.0 asks.1, asks.2),
   λ asks. asks_then bytes more kind wrong asks,
 )
-
--- bytes that are open end in a kind
-pub open_end : (bytes : List ℕ) → IsOpen bytes → (end : End) × IsEnd bytes end
-open_end [] is_open = (clean, refl)
-open_end (byte ∷ bytes) is_open = (truncated (length (byte ∷ bytes)), ((λ e. cc), refl, is_open))

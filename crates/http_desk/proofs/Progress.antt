@@ -1,5 +1,6 @@
 -- How the progress of a stream goes on: bytes are taken, requests are answered.
-use Rattle.std.proofs.Common.{◌≡◌, ◌∙◌, ℕ, ◌+◌, ◌==◌, List, [], ◌∷◌, ◌++◌, length, refl, ap, sym, subst, arith}
+use Rattle.std.proofs.Common.{◌≡◌, ◌∙◌, ℕ, zero, suc, ◌+◌, ◌≤◌, ◌==◌, List, [], ◌∷◌, ◌++◌, length, refl, ap, sym}
+use Rattle.std.proofs.Common.{subst, arith}
 use Rattle.std.proofs.Common.{zero-add, append-nil}
 use Rattle.std.specs.Io.KnownBytes.{Consumes}
 use Rattle.std.proofs.lemmas.List.{map-append}
@@ -8,12 +9,13 @@ use Rattle.std.proofs.lemmas.List.Sums.{sum_by-append}
 use Rattle.desk_words.specs.Tables.{Rows}
 use Rattle.keeper_core.specs.Keeping.{IfTold}
 use Rattle.http_cut.specs.Cut.{BeginsRequest}
+use Rattle.http_cut.proofs.Cuts.{Begins-push, Begins-more}
 use Rattle.http_cut.proofs.Waiting.{Consumes-none, Consumes-then}
 use Rattle.http_desk.specs.Answered.{Answered, IsServed, Served, requests, texts, last_tables, failures, failure}
-use Rattle.http_desk.specs.Answered.{RoseBy}
-use Rattle.http_desk.specs.Scenes.{Scene}
+use Rattle.http_desk.specs.Answered.{all_most_calls, all_sure_calls, most_calls, sure_calls}
+use Rattle.http_desk.specs.Scenes.{RoseBy, RoseWithin, Scene, risen_by}
+use Rattle.desk_base.specs.Counts.{risen}
 use Rattle.http_desk.specs.Streams.{Progress}
-use Rattle.http_desk.proofs.Cutting.{Begins-push, Begins-more}
 
 -- one more request is answered
 pub Served-push : (limit count : ℕ) (before : Rows) (answers : List Answered) (a : Answered)
@@ -48,10 +50,42 @@ pub failures-push : (answers : List Answered) (a : Answered)
     → failures (answers ++ a ∷ []) ≡ failures answers + failure a.outcome
 failures-push answers a = sum_by-append (λ (b : Answered). failure b.outcome) answers (a ∷ []) ∙ omega arith
 
--- what rose twice rose by the sum
+pub sure_calls-push : (answers : List Answered) (a : Answered)
+    → all_sure_calls (answers ++ a ∷ []) ≡ all_sure_calls answers + sure_calls a.outcome
+sure_calls-push answers a = sum_by-append (λ (b : Answered). sure_calls b.outcome) answers (a ∷ []) ∙ omega arith
+
+pub most_calls-push : (answers : List Answered) (a : Answered)
+    → all_most_calls (answers ++ a ∷ []) ≡ all_most_calls answers + most_calls a.outcome
+most_calls-push answers a = sum_by-append (λ (b : Answered). most_calls b.outcome) answers (a ∷ []) ∙ omega arith
+
+-- a count that was raised in turn was raised by the sum
+risen_by-add : (first second before : ℕ) → risen_by (first + second) before ≡ risen_by second (risen_by first before)
+risen_by-add first zero before = let none : first + 0 ≡ first = omega arith in ap (λ (n : ℕ). risen_by n before) none
+risen_by-add first (suc second) before =
+    let more : first + suc second ≡ suc (first + second) = omega arith in
+    ap (λ (n : ℕ). risen_by n before) more ∙ ap risen (risen_by-add first second before)
+
 pub RoseBy-then : (first second before middle now : ℕ) → RoseBy first before middle → RoseBy second middle now
     → RoseBy (first + second) before now
-RoseBy-then first second before middle now h k = omega arith
+RoseBy-then first second before middle now h k =
+    k ∙ ap (risen_by second) h ∙ sym (risen_by-add first second before)
+
+pub RoseWithin-then : (least most more all before middle now : ℕ) → RoseWithin least most before middle
+    → RoseWithin more all middle now → RoseWithin (least + more) (most + all) before now
+RoseWithin-then least most more all before middle now h k = record {
+  times = h.times + k.times;
+  enough = omega (arith, h.enough, k.enough);
+  few = omega (arith, h.few, k.few);
+  rose = RoseBy-then h.times k.times before middle now h.rose k.rose;
+}
+
+-- a count was not raised
+pub not_raised : (most before now : ℕ) → now ≡ before → RoseWithin 0 most before now
+not_raised most before now same = record { times = 0; enough = omega arith; few = omega arith; rose = same }
+
+-- it was raised once
+pub raised_once : (least before now : ℕ) → least ≤ 1 → now ≡ risen before → RoseWithin least 1 before now
+raised_once least before now few is = record { times = 1; enough = few; few = omega arith; rose = is }
 
 -- nothing was done yet
 pub Progress-none : (limit : ℕ) (old : Scene) → IfTold old.told old.tables → Progress limit old old [] [] []
@@ -61,29 +95,33 @@ Progress-none limit old told = record {
   served = tt;
   tables = refl;
   told = told;
-  failed = omega arith;
+  failed = refl;
+  called = not_raised 0 old.uses.calls old.uses.calls refl;
 }
 
 -- bytes are taken
 pub Progress-takes : (limit : ℕ) (old mid new : Scene) (taken : List ℕ) (answers : List Answered) (rest more : List ℕ)
     → Progress limit old mid taken answers rest → Consumes mid.left new.left more → new.tables ≡ mid.tables
-    → new.told ≡ mid.told → new.faults ≡ mid.faults → Progress limit old new (taken ++ more) answers (rest ++ more)
-Progress-takes limit old mid new taken answers rest more p took tables told faults = record {
+    → new.told ≡ mid.told → new.uses ≡ mid.uses → Progress limit old new (taken ++ more) answers (rest ++ more)
+Progress-takes limit old mid new taken answers rest more p took tables told uses = record {
   took = Consumes-then old.left mid.left new.left taken more p.took took;
   begins = Begins-more taken (requests answers) rest more p.begins;
   served = p.served;
   tables = tables ∙ p.tables;
   told = rw (told, tables) p.told;
-  failed = rw faults p.failed;
+  failed = rw uses p.failed;
+  called = rw uses p.called;
 }
 
 -- a request at the front is answered
 pub Progress-answers : (limit : ℕ) (old mid new : Scene) (taken : List ℕ) (answers : List Answered) (rest : List ℕ)
     (a : Answered) (behind : List ℕ) → Progress limit old mid taken answers rest
     → BeginsRequest rest a.request.0 a.request.1 behind → IsServed mid.tables ((length answers + 1) == limit) a
-    → RoseBy (failure a.outcome) mid.faults new.faults → new.left ≡ mid.left → new.tables ≡ a.tables
+    → RoseBy (failure a.outcome) mid.uses.faults new.uses.faults
+    → RoseWithin (sure_calls a.outcome) (most_calls a.outcome) mid.uses.calls new.uses.calls → new.left ≡ mid.left →
+    new.tables ≡ a.tables
     → IfTold new.told new.tables → Progress limit old new taken (answers ++ a ∷ []) behind
-Progress-answers limit old mid new taken answers rest a behind p whole is failed left tables told = record {
+Progress-answers limit old mid new taken answers rest a behind p whole is failed called left tables told = record {
   took = rw left p.took;
   begins = rw (requests-push answers a)
       (Begins-push taken (requests answers) rest a.request behind p.begins whole);
@@ -92,5 +130,9 @@ Progress-answers limit old mid new taken answers rest a behind p whole is failed
   tables = tables ∙ sym (last_tables-push old.tables answers a);
   told = told;
   failed = rw (failures-push answers a)
-      (RoseBy-then (failures answers) (failure a.outcome) old.faults mid.faults new.faults p.failed failed);
+      (RoseBy-then (failures answers) (failure a.outcome) old.uses.faults mid.uses.faults new.uses.faults p.failed
+      failed);
+  called = rw (sure_calls-push answers a, most_calls-push answers a)
+      (RoseWithin-then (all_sure_calls answers) (all_most_calls answers) (sure_calls a.outcome) (most_calls a.outcome)
+      old.uses.calls mid.uses.calls new.uses.calls p.called called);
 }

@@ -1,111 +1,165 @@
 -- What holds before each request of a stream, and how it goes on.
 use Rattle.std.proofs.Common.{◌≡◌, ◌∙◌, ℕ, ◌+◌, ◌≤◌, ◌==◌, Bool, List, [], ◌∷◌, ◌++◌, length, refl, ap, sym, subst}
-use Rattle.std.proofs.Common.{arith, length-append}
+use Rattle.std.proofs.Common.{arith, length-append, Result}
+use Rattle.std.proofs.lemmas.List.{map-append}
+use Rattle.desk_base.specs.declared.error.Failed.{Failed}
 use Rattle.std.specs.Io.KnownBytes.{Appends}
 use Rattle.desk_base.proofs.Growth.{Appends-then}
 use Rattle.desk_words.specs.Tables.{Rows}
-use Rattle.keeper_core.specs.Keeping.{IfTold}
+use Rattle.keeper_core.specs.Keeping.{IfTold, TellsNoMore, Uses}
 use Rattle.http_cut.specs.Cut.{WholeRequest, BeginsRequest}
-use Rattle.http_cut.specs.Taking.{Takes}
+use Rattle.http_cut.specs.Taking.{Reading, ReadsOn, Takes}
 use Rattle.http_desk.specs.Answered.{Answered, IsAnswered, TakesRest, asks_head, failures, texts}
 use Rattle.http_desk.specs.Commands.{command_for}
 use Rattle.http_desk.specs.Scenes.{Scene, Later}
 use Rattle.http_desk.specs.Streams.{Progress}
+use Rattle.http_desk.specs.Turns.{AreTurns, TakesTurns, Turn}
 use Rattle.http_desk.proofs.Progress.{Progress-none, Progress-takes, Progress-answers, failures-push, texts-push}
 use Rattle.http_desk.proofs.Taking.{Appends-none, TakesRest-none, TakesRest-then}
 
--- so many requests were answered in full, and the window holds what was taken behind them
-pub record Serving (steady : Type 0) (takes taking : ℕ → Type 0) (limit : ℕ) (old new : Scene) (count : ℕ)
-    (window : List ℕ) : Type 0 where
-  pub taken : List ℕ
-  pub answers : List Answered
-  pub progress : Progress limit old new taken answers window
-  pub counted : length answers ≡ count
-  pub written : Appends old.written new.written (texts answers)
-  pub later : Later old new
-  pub settled : steady → failures answers ≡ 0
-  pub room : TakesRest takes taking (length (texts answers))
-
--- nothing was done yet
-pub Serving-none : (steady : Type 0) (takes : ℕ → Type 0) (limit : ℕ) (old : Scene) → IfTold old.told old.tables
-    → Serving steady takes takes limit old old 0 []
-Serving-none steady takes limit old told = record {
-  taken = [];
-  answers = [];
-  progress = Progress-none limit old told;
-  counted = refl;
-  written = Appends-none old.written;
-  later = record { read_faults = omega arith; write_faults = omega arith; faults = omega arith };
-  settled = λ _. refl;
-  room = TakesRest-none takes;
-}
-
--- bytes are taken
-pub Serving-takes : (steady : Type 0) (takes taking : ℕ → Type 0) (limit : ℕ) (old mid new : Scene) (count : ℕ)
-    (window now : List ℕ) → Serving steady takes taking limit old mid count window → Takes mid.left new.left window now
-    → mid.read_faults ≤ new.read_faults → new.written ≡ mid.written → new.write_faults ≡ mid.write_faults
-    → new.tables ≡ mid.tables → new.told ≡ mid.told → new.faults ≡ mid.faults
-    → Serving steady takes taking limit old new count now
-Serving-takes steady takes taking limit old mid new count window now s taken later written write_faults tables told
-    faults = record {
-      taken = s.taken ++ taken.bytes;
-      answers = s.answers;
-      progress = subst (λ (w : List ℕ). Progress limit old new (s.taken ++ taken.bytes) s.answers w) (sym taken.joined)
-          (Progress-takes limit old mid new s.taken s.answers window taken.bytes s.progress taken.taken tables told
-          faults);
-      counted = s.counted;
-      written = rw written s.written;
-      later = record {
-        read_faults = omega (arith, s.later.read_faults);
-        write_faults = rw write_faults s.later.write_faults;
-        faults = rw faults s.later.faults;
-      };
-      settled = s.settled;
-      room = s.room;
-    }
-
 -- the request at the front, as it was answered
-abbrev pub answered : {steady : Type 0} {before after : Rows} {closing : Bool} {text : List ℕ} {faults now : ℕ}
+abbrev pub answered : {steady : Type 0} {before after : Rows} {closing : Bool} {text : List ℕ} {used now : Uses}
     (request : WholeRequest)
-    → IsAnswered steady before (command_for request) closing (asks_head request) after text faults now → Answered
+    → IsAnswered steady before (command_for request) closing (asks_head request) after text used now → Answered
 answered {after} {text} request h = record { request = request; outcome = h.outcome; tables = after; text = text }
 
--- a request is answered, and its text is still to be written
-pub Serving-weighs : (steady : Type 0) (takes taking : ℕ → Type 0) (limit : ℕ) (old mid new : Scene) (count : ℕ)
-    (window : List ℕ) (request : WholeRequest) (behind text : List ℕ) (keeps : Type 0)
-    (s : Serving steady takes taking limit old mid count window) → BeginsRequest window request.0 request.1 behind
-    → (h : IsAnswered keeps mid.tables (command_for request) ((count + 1) == limit) (asks_head request) new.tables text
-    mid.faults new.faults)
-    → IfTold new.told new.tables → new.left ≡ mid.left
-    → Progress limit old new s.taken (s.answers ++ answered request h ∷ []) behind
-Serving-weighs steady takes taking limit old mid new count window request behind text keeps s whole h told left =
-    Progress-answers limit old mid new s.taken s.answers window (answered request h) behind s.progress whole
-    (rw s.counted h.answers) h.failed left refl told
+module _ {S : Type 0} (calls : S → S → ℕ → Result ℕ Failed → Type 0) (source : S) where
+  -- one turn more
+  AreTurns-push : (old last read : S) (held rest : List ℕ) (turns : List (Turn S)) (turn : Turn S)
+      (window behind : List ℕ) → AreTurns calls old held turns last rest → ReadsOn calls last rest turn.given read
+      window
+      → BeginsRequest window turn.answer.request.0 turn.answer.request.1 behind
+      → AreTurns calls old held (turns ++ turn ∷ []) read behind
+  AreTurns-push old last read held rest [] turn window behind same on whole = (
+    read,
+    window,
+    behind,
+    subst (λ (s : S). ReadsOn calls s held turn.given read window) same.0
+        (subst (λ (b : List ℕ). ReadsOn calls last b turn.given read window) same.1 on),
+    whole,
+    (refl, refl),
+  )
+  AreTurns-push old last read held rest (first ∷ turns) turn window behind h on whole =
+      (h.0, h.1, h.2, h.3, h.4, AreTurns-push h.0 last read h.2 rest turns turn window behind h.5 on whole)
 
--- a request is answered, and its text is written
-pub Serving-answers : (steady keeps : Type 0) (takes taking took : ℕ → Type 0) (limit : ℕ) (old mid new : Scene)
-    (count : ℕ) (window : List ℕ) (request : WholeRequest) (behind text : List ℕ)
-    → Serving steady takes taking limit old mid count window → BeginsRequest window request.0 request.1 behind
-    → IsAnswered keeps mid.tables (command_for request) ((count + 1) == limit) (asks_head request) new.tables text
-    mid.faults new.faults
-    → IfTold new.told new.tables → new.left ≡ mid.left → Appends mid.written new.written text
-    → new.read_faults ≡ mid.read_faults → mid.write_faults ≤ new.write_faults → (steady → keeps)
-    → TakesRest taking took (length text) → Serving steady takes took limit old new (count + 1) behind
-Serving-answers steady keeps takes taking took limit old mid new count window request behind text s whole h told left
-    written read_faults later keeping room = record {
-      taken = s.taken;
-      answers = s.answers ++ answered request h ∷ [];
-      progress = Serving-weighs steady takes taking limit old mid new count window request behind text keeps s whole h
-          told left;
-      counted = length-append s.answers (answered request h ∷ []) ∙ ap (λ (n : ℕ). n + 1) s.counted;
-      written = rw (texts-push s.answers (answered request h))
-          (Appends-then old.written mid.written new.written (texts s.answers) text s.written written);
-      later = record {
-        read_faults = rw read_faults s.later.read_faults;
-        write_faults = omega (arith, s.later.write_faults);
-        faults = omega (arith, s.later.faults, h.later);
-      };
-      settled = λ is. rw (failures-push s.answers (answered request h), s.settled is, h.settled (keeping is)) refl;
-      room = rw (texts-push s.answers (answered request h), length-append (texts s.answers) text)
-          (TakesRest-then takes taking took (length (texts s.answers)) (length text) s.room room);
-    }
+  -- so the answers of turns are
+  pub TakesTurns-push : (last read : S) (answers : List Answered) (a : Answered) (held : List ℕ) (given : List
+      (Reading S))
+      (window behind : List ℕ) → TakesTurns calls source last answers held → ReadsOn calls last held given read window
+      → BeginsRequest window a.request.0 a.request.1 behind → TakesTurns calls source read (answers ++ a ∷ []) behind
+  TakesTurns-push last read answers a held given window behind t on whole =
+      let turn : Turn S = record { given = given; answer = a } in
+      record {
+        turns = t.turns ++ turn ∷ [];
+        are = ap (λ (l : List Answered). l ++ a ∷ []) t.are
+            ∙ sym (map-append (λ (one : Turn S). one.answer) t.turns (turn ∷ []));
+        in_turn = AreTurns-push source last read [] held t.turns turn window behind t.in_turn on whole;
+      }
+
+  -- so many requests were answered in full, and the window holds what was taken behind them
+  pub record Serving (last : S) (held : List ℕ) (steady : Type 0) (takes taking : ℕ → Type 0) (limit : ℕ) (old new :
+      Scene) (count : ℕ)
+      (window : List ℕ) : Type 0 where
+    pub taken : List ℕ
+    pub answers : List Answered
+    pub progress : Progress limit old new taken answers window
+    pub counted : length answers ≡ count
+    pub written : Appends old.written new.written (texts answers)
+    pub later : Later old new
+    pub settled : steady → failures answers ≡ 0
+    pub room : TakesRest takes taking (length (texts answers))
+    pub turns : TakesTurns calls source last answers held
+
+  -- nothing was done yet
+  pub Serving-none : (steady : Type 0) (takes : ℕ → Type 0) (limit : ℕ) (old : Scene) → IfTold old.told old.tables
+      → Serving source [] steady takes takes limit old old 0 []
+  Serving-none steady takes limit old told = record {
+    taken = [];
+    answers = [];
+    progress = Progress-none limit old told;
+    counted = refl;
+    written = Appends-none old.written;
+    later = record { read_faults = omega arith; write_faults = omega arith; told = λ some. some };
+    settled = λ _. refl;
+    room = TakesRest-none takes;
+    turns = record { turns = []; are = refl; in_turn = (refl, refl) };
+  }
+
+  -- bytes are taken
+  pub Serving-takes : (last : S) (held : List ℕ) (steady : Type 0) (takes taking : ℕ → Type 0) (limit : ℕ) (old mid
+      new : Scene) (count : ℕ)
+      (window now : List ℕ) → Serving last held steady takes taking limit old mid count window → Takes mid.left
+      new.left window now
+      → mid.read_faults ≤ new.read_faults → new.written ≡ mid.written → new.write_faults ≡ mid.write_faults
+      → new.tables ≡ mid.tables → new.told ≡ mid.told → new.uses ≡ mid.uses
+      → Serving last held steady takes taking limit old new count now
+  Serving-takes last held steady takes taking limit old mid new count window now s taken later written write_faults
+      tables told
+      uses = record {
+        taken = s.taken ++ taken.bytes;
+        answers = s.answers;
+        progress = subst (λ (w : List ℕ). Progress limit old new (s.taken ++ taken.bytes) s.answers w) (sym
+            taken.joined)
+            (Progress-takes limit old mid new s.taken s.answers window taken.bytes s.progress taken.taken tables told
+            uses);
+        counted = s.counted;
+        written = rw written s.written;
+        later = record {
+          read_faults = omega (arith, s.later.read_faults);
+          write_faults = rw write_faults s.later.write_faults;
+          told = rw told s.later.told;
+        };
+        settled = s.settled;
+        room = s.room;
+        turns = s.turns;
+      }
+
+  -- a request is answered, and its text is still to be written
+  pub Serving-weighs : (last : S) (held : List ℕ) (steady : Type 0) (takes taking : ℕ → Type 0) (limit : ℕ) (old mid
+      new : Scene) (count : ℕ)
+      (window : List ℕ) (request : WholeRequest) (behind text : List ℕ) (keeps : Type 0)
+      (s : Serving last held steady takes taking limit old mid count window) → BeginsRequest window request.0
+      request.1 behind
+      → (h : IsAnswered keeps mid.tables (command_for request) ((count + 1) == limit) (asks_head request) new.tables
+      text
+      mid.uses new.uses)
+      → IfTold new.told new.tables → new.left ≡ mid.left
+      → Progress limit old new s.taken (s.answers ++ answered request h ∷ []) behind
+  Serving-weighs last held steady takes taking limit old mid new count window request behind text keeps s whole h
+      told left =
+      Progress-answers limit old mid new s.taken s.answers window (answered request h) behind s.progress whole
+      (rw s.counted h.answers) h.failed h.called left refl told
+
+  -- a request is answered, and its text is written
+  pub Serving-answers : (last read : S) (held : List ℕ) (given : List (Reading S)) (steady keeps : Type 0) (takes
+      taking took : ℕ → Type 0) (limit : ℕ) (old mid new : Scene)
+      (count : ℕ) (window : List ℕ) (request : WholeRequest) (behind text : List ℕ)
+      → Serving last held steady takes taking limit old mid count window → ReadsOn calls last held given read window
+      → BeginsRequest window request.0 request.1 behind
+      → IsAnswered keeps mid.tables (command_for request) ((count + 1) == limit) (asks_head request) new.tables text
+      mid.uses new.uses
+      → IfTold new.told new.tables → TellsNoMore mid.told new.told → new.left ≡ mid.left
+      → Appends mid.written new.written text
+      → new.read_faults ≡ mid.read_faults → mid.write_faults ≤ new.write_faults → (steady → keeps)
+      → TakesRest taking took (length text) → Serving read behind steady takes took limit old new (count + 1) behind
+  Serving-answers last read held given steady keeps takes taking took limit old mid new count window request behind
+      text s on whole h told no_more left
+      written read_faults later keeping room = record {
+        taken = s.taken;
+        answers = s.answers ++ answered request h ∷ [];
+        progress = Serving-weighs last held steady takes taking limit old mid new count window request behind text
+            keeps s whole h
+            told left;
+        counted = length-append s.answers (answered request h ∷ []) ∙ ap (λ (n : ℕ). n + 1) s.counted;
+        written = rw (texts-push s.answers (answered request h))
+            (Appends-then old.written mid.written new.written (texts s.answers) text s.written written);
+        later = record {
+          read_faults = rw read_faults s.later.read_faults;
+          write_faults = omega (arith, s.later.write_faults);
+          told = λ some. s.later.told (no_more some);
+        };
+        settled = λ is. rw (failures-push s.answers (answered request h), s.settled is, h.settled (keeping is)) refl;
+        room = rw (texts-push s.answers (answered request h), length-append (texts s.answers) text)
+            (TakesRest-then takes taking took (length (texts s.answers)) (length text) s.room room);
+        turns = TakesTurns-push last read s.answers (answered request h) held given window behind s.turns on whole;
+      }

@@ -1,11 +1,12 @@
 -- Requests that were answered, one after another: what became of each, and what was written.
-use Rattle.std.specs.Prelude.{◌≡◌, ◌≢◌, ℕ, ◌+◌, ◌-◌, ◌^◌, ◌<◌, ◌≤◌, ◌==◌, min, Bool, List, [], ◌∷◌, map, codes, Option}
+use Rattle.std.specs.Prelude.{◌≡◌, ◌≢◌, ℕ, ◌+◌, ◌-◌, ◌<◌, ◌≤◌, ◌==◌, Bool, List, [], ◌∷◌, map, codes, Option}
 use Rattle.std.specs.Prelude.{Result, Ok, Err, OnOk, OnErr, length, ⊤}
 use Rattle.std.specs.Io.KnownBytes.{Appends}
 use Rattle.std.specs.List.{flat_map, sum_by}
 use Rattle.std.specs.Str.{bytes_eq}
 use Rattle.desk_base.specs.declared.error.Failed.{Failed}
 use Rattle.desk_base.specs.Faults.{AppendsPart}
+use Rattle.keeper_core.specs.Keeping.{Uses}
 use Rattle.http_cut.specs.Cut.{WholeRequest}
 use Rattle.desk_words.specs.declared.change.Change.{Change}
 use Rattle.desk_words.specs.declared.command.Command.{Command}
@@ -21,6 +22,7 @@ use Rattle.http_desk.specs.Checked.{Checked}
 use Rattle.http_desk.specs.Commands.{command_for}
 use Rattle.http_desk.specs.Refusals.{refusal_text}
 use Rattle.http_desk.specs.Replies.{declined_text, reply_text}
+use Rattle.http_desk.specs.Scenes.{RoseBy, RoseWithin}
 
 -- ---- one request
 
@@ -63,17 +65,32 @@ failure (Replied reply changes) = 0
 failure Unavailable = 1
 failure NoMemory = 0
 
--- the count of faults rose by so many at least, or it stands at its last value
-abbrev pub RoseBy : ℕ → ℕ → ℕ → Type 0
-RoseBy count before now = min (before + count) (2 ^ 64 - 1) ≤ now
+-- one call where something is changed
+abbrev pub one_call : List Change → ℕ
+one_call [] = 0
+one_call (change ∷ changes) = 1
+
+-- how often the keeper was called at least: once where something was changed, or it failed
+abbrev pub sure_calls : Outcome → ℕ
+sure_calls (Declines why) = 0
+sure_calls (Replied reply changes) = one_call changes
+sure_calls Unavailable = 1
+sure_calls NoMemory = 0
+
+-- and at most: it may have been the keeper that had no memory
+abbrev pub most_calls : Outcome → ℕ
+most_calls (Declines why) = 0
+most_calls (Replied reply changes) = one_call changes
+most_calls Unavailable = 1
+most_calls NoMemory = 1
 
 -- what a request asks was answered, over a keeper that does not fail where it is steady
 pub record IsAnswered (steady : Type 0) (before : Rows) (asks : Checked Command) (closing asks_head : Bool)
-    (after : Rows) (text : List ℕ) (faults now : ℕ) : Type 0 where
+    (after : Rows) (text : List ℕ) (used now : Uses) : Type 0 where
   pub outcome : Outcome
   pub answers : Answers before asks closing asks_head outcome after text
-  pub failed : RoseBy (failure outcome) faults now
-  pub later : faults ≤ now
+  pub failed : RoseBy (failure outcome) used.faults now.faults
+  pub called : RoseWithin (sure_calls outcome) (most_calls outcome) used.calls now.calls
   pub settled : steady → failure outcome ≡ 0
 
 -- the bytes of a text
@@ -91,10 +108,10 @@ HasNoRoom takes text = (room : ℕ) → takes room → room < length text
 
 -- a request was answered and its text written, or a part of it where the sink failed, which had no room for all of it
 pub record Responds (steady : Type 0) (takes taking : ℕ → Type 0) (before : Rows) (closing : Bool)
-    (request : WholeRequest) (after : Rows) (faults now : ℕ) (old new : Option (List ℕ))
+    (request : WholeRequest) (after : Rows) (used now : Uses) (old new : Option (List ℕ))
     (result : Result (Unit {0}) Failed) : Type 0 where
   pub text : List ℕ
-  pub answered : IsAnswered steady before (command_for request) closing (asks_head request) after text faults now
+  pub answered : IsAnswered steady before (command_for request) closing (asks_head request) after text used now
   pub written : OnOk result (Appends old new text)
   pub part : OnErr result (AppendsPart old new text)
   pub full : OnErr result (HasNoRoom takes text)
@@ -136,6 +153,14 @@ last_tables tables (a ∷ answers) = last_tables a.tables answers
 -- how many answers say that the keeper failed
 abbrev pub failures : List Answered → ℕ
 failures answers = sum_by (λ a. failure a.outcome) answers
+
+-- how often the keeper was called for them at least
+abbrev pub all_sure_calls : List Answered → ℕ
+all_sure_calls answers = sum_by (λ a. sure_calls a.outcome) answers
+
+-- and at most
+abbrev pub all_most_calls : List Answered → ℕ
+all_most_calls answers = sum_by (λ a. most_calls a.outcome) answers
 
 -- what became of a request is neither a failure of the keeper nor want of memory
 abbrev pub IsDue : Outcome → Type 0

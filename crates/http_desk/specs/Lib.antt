@@ -7,3 +7,4 @@ pub mod Replies
 pub mod Responses
 pub mod Scenes
 pub mod Streams
+pub mod Turns

@@ -1,9 +1,31 @@
 -- What a clause sees of a link, of a desk and of its keeper.
-use Rattle.std.specs.Prelude.{ℕ, ◌≤◌, List, Option}
+use Rattle.std.specs.Prelude.{◌≡◌, ℕ, zero, suc, ◌≤◌, List, Option}
+use Rattle.desk_base.specs.Counts.{risen}
 use Rattle.desk_words.specs.Tables.{Rows}
+use Rattle.keeper_core.specs.Keeping.{TellsNoMore, Uses, uses}
 
--- the bytes that are left to read and those that were written, the desk's tables and those that the keeper tells, and
--- how often each device failed
+-- ---- counts
+
+-- a count that was raised so often, by one each time, up to its last value
+abbrev pub risen_by : ℕ → ℕ → ℕ
+risen_by zero count = count
+risen_by (suc more) count = risen (risen_by more count)
+
+-- the count was raised exactly so often
+abbrev pub RoseBy : ℕ → ℕ → ℕ → Type 0
+RoseBy times before now = now ≡ risen_by times before
+
+-- the count was raised so often at least, and so often at most
+pub record RoseWithin (least most before now : ℕ) : Type 0 where
+  pub times : ℕ
+  pub enough : least ≤ times
+  pub few : times ≤ most
+  pub rose : RoseBy times before now
+
+-- ---- scenes
+
+-- the bytes that are left to read and those that were written, how often each end failed, the desk's tables and those
+-- that the keeper tells, and how often the keeper was called and failed
 pub record Scene : Type 0 where
   pub left : Option (List ℕ)
   pub written : Option (List ℕ)
@@ -11,23 +33,24 @@ pub record Scene : Type 0 where
   pub write_faults : ℕ
   pub tables : Rows
   pub told : Option Rows
-  pub faults : ℕ
+  pub uses : Uses
 
 -- what the parts of a desk tell of it
 abbrev pub scene : {S W M K : Type 0} → (S → Option (List ℕ)) → (S → ℕ) → (W → Option (List ℕ)) → (W → ℕ) → (M → Rows)
-    → (K → Option Rows) → (K → ℕ) → S → W → M → K → Scene
-scene left read_faults written write_faults rows told faults source sink machine keeper = record {
+    → (K → Option Rows) → (K → ℕ) → (K → ℕ) → S → W → M → K → Scene
+scene left read_faults written write_faults rows told calls faults source sink machine keeper = record {
   left = left source;
   written = written sink;
   read_faults = read_faults source;
   write_faults = write_faults sink;
   tables = rows machine;
   told = told keeper;
-  faults = faults keeper;
+  uses = uses calls faults keeper;
 }
 
--- no count of faults fell
+-- no count of faults of the link fell, and the keeper tells no tables that it did not tell before; how often it failed
+-- is told exactly
 pub record Later (old new : Scene) : Type 0 where
   pub read_faults : old.read_faults ≤ new.read_faults
   pub write_faults : old.write_faults ≤ new.write_faults
-  pub faults : old.faults ≤ new.faults
+  pub told : TellsNoMore old.told new.told

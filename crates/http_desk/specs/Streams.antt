@@ -14,9 +14,11 @@ use Rattle.http_cut.specs.Cut.{Begins, End, clean, bad, truncated, IsBadRest, Is
 use Rattle.http_cut.specs.Head.{AsksHead}
 use Rattle.http_desk.specs.declared.serving.Ended.{Ended}
 use Rattle.http_desk.specs.declared.serving.Ended.TheVariants as ended
-use Rattle.http_desk.specs.Answered.{Answered, HasNoRoom, Served, requests, texts, last_tables, failures, RoseBy}
+use Rattle.http_desk.specs.Answered.{Answered, HasNoRoom, Served, requests, texts, last_tables, failures}
+use Rattle.http_desk.specs.Answered.{all_most_calls}
+use Rattle.http_desk.specs.Answered.{all_sure_calls}
 use Rattle.http_desk.specs.Refusals.{refused_rest, refusal_text}
-use Rattle.http_desk.specs.Scenes.{Scene, Later}
+use Rattle.http_desk.specs.Scenes.{Scene, Later, RoseBy, RoseWithin}
 
 -- these bytes were taken, and these requests at their front answered, up to a rest
 pub record Progress (limit : ℕ) (old new : Scene) (taken : List ℕ) (answers : List Answered) (rest : List ℕ) : Type 0
@@ -26,7 +28,8 @@ pub record Progress (limit : ℕ) (old new : Scene) (taken : List ℕ) (answers 
     pub served : Served limit 0 old.tables answers
     pub tables : new.tables ≡ last_tables old.tables answers
     pub told : IfTold new.told new.tables
-    pub failed : RoseBy (failures answers) old.faults new.faults
+    pub failed : RoseBy (failures answers) old.uses.faults new.uses.faults
+    pub called : RoseWithin (all_sure_calls answers) (all_most_calls answers) old.uses.calls new.uses.calls
 
 -- the source had these bytes left, where it told them
 abbrev pub IfShown : Option (List ℕ) → List ℕ → Type 0
@@ -121,17 +124,6 @@ abbrev pub RunsOut : (ℕ → Type 0) → Option (List ℕ) → Option (List ℕ
 RunsOut takes old new answers rest = (CutsText old new answers × HasNoRoom takes (texts answers))
     ⊎ ((kind : BadRest) × (cut : CutsEnd old new answers rest kind) × IsBadRest rest kind
     × HasNoRoom takes (texts answers ++ cut.text))
-
--- what serving a stream leaves, over a source that is read without fail, a sink that takes so many bytes, and a keeper
--- that keeps without fail, where they promise it: no read fails, a write only for want of room for what is due, and no
--- answer says that the keeper failed
-pub record Serves (reads : Type 0) (takes : ℕ → Type 0) (keeps : Type 0) (limit : ℕ) (old new : Scene) (end : Ended)
-    : Type 0 where
-  pub streams : Streams limit old new end
-  pub read : reads → end ≢ ended.ReadFault
-  pub written : end ≡ ended.WriteFault
-      → RunsOut takes old.written new.written streams.answers (streams.rest ++ streams.after)
-  pub available : keeps → failures streams.answers ≡ 0
 
 -- no read failed, no answer says that the keeper did, and a write failed only for want of room for what was due
 pub record IsFaultless (takes : ℕ → Type 0) (limit : ℕ) (old new : Scene) (end : Ended) : Type 0 where

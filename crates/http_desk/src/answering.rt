@@ -4,7 +4,7 @@ ghost use Rattle.httparse.specs.Grammar.{RequestHead};
 ghost use Rattle.httparse.specs.Spans.{span_bytes};
 ghost use Rattle.http_cut.specs.Looks.{ShowsRequest};
 ghost use Rattle.desk_words.specs.declared.command.Command.{Command as CommandOf};
-ghost use Rattle.keeper_core.specs.Keeping.{IfTold};
+ghost use Rattle.keeper_core.specs.Keeping.{IfTold, TellsNoMore, uses};
 ghost use Rattle.machine_core.specs.Ticket.{IsNumbered};
 ghost use Rattle.machine_core.specs.Weighing.{IsSettleable};
 ghost use Rattle.desk_base.specs.Faults.{HasCause};
@@ -38,9 +38,10 @@ pub fn respond<M: Machine, K: Keeper, W: Sink>(
     requires shows { (head : RequestHead) × ShowsRequest intake.now request.now head }
     ensures responds { (head : RequestHead) → ShowsRequest intake.now request.now head
         → Responds (K.is_steady keeper.old) (W.takes sink.old) (W.takes sink.new) (M.rows machine.old) closing
-        (head, span_bytes intake.now request.now.body) (M.rows machine.new) (K.faults keeper.old) (K.faults keeper.new)
-        (W.written sink.old) (W.written sink.new) result }
+        (head, span_bytes intake.now request.now.body) (M.rows machine.new) (uses K.calls K.faults keeper.old)
+        (uses K.calls K.faults keeper.new) (W.written sink.old) (W.written sink.new) result }
     ensures told { IfTold (K.tables keeper.new) (M.rows machine.new) }
+    ensures no_more { TellsNoMore (K.tables keeper.old) (K.tables keeper.new) }
     ensures steady { K.is_steady keeper.old → K.is_steady keeper.new }
     ensures cause { HasCause (W.write_faults sink.old) (W.write_faults sink.new) result }
 {
@@ -72,8 +73,9 @@ fn answer<M: Machine, K: Keeper>(
         → IsAnswered (K.is_steady keeper.old) (M.rows machine.old)
         (command_for (head, span_bytes bytes.now request.now.body)) closing
         (asks_head (head, span_bytes bytes.now request.now.body)) (M.rows machine.new) (text_bytes result)
-        (K.faults keeper.old) (K.faults keeper.new) }
+        (uses K.calls K.faults keeper.old) (uses K.calls K.faults keeper.new) }
     ensures told { IfTold (K.tables keeper.new) (M.rows machine.new) }
+    ensures no_more { TellsNoMore (K.tables keeper.old) (K.tables keeper.new) }
     ensures steady { K.is_steady keeper.old → K.is_steady keeper.new }
 {
     let asks_head = request.method.of(bytes) == b"HEAD".as_slice();
@@ -95,8 +97,10 @@ fn perform<M: Machine, K: Keeper>(
     requires told { IfTold (K.tables keeper.old) (M.rows machine.old) }
     requires numbered { IsNumbered command.now }
     ensures answered { IsAnswered (K.is_steady keeper.old) (M.rows machine.old) (Ok command.now) closing asks_head
-        (M.rows machine.new) (text_bytes result) (K.faults keeper.old) (K.faults keeper.new) }
+        (M.rows machine.new) (text_bytes result) (uses K.calls K.faults keeper.old)
+        (uses K.calls K.faults keeper.new) }
     ensures told { IfTold (K.tables keeper.new) (M.rows machine.new) }
+    ensures no_more { TellsNoMore (K.tables keeper.old) (K.tables keeper.new) }
     ensures steady { K.is_steady keeper.old → K.is_steady keeper.new }
 {
     let weighed = machine.weigh(command);
@@ -120,8 +124,10 @@ fn settle<M: Machine, K: Keeper>(
     ensures answered { (asks : Checked CommandOf) → IsAsked (M.rows machine.old) asks weighed.reply weighed.changes
         → text.items ≡ reply_text weighed.reply closing asks_head
         → IsAnswered (K.is_steady keeper.old) (M.rows machine.old) asks closing asks_head
-        (M.rows machine.new) (text_bytes result) (K.faults keeper.old) (K.faults keeper.new) }
+        (M.rows machine.new) (text_bytes result) (uses K.calls K.faults keeper.old)
+        (uses K.calls K.faults keeper.new) }
     ensures told { IfTold (K.tables keeper.new) (M.rows machine.new) }
+    ensures no_more { TellsNoMore (K.tables keeper.old) (K.tables keeper.new) }
     ensures steady { K.is_steady keeper.old → K.is_steady keeper.new }
 {
     match machine.settle(keeper, weighed) {

@@ -3,8 +3,8 @@ ghost use Rattle.std.specs.Prelude.{◌≡◌, ◌≤◌, [], true};
 ghost use Rattle.keeper_core.specs.Keeping.{IfTold};
 ghost use Rattle.http_desk.specs.Refusals.{refused_rest, refusal_text};
 ghost use Rattle.http_desk.specs.Scenes.{scene};
-ghost use Rattle.http_desk.specs.Streams.{IsEndOf, IsFaultless, RefusesRest, Serves, Streams, bad_end};
-ghost use Rattle.http_desk.specs.Streams.{fault_end};
+ghost use Rattle.http_desk.specs.Streams.{IsEndOf, IsFaultless, RefusesRest, Streams, bad_end, fault_end};
+ghost use Rattle.http_desk.specs.Turns.{Serves, ServesPromptly};
 
 use crate::answering::respond;
 use crate::refusal::Refused;
@@ -49,12 +49,20 @@ pub fn serve_stream<M: Machine, K: Keeper, S: Source, W: Sink>(
     requires told { IfTold (K.tables keeper.old) (M.rows machine.old) }
 
     // The answered requests are the first of the stream's, and each reply and the tables after it are the machine's.
-    ensures streams { let scene = scene S.left S.read_faults W.written W.write_faults M.rows K.tables K.faults in
+    ensures streams { let scene = scene S.left S.read_faults W.written W.write_faults M.rows K.tables K.calls
+        K.faults in
         Streams limit (scene link.old.source link.old.sink machine.old keeper.old)
         (scene link.new.source link.new.sink machine.new keeper.new) result }
 
+    // Each request is answered before the source is read on, and nothing is read behind the one that reaches the limit.
+    ensures prompt { let scene = scene S.left S.read_faults W.written W.write_faults M.rows K.tables K.calls K.faults in
+        ServesPromptly S.reads link.old.source link.new.source limit
+        (scene link.old.source link.old.sink machine.old keeper.old)
+        (scene link.new.source link.new.sink machine.new keeper.new) result }
+
     // Over a source and a keeper that do not fail no fault comes, but for want of room for what is due of this stream.
-    ensures complete { let scene = scene S.left S.read_faults W.written W.write_faults M.rows K.tables K.faults in
+    ensures complete { let scene = scene S.left S.read_faults W.written W.write_faults M.rows K.tables K.calls
+        K.faults in
         S.is_steady link.old.source → K.is_steady keeper.old
         → IsFaultless (W.takes link.old.sink) limit (scene link.old.source link.old.sink machine.old keeper.old)
         (scene link.new.source link.new.sink machine.new keeper.new) result }
@@ -76,10 +84,16 @@ pub fn serve_link<M: Machine, K: Keeper, S: Source, W: Sink>(
 ) -> Ended
     requires limit { 1 ≤ limit }
     requires told { IfTold (K.tables keeper.old) (M.rows machine.old) }
-    ensures streams { let scene = scene S.left S.read_faults W.written W.write_faults M.rows K.tables K.faults in
+    ensures streams { let scene = scene S.left S.read_faults W.written W.write_faults M.rows K.tables K.calls
+        K.faults in
         Streams limit (scene link.old.source link.old.sink machine.old keeper.old)
         (scene link.new.source link.new.sink machine.new keeper.new) result }
-    ensures complete { let scene = scene S.left S.read_faults W.written W.write_faults M.rows K.tables K.faults in
+    ensures prompt { let scene = scene S.left S.read_faults W.written W.write_faults M.rows K.tables K.calls K.faults in
+        ServesPromptly S.reads link.old.source link.new.source limit
+        (scene link.old.source link.old.sink machine.old keeper.old)
+        (scene link.new.source link.new.sink machine.new keeper.new) result }
+    ensures complete { let scene = scene S.left S.read_faults W.written W.write_faults M.rows K.tables K.calls
+        K.faults in
         S.is_steady link.old.source → K.is_steady keeper.old
         → IsFaultless (W.takes link.old.sink) limit (scene link.old.source link.old.sink machine.old keeper.old)
         (scene link.new.source link.new.sink machine.new keeper.new) result }
@@ -109,8 +123,8 @@ fn serve<M: Machine, K: Keeper, S: Source, W: Sink>(
     requires limit { 1 ≤ limit }
     requires empty { intake.old ≡ [] }
     requires told { IfTold (K.tables keeper.old) (M.rows machine.old) }
-    ensures { let scene = scene S.left S.read_faults W.written W.write_faults M.rows K.tables K.faults in
-        Serves (S.is_steady source.old) (W.takes sink.old) (K.is_steady keeper.old) limit
+    ensures { let scene = scene S.left S.read_faults W.written W.write_faults M.rows K.tables K.calls K.faults in
+        Serves S.reads source.old source.new (S.is_steady source.old) (W.takes sink.old) (K.is_steady keeper.old) limit
         (scene source.old sink.old machine.old keeper.old) (scene source.new sink.new machine.new keeper.new) result }
 {
     let mut answered: u32 = 0;

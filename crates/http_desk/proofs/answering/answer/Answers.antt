@@ -2,6 +2,7 @@ use Rattle.std.proofs.Common.{◌≡◌, rules, subst, Bool, List, ℕ}
 use Rattle.std.specs.Prelude.{codes}
 use Rattle.std.specs.Str.{bytes_eq}
 use Rattle.httparse.specs.Spans.{span_bytes}
+use Rattle.keeper_core.specs.Keeping.{uses}
 use Rattle.http_desk.specs.Answered.{IsAnswered, text_bytes}
 use Rattle.http_desk.specs.Commands.{command_for}
 use Rattle.http_desk.proofs.Declining.{declined}
@@ -13,7 +14,7 @@ returns-in-Err-clause-answered g c =
     λ head shows.
     let steady : Type 0 = g.K.Keeper.is_steady c.args.keeper.now in
     let rows = g.M.Machine.rows c.args.machine.now in
-    let faults = g.K.Keeper.faults c.args.keeper.now in
+    let used = uses g.K.Keeper.calls g.K.Keeper.faults c.args.keeper.now in
     let asks = command_for (head, span_bytes c.args.bytes.now c.args.request.now.body) in
     let named : c.eq-asks_head.result ≡ bytes_eq c.of.result.now (codes "HEAD") = search rules in
     let method : c.of.result.now ≡ head.method =
@@ -21,6 +22,6 @@ returns-in-Err-clause-answered g c =
     let same : c.eq-asks_head.result ≡ bytes_eq head.method (codes "HEAD") =
     subst (λ (m : List ℕ). c.eq-asks_head.result ≡ bytes_eq m (codes "HEAD")) method named in
     subst (λ (asks_head : Bool). IsAnswered steady rows asks c.args.closing asks_head rows
-    (text_bytes c.declined_text.result) faults faults) same
+    (text_bytes c.declined_text.result) used used) same
     (declined steady rows asks c.args.closing c.eq-asks_head.result c.in-Err.why (text_bytes c.declined_text.result)
-    faults (c.in-Err.ensures.command head shows) c.declined_text.ensures)
+    used (c.in-Err.ensures.command head shows) c.declined_text.ensures)

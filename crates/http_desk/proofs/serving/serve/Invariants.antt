@@ -7,9 +7,10 @@ use Rattle.http_desk.proofs.serving.serve.Given as goal
 abbrev pub invariant-requests : goal.invariant-requests
 invariant-requests g l =
     let at = scene g.S.Source.left g.S.Source.read_faults g.W.Sink.written g.W.Sink.write_faults g.M.Machine.rows
-    g.K.Keeper.tables g.K.Keeper.faults in
+    g.K.Keeper.tables g.K.Keeper.calls g.K.Keeper.faults in
     record {
-      serving : Serving (g.K.Keeper.is_steady l.fn.keeper) (g.W.Sink.takes l.fn.sink) (g.W.Sink.takes l.sink) l.limit
+      serving : Serving g.S.Source.reads l.fn.source l.source l.intake (g.K.Keeper.is_steady l.fn.keeper)
+          (g.W.Sink.takes l.fn.sink) (g.W.Sink.takes l.sink) l.limit
           (at l.fn.source l.fn.sink l.fn.machine l.fn.keeper) (at l.source l.sink l.machine l.keeper) l.answered
           l.intake;
       reads : g.S.Source.is_steady l.fn.source → g.S.Source.is_steady l.source;
