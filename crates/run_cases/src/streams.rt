@@ -158,7 +158,16 @@ fn told_over(
     if let Some(words) = case.text("tables") {
         answer.push(tables_part(alloc, script, case, words, keeper)?)?;
     }
+    if case.part("rows").is_some() {
+        answer.push(rows_part(alloc, keeper)?)?;
+    }
     Ok(answer)
+}
+
+/// What the tables show, row by row.
+fn rows_part(alloc: Global, keeper: &mut MemKeeper) -> Result<Part, Fail> {
+    let found = shown(alloc, keeper)?;
+    Ok(Part::new(alloc, "rows", found.as_str().as_bytes())?)
 }
 
 /// Whether a case has a call: it says its words, what is sent or what is wanted.
