@@ -1,6 +1,7 @@
 -- Requests of which as many raised the turn as there are were all accepted.
 use Rattle.std.proofs.Common.{◌≡◌, ◌∙◌, ℕ, ◌+◌, ◌≤◌, ◌==◌, Bool, List, [], ◌∷◌, length, inl, inr, refl, sym, ap}
 use Rattle.std.proofs.Common.{subst, arith}
+use Rattle.std.proofs.lemmas.List.{length-map}
 use Rattle.desk_words.specs.declared.change.Change.{Change}
 use Rattle.desk_words.specs.declared.reply.Reply.{Reply}
 use Rattle.desk_words.specs.Changes.{changed_all}
@@ -110,9 +111,18 @@ made : (sessions start : ℕ) (rows : Rows) → AllAnswered sessions start rows
 made sessions start rows all is =
     let rose : turn empty_rows + length all.answers ≤ turn (last_tables empty_rows all.answers) =
     omega (arith, all.few, is, ap turn all.leaves, turn-empty) in
+    let most : request_count sessions ≤ length all.answers =
+    omega (
+      arith,
+      few (request_count sessions + 1) 0 empty_rows all.answers all.served all.valid,
+      is,
+      ap turn all.leaves,
+      turn-empty,
+    ) in
     record {
       requests = requests all.answers;
       cut = all.cut;
+      count = length-map all.answers (λ (a : Answered). a.request) ∙ omega (arith, all.few, most);
       accepted = subst (AreAccepted empty_rows (requests all.answers)) (sym all.leaves)
           (all_accepted (request_count sessions + 1) 0 empty_rows all.answers all.served all.valid rose);
     }

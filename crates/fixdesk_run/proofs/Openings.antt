@@ -1,20 +1,22 @@
 -- What is left where no machine begins.
-use Rattle.std.proofs.Common.{◌≡◌, ◌⊎◌, ◌∙◌, inl, inr, ℕ, List, length, Option, Some, None, refl, sym}
+use Rattle.std.proofs.Common.{◌≡◌, ◌⊎◌, ◌∙◌, inl, inr, ℕ, List, length, Option, Some, None, Err, refl, sym}
 use Rattle.std.specs.Prelude.{◌≢◌}
 use Rattle.desk_links.specs.Doors.{LinkSeen}
 use Rattle.desk_words.specs.Tables.{Rows}
 use Rattle.desk_valid.specs.declared.damage.Damage.{Damage}
-use Rattle.keeper_core.specs.Keeping.{IsLoaded}
+use Rattle.keeper_core.specs.Keeping.{IsLoaded, Uses}
 use Rattle.machine_core.specs.declared.machine.StartFail.{StartFail}
 use Rattle.machine_core.specs.declared.machine.StartFail.TheVariants as fail
-use Rattle.machine_core.specs.Starting.{IfStillTold, IsUnstarted}
+use Rattle.machine_core.specs.Starting.{CountsStart, IfStillTold, IsUnstarted}
+use Rattle.fixdesk_run.proofs.Served.{is_failed, is_loaded}
+use Rattle.desk_base.specs.Counts.{risen}
 use Rattle.fixdesk_run.specs.declared.status.Status.{Status}
 use Rattle.fixdesk_run.specs.declared.status.Status.TheVariants.{Done, NoCommand, ReadFault, WriteFault, Unavailable}
 use Rattle.fixdesk_run.specs.declared.status.Status.TheVariants.{NoMemory, Damaged, Refused, Limit}
 use Rattle.fixdesk_run.specs.Opening.{IsDamageLine, MayBeDamageLine, StaysShut, TakesFail, TellsDamage, TellsFail}
 use Rattle.fixdesk_run.specs.Opening.{damage_line}
 use Rattle.fixdesk_run.specs.Status.{status_code}
-use Rattle.fixdesk_run.specs.World.{World}
+use Rattle.fixdesk_run.specs.World.{World, failed, loaded}
 
 -- tables that were loaded are told still
 IfStillTold-loaded : (old new : Option Rows) (rows : Rows) → IsLoaded old new rows → IfStillTold old new
@@ -23,35 +25,48 @@ IfStillTold-loaded (Some told) None rows loaded = tt
 IfStillTold-loaded (Some told) (Some now) rows loaded = loaded.1 ∙ sym loaded.0
 
 -- a line names the first damage
-named : (old new : World) (damage : Damage) → IsUnstarted old.told new.told old.faults new.faults (fail.Damaged damage)
+named : (old new : World) (damage : Damage) → IsUnstarted old.told new.told old.uses.faults new.uses.faults
+    (fail.Damaged damage)
     → IsDamageLine old.told new.told (damage_line damage)
 named old new damage why = (damage, record { rows = why.0; loaded = why.1; first = why.2 }, refl)
 
+-- how the keeper was used, by why no machine began
+abbrev pub IsUsed : StartFail → Uses → Uses → Type 0
+IsUsed (fail.Damaged damage) old new = new ≡ loaded old
+IsUsed fail.Unavailable old new = new ≡ failed old
+IsUsed fail.NoMemory old new = new ≡ loaded old
+
+pub is_used : (why : StartFail) (old new : Uses) → new.calls ≡ risen old.calls
+    → CountsStart {T = Unit {0}} old.faults new.faults (Err why) → IsUsed why old new
+is_used (fail.Damaged damage) old new called counts = is_loaded old new called counts
+is_used fail.Unavailable old new called counts = is_failed old new called counts
+is_used fail.NoMemory old new called counts = is_loaded old new called counts
+
 -- a row is damaged
 stays_damaged : (old new : World) (damage : Damage) (status : Status)
-    → IsUnstarted old.told new.told old.faults new.faults (fail.Damaged damage)
-    → TellsDamage damage old.link new.link status → StaysShut old new status
-stays_damaged old new damage Done why tells = absurd tells
-stays_damaged old new damage NoCommand why tells = absurd tells
-stays_damaged old new damage ReadFault why tells = absurd tells
-stays_damaged old new damage WriteFault why tells = (damage_line damage, named old new damage why, tells)
-stays_damaged old new damage Unavailable why tells = absurd tells
-stays_damaged old new damage NoMemory why tells = (IfStillTold-loaded old.told new.told why.0 why.1, tells)
-stays_damaged old new damage Damaged why tells = (damage_line damage, named old new damage why, tells)
-stays_damaged old new damage Refused why tells = absurd tells
-stays_damaged old new damage Limit why tells = absurd tells
+    → IsUnstarted old.told new.told old.uses.faults new.uses.faults (fail.Damaged damage)
+    → new.uses ≡ loaded old.uses → TellsDamage damage old.link new.link status → StaysShut old new status
+stays_damaged old new damage Done why used tells = absurd tells
+stays_damaged old new damage NoCommand why used tells = absurd tells
+stays_damaged old new damage ReadFault why used tells = absurd tells
+stays_damaged old new damage WriteFault why used tells = (damage_line damage, named old new damage why, tells, used)
+stays_damaged old new damage Unavailable why used tells = absurd tells
+stays_damaged old new damage NoMemory why used tells = (IfStillTold-loaded old.told new.told why.0 why.1, tells, used)
+stays_damaged old new damage Damaged why used tells = (damage_line damage, named old new damage why, tells, used)
+stays_damaged old new damage Refused why used tells = absurd tells
+stays_damaged old new damage Limit why used tells = absurd tells
 
 -- no machine began
 pub stays_shut : (old new : World) (why : StartFail) (status : Status)
-    → IsUnstarted old.told new.told old.faults new.faults why → TellsFail why old.link new.link status
-    → StaysShut old new status
-stays_shut old new (fail.Damaged damage) status is tells = stays_damaged old new damage status is tells
-stays_shut old new fail.Unavailable status is tells = rw tells.0 (is.0, tells.1, is.1)
-stays_shut old new fail.NoMemory status is tells = rw tells.0 (is, tells.1)
+    → IsUnstarted old.told new.told old.uses.faults new.uses.faults why → IsUsed why old.uses new.uses
+    → TellsFail why old.link new.link status → StaysShut old new status
+stays_shut old new (fail.Damaged damage) status is used tells = stays_damaged old new damage status is used tells
+stays_shut old new fail.Unavailable status is used tells = rw tells.0 (is.0, tells.1, used)
+stays_shut old new fail.NoMemory status is used tells = rw tells.0 (is, tells.1, used)
 
 -- what is told of it may be due
 pub takes_fail : (takes : ℕ → Type 0) (old new : World) (why : StartFail)
-    → IsUnstarted old.told new.told old.faults new.faults why
+    → IsUnstarted old.told new.told old.uses.faults new.uses.faults why
     → ((text : List ℕ) → MayBeDamageLine old.told text → takes (length text)) → TakesFail takes why
 takes_fail takes old new (fail.Damaged damage) is all =
     all (damage_line damage) (is.0, is.1.0, (damage, is.2, refl))
@@ -84,10 +99,11 @@ shut_status old new Limit stays loads wrote = absurd stays
 
 -- over devices that do not fail
 pub is_shut : (old new : World) (why : StartFail) (status : Status)
-    → IsUnstarted old.told new.told old.faults new.faults why → TellsFail why old.link new.link status
-    → why ≢ fail.Unavailable → status ≢ WriteFault → IsShut old new (status_code status)
-is_shut old new why status is tells loads wrote =
-    shut_status old new status (stays_shut old new why status is tells)
+    → IsUnstarted old.told new.told old.uses.faults new.uses.faults why → IsUsed why old.uses new.uses
+    → TellsFail why old.link new.link status → why ≢ fail.Unavailable → status ≢ WriteFault → IsShut old new
+    (status_code status)
+is_shut old new why status is used tells loads wrote =
+    shut_status old new status (stays_shut old new why status is used tells)
     (available old.link new.link why status tells loads) wrote
 
 -- and its code

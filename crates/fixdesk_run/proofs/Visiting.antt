@@ -1,26 +1,29 @@
 -- Links that are served one after another.
 use Rattle.std.proofs.Common.{◌≡◌, ◌∙◌, ℕ, ◌+◌, ◌≤◌, Bool, true, false, List, [], ◌∷◌, ◌++◌, map, refl, ap, sym}
-use Rattle.std.proofs.Common.{append-nil, arith, cond, lit≤, subst}
+use Rattle.std.proofs.Common.{append-nil, arith, cond, inl, inr, lit≤, subst}
 use Rattle.std.specs.Int.{from_bool}
-use Rattle.std.specs.Prelude.{Option, Some, None}
+use Rattle.std.specs.Prelude.{IsSome, Option, Some, None}
 use Rattle.std.proofs.lemmas.List.{append_assoc, length_push, map-append}
 use Rattle.std.proofs.lemmas.List.Sums.{sum_by-append}
 use Rattle.desk_links.specs.Doors.{Closes, HandsOut, IsFresh, LinkSeen, one_more}
+use Rattle.keeper_core.specs.Keeping.{TellsNoMore, Uses}
 use Rattle.http_desk.specs.declared.serving.Ended.{Ended}
-use Rattle.http_desk.specs.Answered.{RoseBy, failures}
+use Rattle.http_desk.specs.Answered.{all_most_calls, all_sure_calls, failures}
+use Rattle.http_desk.specs.Scenes.{RoseBy, RoseWithin}
+use Rattle.http_desk.proofs.Progress.{RoseBy-then, RoseWithin-then, not_raised}
 use Rattle.desk_words.specs.Tables.{Rows}
 use Rattle.fixdesk_run.specs.declared.plan.Plan.{Plan}
 use Rattle.fixdesk_run.specs.declared.serving.ServeEnd.{ServeEnd}
 use Rattle.fixdesk_run.specs.declared.serving.ServeEnd.TheVariants.{Done, WriteFault, NoMemory, DoorFault}
-use Rattle.fixdesk_run.specs.Serve.{EndsServing}
+use Rattle.fixdesk_run.specs.Serve.{EndsServing, Serves}
 use Rattle.fixdesk_run.specs.Site.{Door, PassesAll, PassesCount, PassesOne, Site}
 use Rattle.fixdesk_run.specs.Standing.{Standing}
 use Rattle.fixdesk_run.specs.Visits.{AreClosed, AreFirst, AreHandedOut, AreVisits, IsVisit, Visit, early_count}
-use Rattle.fixdesk_run.specs.Visits.{is_early, last_standing, refusals, with_bytes}
+use Rattle.fixdesk_run.specs.Visits.{is_early, last_standing, most_visits, refusals, sure_visits, with_bytes}
 
 -- a site with another keeper
-abbrev pub with_keeper : Site → Option Rows → ℕ → Site
-with_keeper old told faults = record old { world = record old.world { told = told; faults = faults } }
+abbrev pub with_keeper : Site → Option Rows → Uses → Site
+with_keeper old told used = record old { world = record old.world { told = told; uses = used } }
 
 -- ---- one more link
 
@@ -41,6 +44,17 @@ refusals-push : (visits : List Visit) (visit : Visit)
     → refusals (visits ++ visit ∷ []) ≡ refusals visits + failures visit.answers
 refusals-push visits visit = sum_by-append (λ (v : Visit). failures v.answers) visits (visit ∷ []) ∙ omega arith
 
+-- and so do the calls for them
+sure_visits-push : (visits : List Visit) (visit : Visit)
+    → sure_visits (visits ++ visit ∷ []) ≡ sure_visits visits + all_sure_calls visit.answers
+sure_visits-push visits visit =
+    sum_by-append (λ (v : Visit). all_sure_calls v.answers) visits (visit ∷ []) ∙ omega arith
+
+most_visits-push : (visits : List Visit) (visit : Visit)
+    → most_visits (visits ++ visit ∷ []) ≡ most_visits visits + all_most_calls visit.answers
+most_visits-push visits visit =
+    sum_by-append (λ (v : Visit). all_most_calls v.answers) visits (visit ∷ []) ∙ omega arith
+
 -- one or none
 early_byte : (is : Bool) → from_bool is ≡ cond is 1 0
 early_byte true = refl
@@ -56,11 +70,6 @@ early_count-push : (visits : List Visit) (visit : Visit)
     → early_count (visits ++ visit ∷ []) ≡ early_count visits + cond (is_early visit.end) 1 0
 early_count-push visits visit =
     sum_by-append (λ (v : Visit). cond (is_early v.end) 1 0) visits (visit ∷ []) ∙ omega arith
-
--- what rose twice rose by the sum
-RoseBy-then : (first second before middle now : ℕ) → RoseBy first before middle → RoseBy second middle now
-    → RoseBy (first + second) before now
-RoseBy-then first second before middle now h k = omega arith
 
 -- a link of these parts
 parts_are : (left written : Option (List ℕ)) (reads writes : ℕ) (bytes : List ℕ) → left ≡ Some bytes
@@ -134,7 +143,8 @@ PassesAll-none : (desk : Standing) (door : Door) → door.accepted ≡ Some 0 �
 PassesAll-none desk door accepted live = record {
   are = tt;
   after_is = refl;
-  failed = omega arith;
+  failed = refl;
+  called = not_raised 0 desk.uses.calls desk.uses.calls refl;
   door = record {
     port_is = refl;
     accepted = accepted;
@@ -158,13 +168,20 @@ PassesAll-push before mid after old now new end visits all one =
     let visit = one.visit in
     let is : IsVisit (last_standing before visits) visit =
     subst (λ (desk : Standing). IsVisit desk visit) (sym all.after_is) one.is in
-    let own : RoseBy (failures visit.answers) mid.faults after.faults =
+    let own : RoseBy (failures visit.answers) mid.uses.faults after.uses.faults =
     rw (one.is.answers, ← one.after_is) one.is.streams.progress.failed in
+    let also : RoseWithin (all_sure_calls visit.answers) (all_most_calls visit.answers) mid.uses.calls
+    after.uses.calls =
+    rw (one.is.answers, ← one.after_is) one.is.streams.progress.called in
     record {
       are = AreVisits-push before visits visit all.are is;
       after_is = last_standing-push before visits visit ∙ one.after_is;
       failed = rw (refusals-push visits visit)
-          (RoseBy-then (refusals visits) (failures visit.answers) before.faults mid.faults after.faults all.failed own);
+          (RoseBy-then (refusals visits) (failures visit.answers) before.uses.faults mid.uses.faults
+          after.uses.faults all.failed own);
+      called = rw (sure_visits-push visits visit, most_visits-push visits visit)
+          (RoseWithin-then (sure_visits visits) (most_visits visits) (all_sure_calls visit.answers)
+          (all_most_calls visit.answers) before.uses.calls mid.uses.calls after.uses.calls all.called also);
       door = record {
         port_is = one.port ∙ all.door.port_is;
         accepted = one.accepted ∙ ap one_more all.door.accepted
@@ -193,10 +210,35 @@ PassesCount-push before mid after old now new end count early all one = record {
 -- ---- a call
 
 -- what is left where a machine began does not speak of the keeper before
-pub EndsServing-before : (plan : Plan) (begun : Standing) (old : Site) (told : Option Rows) (faults : ℕ) (new : Site)
+pub EndsServing-before : (plan : Plan) (begun : Standing) (old : Site) (told : Option Rows) (used : Uses) (new : Site)
     (end : ServeEnd) → EndsServing plan begun old new end
-    → EndsServing plan begun (with_keeper old told faults) new end
-EndsServing-before plan begun old told faults new Done ends = ends
-EndsServing-before plan begun old told faults new WriteFault ends = ends
-EndsServing-before plan begun old told faults new NoMemory ends = ends
-EndsServing-before plan begun old told faults new DoorFault ends = ends
+    → EndsServing plan begun (with_keeper old told used) new end
+EndsServing-before plan begun old told used new Done ends = ends
+EndsServing-before plan begun old told used new WriteFault ends = ends
+EndsServing-before plan begun old told used new NoMemory ends = ends
+EndsServing-before plan begun old told used new DoorFault ends = ends
+
+-- ---- what the keeper tells
+
+-- no visit has it tell what it did not tell before
+visits_no_more : (before : Standing) (visits : List Visit) → AreVisits before visits
+    → TellsNoMore before.told (last_standing before visits).told
+visits_no_more before [] are = λ some. some
+visits_no_more before (visit ∷ visits) are =
+    λ some. are.0.streams.later.told (visits_no_more visit.after visits are.1 some)
+
+Serves-no_more : (port : ℕ) (begun : Standing) (old : Door) (new : Site) (visits : List Visit)
+    → Serves port begun old new visits → TellsNoMore begun.told new.world.told
+Serves-no_more port begun old new visits s =
+    λ some. visits_no_more begun visits s.are (subst IsSome s.told some)
+
+-- so what is told in the end was told when the machine began
+pub EndsServing-no_more : (plan : Plan) (begun : Standing) (old new : Site) (end : ServeEnd)
+    → EndsServing plan begun old new end → TellsNoMore begun.told new.world.told
+EndsServing-no_more plan begun old new Done ends = Serves-no_more plan.port begun old.door new ends.0 ends.1
+EndsServing-no_more plan begun old new WriteFault ends = Serves-no_more plan.port begun old.door new ends.0 ends.1
+EndsServing-no_more plan begun old new NoMemory ends = λ some. subst IsSome ends.0.told some
+EndsServing-no_more plan begun old new DoorFault ends = elim ends.0 [
+  | inl idle ↦ λ some. subst IsSome idle.0.told some
+  | inr served ↦ Serves-no_more plan.port begun old.door new served.0 served.1
+]

@@ -43,10 +43,15 @@ AreAccepted before [] after = after ≡ before
 AreAccepted before (request ∷ requests) after =
     (next : Rows) × IsAccepted before request next × AreAccepted next requests after
 
+-- how many requests the generator makes, with so many sessions
+abbrev pub request_count : ℕ → ℕ
+request_count sessions = sessions + 5
+
 -- the tables that an empty desk has when it has accepted all requests that the generator makes
 pub record IsMade (sessions start : ℕ) (rows : Rows) : Type 0 where
   pub requests : List WholeRequest
   pub cut : IsCut (stream_of (made_requests sessions start)) requests [] clean
+  pub count : length requests ≡ request_count sessions
   pub accepted : AreAccepted empty_rows requests rows
 
 -- ---- the summary
@@ -89,10 +94,6 @@ EndsMake sessions start old new Refused = ⊥
 EndsMake sessions start old new Limit = ⊥
 
 -- ---- on the way there
-
--- how many requests the generator makes, with so many sessions
-abbrev pub request_count : ℕ → ℕ
-request_count sessions = sessions + 5
 
 -- a desk over tables has answered all requests of a stream, fewer than the limit, and has these tables then; whether
 -- they were accepted is not known yet

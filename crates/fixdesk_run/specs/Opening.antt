@@ -1,6 +1,5 @@
 -- Why no machine begins over a keeper's tables, and what a call leaves then.
 use Rattle.std.specs.Prelude.{◌≡◌, ℕ, List, ◌++◌, length, Option, codes, decimal, ⊤}
-use Rattle.desk_base.specs.Faults.{Rose}
 use Rattle.desk_links.specs.Doors.{LinkSeen}
 use Rattle.json_parts.specs.Shapes.{line}
 use Rattle.desk_words.specs.Tables.{Rows}
@@ -15,7 +14,7 @@ use Rattle.fixdesk_run.specs.declared.status.Status.{Status}
 use Rattle.fixdesk_run.specs.declared.status.Status.TheVariants.{Done, NoCommand, ReadFault, WriteFault, Unavailable}
 use Rattle.fixdesk_run.specs.declared.status.Status.TheVariants.{NoMemory, Damaged, Refused, Limit}
 use Rattle.fixdesk_run.specs.Link.{IsSilent, Says, SaysPart}
-use Rattle.fixdesk_run.specs.World.{World}
+use Rattle.fixdesk_run.specs.World.{World, failed, loaded}
 
 -- the tables over which a machine began: valid ones, which the keeper told, if it told any
 pub record AreOpened (told : Option Rows) (rows : Rows) : Type 0 where
@@ -41,16 +40,19 @@ abbrev pub MayBeDamageLine : Option Rows → List ℕ → Type 0
 MayBeDamageLine told text =
     (rows : Rows) × IfTold told rows × ((damage : Damage) × IsFirstDamage rows damage × (text ≡ damage_line damage))
 
--- what is left where no machine began, by the status; the keeper's tables stay, where they are told
+-- what is left where no machine began, by the status; the keeper was called once, failed where the status says so, and
+-- its tables stay, where they are told
 abbrev pub StaysShut : World → World → Status → Type 0
 StaysShut old new Done = ⊥
 StaysShut old new NoCommand = ⊥
 StaysShut old new ReadFault = ⊥
 StaysShut old new WriteFault =
     (text : List ℕ) × IsDamageLine old.told new.told text × SaysPart text old.link new.link
-StaysShut old new Unavailable = StayTold old.told new.told × IsSilent old.link new.link × Rose old.faults new.faults
-StaysShut old new NoMemory = IfStillTold old.told new.told × IsSilent old.link new.link
+    × (new.uses ≡ loaded old.uses)
+StaysShut old new Unavailable = StayTold old.told new.told × IsSilent old.link new.link × (new.uses ≡ failed old.uses)
+StaysShut old new NoMemory = IfStillTold old.told new.told × IsSilent old.link new.link × (new.uses ≡ loaded old.uses)
 StaysShut old new Damaged = (text : List ℕ) × IsDamageLine old.told new.told text × Says text old.link new.link
+    × (new.uses ≡ loaded old.uses)
 StaysShut old new Refused = ⊥
 StaysShut old new Limit = ⊥
 

@@ -1,5 +1,6 @@
 -- What a call of `run` leaves of the link and the keeper, and when no fault comes.
 use Rattle.std.specs.Prelude.{◌≡◌, ◌⊎◌, ℕ, List, length, Option, Some, None, ⊤}
+use Rattle.desk_words.specs.Tables.{Rows}
 use Rattle.fixdesk_run.specs.declared.status.Status.{Status}
 use Rattle.fixdesk_run.specs.declared.status.Status.TheVariants.{NoMemory, Damaged}
 use Rattle.fixdesk_run.specs.declared.task.Task.{Task}
@@ -14,20 +15,21 @@ use Rattle.fixdesk_run.specs.Task.{task_of}
 use Rattle.fixdesk_run.specs.Usage.{EndsUsage, usage_line}
 use Rattle.fixdesk_run.specs.World.{IsUncalled, Later, World}
 
--- what is left by a task, or by words that are none, with this status
-abbrev pub Ends : Option Task → World → World → Status → Type 0
-Ends None old new status = EndsUsage old.link new.link status × IsUncalled old new
-Ends (Some Once) old new status = EndsOnce old.link new.link status × IsUncalled old new
-Ends (Some (Pipe limit)) old new status = EndsPipe limit old new status
-Ends (Some Report) old new status = EndsReport old new status
-Ends (Some (Make sessions start)) old new status =
+-- what is left by a task, or by words that are none, with this status, over a keeper that held such tables
+abbrev pub Ends : (Rows → Type 0) → Option Task → World → World → Status → Type 0
+Ends holds None old new status = EndsUsage old.link new.link status × IsUncalled old new
+Ends holds (Some Once) old new status = EndsOnce old.link new.link status × IsUncalled old new
+Ends holds (Some (Pipe limit)) old new status = EndsPipe holds limit old new status
+Ends holds (Some Report) old new status = EndsReport holds old new status
+Ends holds (Some (Make sessions start)) old new status =
     EndsMake sessions start old.link new.link status × IsUncalled old new
 
--- what a call with these words leaves, which answers this number: the code of the status that it ended with
-pub record Leaves (words : List (List ℕ)) (old new : World) (code : ℕ) : Type 0 where
+-- what a call with these words leaves over a keeper that held such tables, and answers: the code of the status that it
+-- ended with
+pub record Leaves (holds : Rows → Type 0) (words : List (List ℕ)) (old new : World) (code : ℕ) : Type 0 where
   pub status : Status
   pub answered : code ≡ status_code status
-  pub ends : Ends (task_of words) old new status
+  pub ends : Ends holds (task_of words) old new status
   pub later : Later old new
 
 -- ---- steady devices

@@ -2,9 +2,10 @@
 use Rattle.std.specs.Prelude.{◌≡◌, ◌⊎◌, ℕ, ◌<◌, ◌≤◌, List, ◌++◌, length, Option, Some, None, codes, decimal, ⊤}
 use Rattle.desk_base.specs.Faults.{Rose}
 use Rattle.json_parts.specs.Shapes.{line}
-use Rattle.keeper_core.specs.Keeping.{IfTold}
+use Rattle.desk_words.specs.Tables.{Rows}
+use Rattle.keeper_core.specs.Keeping.{IfTold, LoadsHeld}
 use Rattle.machine_core.specs.Starting.{AreStarted}
-use Rattle.http_desk.specs.Answered.{RoseBy}
+use Rattle.http_desk.specs.Scenes.{RoseBy, RoseWithin}
 use Rattle.fixdesk_run.specs.declared.plan.Plan.{Plan}
 use Rattle.fixdesk_run.specs.declared.serving.ServeEnd.{ServeEnd}
 use Rattle.fixdesk_run.specs.declared.serving.ServeEnd.TheVariants.{Done, WriteFault, NoMemory, DoorFault}
@@ -15,8 +16,9 @@ use Rattle.fixdesk_run.specs.Plan.{plan_of}
 use Rattle.fixdesk_run.specs.Site.{Door, IsPassed, IsUnchanged, Later, Site}
 use Rattle.fixdesk_run.specs.Status.{status_code}
 use Rattle.fixdesk_run.specs.Standing.{Standing}
-use Rattle.fixdesk_run.specs.Visits.{AreVisits, Visit, early_count, last_standing, refusals}
-use Rattle.fixdesk_run.specs.World.{IsUncalled}
+use Rattle.fixdesk_run.specs.Visits.{AreVisits, Visit, early_count, last_standing, most_visits, refusals}
+use Rattle.fixdesk_run.specs.Visits.{sure_visits}
+use Rattle.fixdesk_run.specs.World.{IsUncalled, loaded}
 
 -- the line that answers words which are no port and count
 abbrev pub serve_usage : List ℕ
@@ -32,15 +34,16 @@ served_line count early = line (codes "served " ++ decimal count ++ codes " earl
 pub record Serves (port : ℕ) (begun : Standing) (old : Door) (new : Site) (visits : List Visit) : Type 0 where
   pub are : AreVisits begun visits
   pub told : new.world.told ≡ (last_standing begun visits).told
-  pub faults : new.world.faults ≡ (last_standing begun visits).faults
+  pub uses : new.world.uses ≡ (last_standing begun visits).uses
   pub kept : IfTold new.world.told (last_standing begun visits).tables
-  pub failed : RoseBy (refusals visits) begun.faults new.world.faults
+  pub failed : RoseBy (refusals visits) begun.uses.faults new.world.uses.faults
+  pub called : RoseWithin (sure_visits visits) (most_visits visits) begun.uses.calls new.world.uses.calls
   pub door : IsPassed (Some port) old new.door visits
 
 -- the keeper was not called again
 pub record IsIdle (begun : Standing) (new : Site) : Type 0 where
   pub told : new.world.told ≡ begun.told
-  pub faults : new.world.faults ≡ begun.faults
+  pub uses : new.world.uses ≡ begun.uses
 
 -- what is left, by how it ended: all links were served, and the line was written, or a part of it where the output
 -- failed; there was no memory, before the door was bound; or the door failed, as it was bound or before the last link
@@ -80,23 +83,25 @@ pub record StaysClosed (old new : Site) (code : ℕ) : Type 0 where
   pub stays : StaysShut old.world new.world status
   pub unbound : new.door ≡ old.door
 
--- a machine began over the tables that were loaded, and served links
-pub record ServesOver (plan : Plan) (old new : Site) (code : ℕ) : Type 0 where
+-- a machine began over the tables that were loaded, and served links; these are the tables that the keeper held at
+-- first, where it tells tables in the end
+pub record ServesOver (holds : Rows → Type 0) (plan : Plan) (old new : Site) (code : ℕ) : Type 0 where
   pub begun : Standing
   pub started : AreStarted old.world.told begun.told begun.tables
-  pub loaded : old.world.faults ≤ begun.faults
+  pub held : LoadsHeld holds new.world.told begun.tables
+  pub called_once : begun.uses ≡ loaded old.world.uses
   pub end : ServeEnd
   pub told : code ≡ end_code end
   pub ends : EndsServing plan begun old new end
 
--- what is left by a plan, or by words that are none, with this exit status
-abbrev pub EndsServe : Option Plan → Site → Site → ℕ → Type 0
-EndsServe None old new code = TellsUsage old new code
-EndsServe (Some plan) old new code = StaysClosed old new code ⊎ ServesOver plan old new code
+-- what is left by a plan, or by words that are none, with this exit status, over a keeper that held such tables
+abbrev pub EndsServe : (Rows → Type 0) → Option Plan → Site → Site → ℕ → Type 0
+EndsServe holds None old new code = TellsUsage old new code
+EndsServe holds (Some plan) old new code = StaysClosed old new code ⊎ ServesOver holds plan old new code
 
--- what a call with these words leaves, which answers this number
-pub record LeavesServed (words : List (List ℕ)) (old new : Site) (code : ℕ) : Type 0 where
-  pub ends : EndsServe (plan_of words) old new code
+-- what a call with these words leaves over a keeper that held such tables, and answers
+pub record LeavesServed (holds : Rows → Type 0) (words : List (List ℕ)) (old new : Site) (code : ℕ) : Type 0 where
+  pub ends : EndsServe holds (plan_of words) old new code
   pub later : Later old new
 
 -- ---- steady devices

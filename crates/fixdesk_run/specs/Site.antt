@@ -3,12 +3,13 @@ use Rattle.std.specs.Prelude.{◌≡◌, ℕ, ◌<◌, ◌≤◌, List, Option, 
 use Rattle.desk_base.specs.Faults.{Rose}
 use Rattle.desk_links.specs.Doors.{Closes, HandsOut, LinkSeen, one_more}
 use Rattle.desk_words.specs.Tables.{Rows}
+use Rattle.keeper_core.specs.Keeping.{uses}
 use Rattle.http_desk.specs.declared.serving.Ended.{Ended}
-use Rattle.http_desk.specs.Answered.{RoseBy}
+use Rattle.http_desk.specs.Scenes.{RoseBy, RoseWithin}
 use Rattle.fixdesk_run.specs.Link.{link_with}
 use Rattle.fixdesk_run.specs.Standing.{Standing}
 use Rattle.fixdesk_run.specs.Visits.{AreClosed, AreHandedOut, AreVisits, IsVisit, Visit, early_count}
-use Rattle.fixdesk_run.specs.Visits.{last_standing, refusals}
+use Rattle.fixdesk_run.specs.Visits.{last_standing, most_visits, refusals, sure_visits}
 use Rattle.fixdesk_run.specs.World.{Later as LaterWorld, World}
 
 -- how often a door has failed, the port and how many links it handed out, once it is bound, how many are open, and the
@@ -39,11 +40,17 @@ door_seen faults port accepted live waiting closed door = record {
 }
 
 -- and all three
-abbrev pub site : {W K L : Type 0} → (W → Option (List ℕ)) → (W → ℕ) → (K → Option Rows) → (K → ℕ) → (L → ℕ)
+abbrev pub site : {W K L : Type 0} → (W → Option (List ℕ)) → (W → ℕ) → (K → Option Rows) → (K → ℕ) → (K → ℕ)
+    → (L → ℕ)
     → (L → Option ℕ) → (L → Option ℕ) → (L → ℕ) → (L → Option (List (List ℕ))) → (L → Option (List LinkSeen))
     → W → K → L → Site
-site written write_faults told faults door_faults port accepted live waiting closed out keeper door = record {
-  world = record { link = link_with written write_faults None 0 out; told = told keeper; faults = faults keeper };
+site written write_faults told calls faults door_faults port accepted live waiting closed out keeper door = record {
+  world = record {
+    link = link_with written write_faults None 0 out;
+    told = told keeper;
+    uses = uses calls faults
+        keeper;
+  };
   door = door_seen door_faults port accepted live waiting closed door;
 }
 
@@ -79,7 +86,8 @@ pub record PassesOne (before after : Standing) (old new : Door) (end : Ended) : 
 pub record PassesAll (before after : Standing) (old new : Door) (visits : List Visit) : Type 0 where
   pub are : AreVisits before visits
   pub after_is : last_standing before visits ≡ after
-  pub failed : RoseBy (refusals visits) before.faults after.faults
+  pub failed : RoseBy (refusals visits) before.uses.faults after.uses.faults
+  pub called : RoseWithin (sure_visits visits) (most_visits visits) before.uses.calls after.uses.calls
   pub door : IsPassed old.port old new visits
 
 -- so many links were, and so many of them ended early

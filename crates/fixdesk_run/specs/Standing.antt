@@ -2,18 +2,21 @@
 use Rattle.std.specs.Prelude.{ℕ, Option}
 use Rattle.desk_links.specs.Doors.{LinkSeen}
 use Rattle.desk_words.specs.Tables.{Rows}
+use Rattle.keeper_core.specs.Keeping.{Uses, uses}
 use Rattle.http_desk.specs.Scenes.{Scene}
 
--- the desk that serves a link: its tables, those that its keeper tells, and how often the keeper has failed
+-- the desk that serves a link: its tables, those that its keeper tells, and how often the keeper was
+-- called and failed
 pub record Standing : Type 0 where
   pub tables : Rows
   pub told : Option Rows
-  pub faults : ℕ
+  pub uses : Uses
 
 -- as a machine and a keeper tell it
-abbrev pub standing : {M K : Type 0} → (M → Rows) → (K → Option Rows) → (K → ℕ) → M → K → Standing
-standing rows told faults machine keeper =
-    record { tables = rows machine; told = told keeper; faults = faults keeper }
+abbrev pub standing : {M K : Type 0} → (M → Rows) → (K → Option Rows) → (K → ℕ) → (K → ℕ) → M → K
+    → Standing
+standing rows told calls faults machine keeper =
+    record { tables = rows machine; told = told keeper; uses = uses calls faults keeper }
 
 -- a link with the desk
 abbrev pub scene_at : LinkSeen → Standing → Scene
@@ -24,5 +27,5 @@ scene_at link desk = record {
   write_faults = link.write_faults;
   tables = desk.tables;
   told = desk.told;
-  faults = desk.faults;
+  uses = desk.uses;
 }

@@ -5,7 +5,7 @@ use Rattle.desk_links.specs.Doors.{IsFresh, LinkSeen}
 use Rattle.http_desk.specs.declared.serving.Ended.{Ended}
 use Rattle.http_desk.specs.declared.serving.Ended.TheVariants.{Clean, Limit, BadHead, Chunked, BodyLong, Truncated}
 use Rattle.http_desk.specs.declared.serving.Ended.TheVariants.{ReadFault, WriteFault, NoMemory}
-use Rattle.http_desk.specs.Answered.{Answered, failures}
+use Rattle.http_desk.specs.Answered.{Answered, all_most_calls, all_sure_calls, failures}
 use Rattle.http_desk.specs.Streams.{Streams}
 use Rattle.fixdesk_run.specs.Standing.{Standing, scene_at}
 
@@ -57,6 +57,14 @@ early_count visits = count_by (λ visit. is_early visit.end) visits
 -- how many answers say that the keeper failed
 abbrev pub refusals : List Visit → ℕ
 refusals visits = sum_by (λ visit. failures visit.answers) visits
+
+-- how often the keeper was called for their answers at least
+abbrev pub sure_visits : List Visit → ℕ
+sure_visits visits = sum_by (λ visit. all_sure_calls visit.answers) visits
+
+-- and at most
+abbrev pub most_visits : List Visit → ℕ
+most_visits visits = sum_by (λ visit. all_most_calls visit.answers) visits
 
 -- a link that has these bytes left, to which nothing was written, and which has not failed
 abbrev pub with_bytes : List ℕ → LinkSeen

@@ -1,31 +1,40 @@
 -- What a clause of `run` sees: a link, and a keeper.
 use Rattle.std.specs.Prelude.{◌≡◌, ℕ, ◌≤◌, List, Option}
 use Rattle.desk_base.specs.declared.both.Both.{Both}
+use Rattle.desk_base.specs.Counts.{risen}
 use Rattle.desk_links.specs.Doors.{LinkSeen, link_seen}
 use Rattle.desk_words.specs.Tables.{Rows}
+use Rattle.keeper_core.specs.Keeping.{Uses, uses}
 
--- a link, the tables that a keeper tells, if it tells any, and how often the keeper failed
+-- a link, the tables that a keeper tells, if it tells any, and how often the keeper was called and failed
 pub record World : Type 0 where
   pub link : LinkSeen
   pub told : Option Rows
-  pub faults : ℕ
+  pub uses : Uses
 
 -- a link and a keeper as they tell it
 abbrev pub world : {S W K : Type 0} → (S → Option (List ℕ)) → (S → ℕ) → (W → Option (List ℕ)) → (W → ℕ)
-    → (K → Option Rows) → (K → ℕ) → Both S W → K → World
-world left read_faults written write_faults told faults link keeper = record {
+    → (K → Option Rows) → (K → ℕ) → (K → ℕ) → Both S W → K → World
+world left read_faults written write_faults told calls faults link keeper = record {
   link = link_seen left read_faults written write_faults link;
   told = told keeper;
-  faults = faults keeper;
+  uses = uses calls faults keeper;
 }
 
--- the keeper tells what it told, and failed no more often
+-- a keeper from which tables were loaded, or for which there was no memory then
+abbrev pub loaded : Uses → Uses
+loaded before = record before { calls = risen before.calls }
+
+-- a keeper that was to load tables, and failed
+abbrev pub failed : Uses → Uses
+failed before = record { calls = risen before.calls; faults = risen before.faults }
+
+-- the keeper was not called
 pub record IsUncalled (old new : World) : Type 0 where
   pub told : new.told ≡ old.told
-  pub faults : new.faults ≡ old.faults
+  pub uses : new.uses ≡ old.uses
 
--- no count of faults fell
+-- no count of faults of the link fell
 pub record Later (old new : World) : Type 0 where
   pub read_faults : old.link.read_faults ≤ new.link.read_faults
   pub write_faults : old.link.write_faults ≤ new.link.write_faults
-  pub faults : old.faults ≤ new.faults

@@ -11,6 +11,7 @@
 mod input;
 pub mod laws;
 mod make;
+pub mod numbers;
 mod once;
 mod opening;
 mod pipe;

@@ -16,16 +16,17 @@ use machine_core::Machine;
 use std::alloc::Global;
 
 /// Writes the report over the sessions of all clerks in the keeper's tables.
+#[tactic(auto, using(crate::proofs::Served::is_loaded))]
 pub fn report<M: Machine + Drop, K: Keeper, S: Source, W: Sink>(
     alloc: Global,
     keeper: &mut K,
     link: &mut Both<S, W>,
 ) -> Status
-    ensures ended { let world = world S.left S.read_faults W.written W.write_faults K.tables K.faults in
-        EndsReport (world link.old keeper.old) (world link.new keeper.new) result }
-    ensures later { let world = world S.left S.read_faults W.written W.write_faults K.tables K.faults in
+    ensures ended { let world = world S.left S.read_faults W.written W.write_faults K.tables K.calls K.faults in
+        EndsReport (K.holds keeper.old) (world link.old keeper.old) (world link.new keeper.new) result }
+    ensures later { let world = world S.left S.read_faults W.written W.write_faults K.tables K.calls K.faults in
         Later (world link.old keeper.old) (world link.new keeper.new) }
-    ensures complete { let world = world S.left S.read_faults W.written W.write_faults K.tables K.faults in
+    ensures complete { let world = world S.left S.read_faults W.written W.write_faults K.tables K.calls K.faults in
         K.is_steady keeper.old
         → TakesText (W.takes link.old.sink) (Some Report) (world link.old keeper.old)
         → IsFaultless (W.takes link.old.sink) (Some Report) (world link.old keeper.old) (world link.new keeper.new)

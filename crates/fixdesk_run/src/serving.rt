@@ -68,13 +68,13 @@ pub fn serve<M: Machine + Drop, K: Keeper, L: Listener, W: Sink>(
     out: &mut W,
 ) -> u8
     requires { L.live door.old ≡ 0 }
-    ensures leaves { let site = site W.written W.write_faults K.tables K.faults L.door_faults L.port L.accepted L.live
-        L.waiting L.closed in
-        LeavesServed (map string_bytes words.now) (site out.old keeper.old door.old) (site out.new keeper.new door.new)
-        result }
+    ensures leaves { let site = site W.written W.write_faults K.tables K.calls K.faults L.door_faults L.port
+        L.accepted L.live L.waiting L.closed in
+        LeavesServed (K.holds keeper.old) (map string_bytes words.now) (site out.old keeper.old door.old)
+        (site out.new keeper.new door.new) result }
     ensures idle { L.live door.new ≡ 0 }
-    ensures complete { let site = site W.written W.write_faults K.tables K.faults L.door_faults L.port L.accepted L.live
-        L.waiting L.closed in
+    ensures complete { let site = site W.written W.write_faults K.tables K.calls K.faults L.door_faults L.port
+        L.accepted L.live L.waiting L.closed in
         let plan = plan_of (map string_bytes words.now) in
         AreSteadyFor (K.is_steady keeper.old) (L.offers door.old) plan
         → TakesSaid (W.takes out.old) plan (site out.old keeper.old door.old)
@@ -102,12 +102,13 @@ fn serve_plan<M: Machine + Drop, K: Keeper, L: Listener, W: Sink>(
     requires few { plan.count ≤ 1000000 }
     requires idle { L.live door.old ≡ 0 }
     requires told { IfTold (K.tables keeper.old) (M.rows machine.old) }
-    ensures ends { let site = site W.written W.write_faults K.tables K.faults L.door_faults L.port L.accepted L.live
-        L.waiting L.closed in
-        EndsServing plan (standing M.rows K.tables K.faults machine.old keeper.old) (site out.old keeper.old door.old)
+    ensures ends { let site = site W.written W.write_faults K.tables K.calls K.faults L.door_faults L.port L.accepted
+        L.live L.waiting L.closed in
+        EndsServing plan (standing M.rows K.tables K.calls K.faults machine.old keeper.old) (site out.old keeper.old
+        door.old)
         (site out.new keeper.new door.new) result }
-    ensures later { let site = site W.written W.write_faults K.tables K.faults L.door_faults L.port L.accepted L.live
-        L.waiting L.closed in
+    ensures later { let site = site W.written W.write_faults K.tables K.calls K.faults L.door_faults L.port
+        L.accepted L.live L.waiting L.closed in
         Later (site out.old keeper.old door.old) (site out.new keeper.new door.new) }
     ensures idle { L.live door.new ≡ 0 }
     ensures complete { L.offers door.old plan.count → TakesTally (W.takes out.old) plan.count
@@ -135,12 +136,13 @@ fn serve_all<M: Machine + Drop, K: Keeper, L: Listener, W: Sink>(
     requires few { plan.count ≤ 1000000 }
     requires idle { L.live door.old ≡ 0 }
     requires told { IfTold (K.tables keeper.old) (M.rows machine.old) }
-    ensures ends { let site = site W.written W.write_faults K.tables K.faults L.door_faults L.port L.accepted L.live
-        L.waiting L.closed in
-        EndsServing plan (standing M.rows K.tables K.faults machine.old keeper.old) (site out.old keeper.old door.old)
+    ensures ends { let site = site W.written W.write_faults K.tables K.calls K.faults L.door_faults L.port L.accepted
+        L.live L.waiting L.closed in
+        EndsServing plan (standing M.rows K.tables K.calls K.faults machine.old keeper.old) (site out.old keeper.old
+        door.old)
         (site out.new keeper.new door.new) result }
-    ensures later { let site = site W.written W.write_faults K.tables K.faults L.door_faults L.port L.accepted L.live
-        L.waiting L.closed in
+    ensures later { let site = site W.written W.write_faults K.tables K.calls K.faults L.door_faults L.port
+        L.accepted L.live L.waiting L.closed in
         Later (site out.old keeper.old door.old) (site out.new keeper.new door.new) }
     ensures idle { L.live door.new ≡ 0 }
     ensures complete { L.offers door.old plan.count → TakesTally (W.takes out.old) plan.count

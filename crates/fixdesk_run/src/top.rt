@@ -39,9 +39,10 @@ pub fn run<M: Machine + Drop, K: Keeper, S: Source, W: Sink>(
     keeper: &mut K,
     link: &mut Both<S, W>,
 ) -> u8
-    ensures leaves { let world = world S.left S.read_faults W.written W.write_faults K.tables K.faults in
-        Leaves (map string_bytes words.now) (world link.old keeper.old) (world link.new keeper.new) result }
-    ensures complete { let world = world S.left S.read_faults W.written W.write_faults K.tables K.faults in
+    ensures leaves { let world = world S.left S.read_faults W.written W.write_faults K.tables K.calls K.faults in
+        Leaves (K.holds keeper.old) (map string_bytes words.now) (world link.old keeper.old)
+        (world link.new keeper.new) result }
+    ensures complete { let world = world S.left S.read_faults W.written W.write_faults K.tables K.calls K.faults in
         let task = task_of (map string_bytes words.now) in
         AreSteady (S.is_steady link.old.source) (K.is_steady keeper.old) task
         → TakesText (W.takes link.old.sink) task (world link.old keeper.old)
@@ -58,11 +59,11 @@ fn perform<M: Machine + Drop, K: Keeper, S: Source, W: Sink>(
     link: &mut Both<S, W>,
 ) -> Status
     requires { IsLimited task }
-    ensures ended { let world = world S.left S.read_faults W.written W.write_faults K.tables K.faults in
-        Ends task (world link.old keeper.old) (world link.new keeper.new) result }
-    ensures later { let world = world S.left S.read_faults W.written W.write_faults K.tables K.faults in
+    ensures ended { let world = world S.left S.read_faults W.written W.write_faults K.tables K.calls K.faults in
+        Ends (K.holds keeper.old) task (world link.old keeper.old) (world link.new keeper.new) result }
+    ensures later { let world = world S.left S.read_faults W.written W.write_faults K.tables K.calls K.faults in
         Later (world link.old keeper.old) (world link.new keeper.new) }
-    ensures complete { let world = world S.left S.read_faults W.written W.write_faults K.tables K.faults in
+    ensures complete { let world = world S.left S.read_faults W.written W.write_faults K.tables K.calls K.faults in
         AreSteady (S.is_steady link.old.source) (K.is_steady keeper.old) task
         → TakesText (W.takes link.old.sink) task (world link.old keeper.old)
         → IsFaultless (W.takes link.old.sink) task (world link.old keeper.old) (world link.new keeper.new)

@@ -29,16 +29,15 @@ pub fn serve_links<M: Machine + Drop, K: Keeper, L: Listener>(
     requires bound { L.accepted door.old ≡ Some 0 }
     requires idle { L.live door.old ≡ 0 }
     requires told { IfTold (K.tables keeper.old) (M.rows machine.old) }
-    ensures passed { let desk = standing M.rows K.tables K.faults in
+    ensures passed { let desk = standing M.rows K.tables K.calls K.faults in
         let seen = door_seen L.door_faults L.port L.accepted L.live L.waiting L.closed in
         IfOk result (PassesCount (desk machine.old keeper.old) (desk machine.new keeper.new) (seen door.old)
         (seen door.new) count) }
-    ensures refused { let desk = standing M.rows K.tables K.faults in
+    ensures refused { let desk = standing M.rows K.tables K.calls K.faults in
         let seen = door_seen L.door_faults L.port L.accepted L.live L.waiting L.closed in
         OnErr result (PassesFewer (desk machine.old keeper.old) (desk machine.new keeper.new) (seen door.old)
         (seen door.new) count) }
     ensures told { IfTold (K.tables keeper.new) (M.rows machine.new) }
-    ensures kept { K.faults keeper.old ≤ K.faults keeper.new }
     ensures later { L.door_faults door.old ≤ L.door_faults door.new }
     ensures idle { L.live door.new ≡ 0 }
     ensures offers { L.offers door.old count → IsOk result }
@@ -64,16 +63,15 @@ fn serve_next<M: Machine + Drop, K: Keeper, L: Listener>(
     requires idle { L.live door.old ≡ 0 }
     requires bound { MayAccept (L.accepted door.old) }
     requires told { IfTold (K.tables keeper.old) (M.rows machine.old) }
-    ensures passed { let desk = standing M.rows K.tables K.faults in
+    ensures passed { let desk = standing M.rows K.tables K.calls K.faults in
         let seen = door_seen L.door_faults L.port L.accepted L.live L.waiting L.closed in
         IfOk result (PassesOne (desk machine.old keeper.old) (desk machine.new keeper.new) (seen door.old)
         (seen door.new)) }
-    ensures refused { let desk = standing M.rows K.tables K.faults in
+    ensures refused { let desk = standing M.rows K.tables K.calls K.faults in
         let seen = door_seen L.door_faults L.port L.accepted L.live L.waiting L.closed in
         OnErr result ((desk machine.new keeper.new ≡ desk machine.old keeper.old)
         × IsUnchanged (seen door.old) (seen door.new) × Rose (L.door_faults door.old) (L.door_faults door.new)) }
     ensures told { IfTold (K.tables keeper.new) (M.rows machine.new) }
-    ensures kept { K.faults keeper.old ≤ K.faults keeper.new }
     ensures later { L.door_faults door.old ≤ L.door_faults door.new }
     ensures offers { (count : ℕ) → L.offers door.old (count + 1) → IsOk result × L.offers door.new count }
 {

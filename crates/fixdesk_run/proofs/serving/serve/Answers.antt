@@ -5,8 +5,10 @@ use Rattle.fixdesk_run.specs.Serve.{TakesTally, serve_usage, served_line}
 use Rattle.fixdesk_run.specs.Site.{Site, site}
 use Rattle.fixdesk_run.specs.Status.{status_code}
 use Rattle.fixdesk_run.specs.Standing.{standing}
-use Rattle.fixdesk_run.proofs.Openings.{is_shut, shut_code, stays_shut, takes_fail}
-use Rattle.fixdesk_run.proofs.Visiting.{EndsServing-before}
+use Rattle.fixdesk_run.proofs.Openings.{is_shut, is_used, shut_code, stays_shut, takes_fail}
+use Rattle.keeper_core.specs.Keeping.{uses}
+use Rattle.fixdesk_run.proofs.Served.{is_loaded}
+use Rattle.fixdesk_run.proofs.Visiting.{EndsServing-before, EndsServing-no_more}
 use Rattle.fixdesk_run.proofs.serving.serve.Goals as goal
 
 -- one of two is one of three
@@ -25,18 +27,25 @@ pub returns-in-Ok-clause-leaves : goal.returns-in-Ok-clause-leaves
 returns-in-Ok-clause-leaves g c =
     let some : plan_of (map string_bytes c.args.words.now) ≡ Some c.in-Some.plan = sym c.plan_of.ensures ∙ c.in-Some.is
     in
-    let at = site g.W.Sink.written g.W.Sink.write_faults g.K.Keeper.tables g.K.Keeper.faults g.L.Listener.door_faults
+    let at = site g.W.Sink.written g.W.Sink.write_faults g.K.Keeper.tables g.K.Keeper.calls g.K.Keeper.faults
+    g.L.Listener.door_faults
     g.L.Listener.port g.L.Listener.accepted g.L.Listener.live g.L.Listener.waiting g.L.Listener.closed in
     let later = c.serve_plan.ensures.later in
     record {
       ends = rw some (inr (record {
-        begun = standing g.M.Machine.rows g.K.Keeper.tables g.K.Keeper.faults c.in-Ok.machine c.start.new.keeper;
+        begun = standing g.M.Machine.rows g.K.Keeper.tables g.K.Keeper.calls g.K.Keeper.faults c.in-Ok.machine
+            c.start.new.keeper;
         started = c.in-Ok.ensures.started;
-        loaded = c.start.ensures.later;
+        held = λ other holding some. c.in-Ok.ensures.kept other holding
+            (EndsServing-no_more c.in-Some.plan _ (at c.args.out.now c.start.new.keeper c.args.door.now)
+            (at c.serve_plan.new.out c.serve_plan.new.keeper c.serve_plan.new.door) c.serve_plan.result
+            c.serve_plan.ensures.ends some);
+        called_once = is_loaded (uses g.K.Keeper.calls g.K.Keeper.faults c.args.keeper.now)
+            (uses g.K.Keeper.calls g.K.Keeper.faults c.start.new.keeper) c.start.ensures.called c.in-Ok.ensures.faults;
         end = c.serve_plan.result;
         told = c.code-in-Ok.ensures;
         ends = EndsServing-before c.in-Some.plan _ (at c.args.out.now c.start.new.keeper c.args.door.now)
-            (g.K.Keeper.tables c.args.keeper.now) (g.K.Keeper.faults c.args.keeper.now)
+            (g.K.Keeper.tables c.args.keeper.now) (uses g.K.Keeper.calls g.K.Keeper.faults c.args.keeper.now)
             (at c.serve_plan.new.out c.serve_plan.new.keeper c.serve_plan.new.door) c.serve_plan.result
             c.serve_plan.ensures.ends;
       }));
@@ -44,7 +53,6 @@ returns-in-Ok-clause-leaves g c =
         world = record {
           read_faults = omega arith;
           write_faults = later.world.write_faults;
-          faults = omega (arith, c.start.ensures.later, later.world.faults);
         };
         door = later.door;
       };
@@ -65,7 +73,8 @@ pub returns-in-Err-clause-leaves : goal.returns-in-Err-clause-leaves
 returns-in-Err-clause-leaves g c =
     let some : plan_of (map string_bytes c.args.words.now) ≡ Some c.in-Some.plan = sym c.plan_of.ensures ∙ c.in-Some.is
     in
-    let at = site g.W.Sink.written g.W.Sink.write_faults g.K.Keeper.tables g.K.Keeper.faults g.L.Listener.door_faults
+    let at = site g.W.Sink.written g.W.Sink.write_faults g.K.Keeper.tables g.K.Keeper.calls g.K.Keeper.faults
+    g.L.Listener.door_faults
     g.L.Listener.port g.L.Listener.accepted g.L.Listener.live g.L.Listener.waiting g.L.Listener.closed in
     let old : Site = at c.args.out.now c.args.keeper.now c.args.door.now in
     let new : Site = at c.stay_shut.new.out c.start.new.keeper c.args.door.now in
@@ -74,6 +83,7 @@ returns-in-Err-clause-leaves g c =
         status = c.stay_shut.result;
         told = c.code-in-Err.ensures;
         stays = stays_shut old.world new.world c.in-Err.fail c.stay_shut.result c.in-Err.ensures.unstarted
+            (is_used c.in-Err.fail old.world.uses new.world.uses c.start.ensures.called c.in-Err.ensures.faults)
             (c.stay_shut.ensures.told None 0);
         unbound = refl;
       }));
@@ -81,7 +91,6 @@ returns-in-Err-clause-leaves g c =
         world = record {
           read_faults = omega arith;
           write_faults = c.stay_shut.ensures.write_faults;
-          faults = c.start.ensures.later;
         };
         door = omega arith;
       };
@@ -92,7 +101,8 @@ pub returns-in-Err-clause-complete : goal.returns-in-Err-clause-complete
 returns-in-Err-clause-complete g c =
     let some : plan_of (map string_bytes c.args.words.now) ≡ Some c.in-Some.plan = sym c.plan_of.ensures ∙ c.in-Some.is
     in
-    let at = site g.W.Sink.written g.W.Sink.write_faults g.K.Keeper.tables g.K.Keeper.faults g.L.Listener.door_faults
+    let at = site g.W.Sink.written g.W.Sink.write_faults g.K.Keeper.tables g.K.Keeper.calls g.K.Keeper.faults
+    g.L.Listener.door_faults
     g.L.Listener.port g.L.Listener.accepted g.L.Listener.live g.L.Listener.waiting g.L.Listener.closed in
     let old : Site = at c.args.out.now c.args.keeper.now c.args.door.now in
     let new : Site = at c.stay_shut.new.out c.start.new.keeper c.args.door.now in
@@ -100,5 +110,6 @@ returns-in-Err-clause-complete g c =
     let room = takes_fail (g.W.Sink.takes c.args.out.now) old.world new.world c.in-Err.fail
     c.in-Err.ensures.unstarted (λ (text : List ℕ) due. takes text (inr due)) in
     let shut = is_shut old.world new.world c.in-Err.fail c.stay_shut.result c.in-Err.ensures.unstarted
+    (is_used c.in-Err.fail old.world.uses new.world.uses c.start.ensures.called c.in-Err.ensures.faults)
     (c.stay_shut.ensures.told None 0) (c.in-Err.ensures.steady steady.0).0 (c.stay_shut.ensures.complete room) in
     rw c.code-in-Err.ensures (inr (shut_code old.world new.world (status_code c.stay_shut.result) shut)))

@@ -15,7 +15,7 @@ returns-in-Some-Report-clause-complete g c =
 pub returns-in-Some-Make-clause-ended : goal.returns-in-Some-Make-clause-ended
 returns-in-Some-Make-clause-ended g c =
     let is = rw c.in-Some-Make.is at c.in-Some-Make.field-0-is in
-    rw (c.in-Some-Make.is, is) (c.make.ensures.ended, record { told = refl; faults = refl })
+    rw (c.in-Some-Make.is, is) (c.make.ensures.ended, record { told = refl; uses = refl })
 
 pub returns-in-Some-Make-clause-complete : goal.returns-in-Some-Make-clause-complete
 returns-in-Some-Make-clause-complete g c =

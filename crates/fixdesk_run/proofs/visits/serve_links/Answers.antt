@@ -7,14 +7,14 @@ use Rattle.fixdesk_run.proofs.visits.serve_links.Goals as goal
 -- no link was served yet
 pub links-init : goal.links-init
 links-init g c =
-    let desk = standing g.M.Machine.rows g.K.Keeper.tables g.K.Keeper.faults c.args.machine.now c.args.keeper.now in
+    let desk = standing g.M.Machine.rows g.K.Keeper.tables g.K.Keeper.calls g.K.Keeper.faults c.args.machine.now
+    c.args.keeper.now in
     let door = door_seen g.L.Listener.door_faults g.L.Listener.port g.L.Listener.accepted g.L.Listener.live
     g.L.Listener.waiting g.L.Listener.closed c.args.door.now in
     let all : c.args.count ≡ c.args.count - 0 = omega arith in
     record {
       passed = PassesCount-none desk door c.requires.bound c.requires.idle;
       told = c.requires.told;
-      kept = omega arith;
       later = omega arith;
       offers = λ offers. subst (λ (n : ℕ). g.L.Listener.offers c.args.door.now n) all offers;
       within = omega arith;
@@ -24,7 +24,7 @@ links-init g c =
 -- one more was served
 pub links-preserved : goal.links-preserved
 links-preserved g c =
-    let desk = standing g.M.Machine.rows g.K.Keeper.tables g.K.Keeper.faults in
+    let desk = standing g.M.Machine.rows g.K.Keeper.tables g.K.Keeper.calls g.K.Keeper.faults in
     let seen = door_seen g.L.Listener.door_faults g.L.Listener.port g.L.Listener.accepted g.L.Listener.live
     g.L.Listener.waiting g.L.Listener.closed in
     let left = c.args.count - (c.links.served + 1) in
@@ -36,7 +36,6 @@ links-preserved g c =
           (seen c.serve_next.new.door) c.in_ok-end.end c.links.served c.links.early c.links.invariant.passed
           c.in_ok-end.ensures.passed);
       told = c.serve_next.ensures.told;
-      kept = omega (arith, c.links.invariant.kept, c.serve_next.ensures.kept);
       later = omega (arith, c.links.invariant.later, c.serve_next.ensures.later);
       offers = λ offers.
           let now = subst (λ (n : ℕ). g.L.Listener.offers c.links.door n) more (c.links.invariant.offers offers) in

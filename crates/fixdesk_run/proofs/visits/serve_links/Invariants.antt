@@ -6,14 +6,13 @@ use Rattle.fixdesk_run.proofs.visits.serve_links.Given as goal
 
 abbrev pub invariant-links : goal.invariant-links
 invariant-links g l =
-    let desk = standing g.M.Machine.rows g.K.Keeper.tables g.K.Keeper.faults in
+    let desk = standing g.M.Machine.rows g.K.Keeper.tables g.K.Keeper.calls g.K.Keeper.faults in
     let seen = door_seen g.L.Listener.door_faults g.L.Listener.port g.L.Listener.accepted g.L.Listener.live
     g.L.Listener.waiting g.L.Listener.closed in
     record {
       passed : PassesCount (desk l.fn.machine l.fn.keeper) (desk l.machine l.keeper) (seen l.fn.door) (seen l.door)
           l.served l.early;
       told : IfTold (g.K.Keeper.tables l.keeper) (g.M.Machine.rows l.machine);
-      kept : g.K.Keeper.faults l.fn.keeper ≤ g.K.Keeper.faults l.keeper;
       later : g.L.Listener.door_faults l.fn.door ≤ g.L.Listener.door_faults l.door;
       offers : g.L.Listener.offers l.fn.door l.count → g.L.Listener.offers l.door (l.count - l.served);
       within : l.served ≤ l.count;

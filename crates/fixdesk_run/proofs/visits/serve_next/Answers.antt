@@ -14,7 +14,8 @@ returns-clause-passed g c =
         closed = seen c.serve_link-end.new.link;
         end = c.serve_link-end.result;
         answers = c.serve_link-end.ensures.streams.answers;
-        after = standing g.M.Machine.rows g.K.Keeper.tables g.K.Keeper.faults c.serve_link-end.new.machine
+        after = standing g.M.Machine.rows g.K.Keeper.tables g.K.Keeper.calls g.K.Keeper.faults
+            c.serve_link-end.new.machine
             c.serve_link-end.new.keeper;
       };
       end_is = refl;
