@@ -13,13 +13,16 @@ use std::test::Fail;
 /// A keeper over files that held at first what `S` says.
 type Keeping<'r, S> = FileKeeper<'r, S, FileStore<FileFrom<S>>>;
 
-/// What the streams of a case are answered, each by a keeper of its own over the file that those before it left, and
-/// whether that file has the tables that are wanted then. There is no file before, and none is left.
+/// What the streams of a case are answered, each by a keeper of its own over the file that those before it left,
+/// without its log, whether that file has the tables that are wanted then, and what stands at its name and at that of
+/// its log. Nothing stands there before but what the case lays there, or a copy of the file that it begins from, and
+/// nothing is left.
 pub fn told(rt: &HostRuntime, script: &Script, case: &Case) -> Result<Vec<Part>, Fail> {
     let Some(path) = case.text("file") else {
         return Err(Fail::new("a case does not name its file"));
     };
     remove(rt, path)?;
+    lay(rt, case, path)?;
     let trial = Trial {
         rt,
         script,
@@ -42,6 +45,9 @@ struct Trial<'t> {
 
 impl<'t> Trial<'t> {
     fn told(&self) -> Result<Vec<Part>, Fail> {
+        let log = log_of(self.rt, self.path)?;
+        self.lay("stands", self.path)?;
+        self.lay("log stands", log.as_str())?;
         let mut answer = Vec::new(self.rt.alloc());
         for stream in IN_TURN {
             if stream.is_in(self.case) {
@@ -51,7 +57,57 @@ impl<'t> Trial<'t> {
         if let Some(words) = self.case.text("tables") {
             answer.push(self.tables(words, Unknown)?)?;
         }
+        self.add_left(&mut answer, "left", self.path)?;
+        self.add_left(&mut answer, "log left", log.as_str())?;
         Ok(answer)
+    }
+
+    /// Writes what stands in a part to a file, where the case has that part.
+    fn lay(&self, part: &'static str, path: &str) -> Result<(), Fail> {
+        let Some(text) = self.case.text(part) else {
+            return Ok(());
+        };
+        match fs::write(self.rt, path, text.as_bytes()) {
+            Ok(()) => Ok(()),
+            Err(_) => Err(Fail::new("a file of a case was not written")),
+        }
+    }
+
+    /// Adds what stands in a file, where the case asks for it: `as before` where it has the bytes of the file that the
+    /// case begins from, `none` where there is none.
+    fn add_left(&self, answer: &mut Vec<Part>, part: &'static str, path: &str) -> Result<(), Fail> {
+        if self.case.part(part).is_none() {
+            return Ok(());
+        }
+        let alloc = self.rt.alloc();
+        let left = match fs::read(self.rt, path) {
+            Ok(bytes) => self.left(part, bytes.as_slice())?,
+            Err(error) if error.kind() == ErrorKind::NotFound => Part::new(alloc, part, b"none")?,
+            Err(_) => return Err(Fail::new("a file of a case was not read")),
+        };
+        answer.push(left)?;
+        Ok(())
+    }
+
+    /// These bytes of a file, or that they are as before.
+    fn left(&self, part: &'static str, bytes: &[u8]) -> Result<Part, Fail> {
+        let alloc = self.rt.alloc();
+        if self.is_as_before(bytes)? {
+            Ok(Part::new(alloc, part, b"as before")?)
+        } else {
+            Ok(Part::new(alloc, part, bytes)?)
+        }
+    }
+
+    /// Whether these are the bytes of the file that the case begins from.
+    fn is_as_before(&self, bytes: &[u8]) -> Result<bool, Fail> {
+        let Some(from) = self.case.text("from") else {
+            return Ok(false);
+        };
+        match fs::read(self.rt, from) {
+            Ok(before) => Ok(before.as_slice() == bytes),
+            Err(_) => Err(Fail::new("a file that a case begins from was not read")),
+        }
     }
 
     /// Sends a stream to a keeper of its own, and beside the first one, while that keeper has its file open, the stream
@@ -67,7 +123,19 @@ impl<'t> Trial<'t> {
         if stream == Stream::First && Stream::Beside.is_in(self.case) {
             self.add_beside(answer, Unknown)?;
         }
-        Ok(())
+        self.end(keeper)
+    }
+
+    /// Ends a keeper, and removes the log of a file from which tables were loaded: nothing of it is needed.
+    fn end<S: Start>(&self, keeper: Keeping<'t, S>) -> Result<(), Fail> {
+        match keeper.close() {
+            Ok(Some(_files)) => {
+                let log = log_of(self.rt, self.path)?;
+                remove_one(self.rt, log.as_str())
+            }
+            Ok(None) => Ok(()),
+            Err(_) => Err(Fail::new("the keeper of a case did not end")),
+        }
     }
 
     /// Sends the stream beside to a second keeper at the same path.
@@ -105,9 +173,25 @@ impl<'t> Trial<'t> {
     }
 }
 
+/// Lays a copy of the file that a case begins from at a path, where the case names one.
+fn lay(rt: &HostRuntime, case: &Case, path: &str) -> Result<(), Fail> {
+    match case.text("from") {
+        None => Ok(()),
+        Some(from) => match fs::copy(rt, from, path) {
+            Ok(_) => Ok(()),
+            Err(_) => Err(Fail::new("a file that a case begins from was not copied")),
+        },
+    }
+}
+
+/// The name of the log of a file.
+fn log_of(rt: &HostRuntime, path: &str) -> Result<String, Fail> {
+    Ok(format!(in rt.alloc(); "{path}-wal")?)
+}
+
 /// Removes the file at a path and its log, where they are there.
 fn remove(rt: &HostRuntime, path: &str) -> Result<(), Fail> {
-    let log = format!(in rt.alloc(); "{path}-wal")?;
+    let log = log_of(rt, path)?;
     remove_one(rt, path)?;
     remove_one(rt, log.as_str())
 }

@@ -59,7 +59,7 @@ fn make<S: Alter>(conn: &mut Connection<S>) -> Result<(), Fail>
     ensures { conn.new.in_transaction ≡ false }
 {
     match footing_of(conn) {
-        Ok(Footing::Blank) => match make_table(conn) {
+        Ok(Footing::Absent) => match make_table(conn) {
             Ok(()) => Ok(()),
             Err(_) => Err(Fail::new("the table was not made")),
         },
@@ -83,7 +83,7 @@ pub fn rows_of<S: Alter>(alloc: Global, conn: &mut Connection<S>) -> Result<Stri
     ensures { conn.new.in_transaction ≡ false }
 {
     match footing_of(conn) {
-        Ok(Footing::Blank) => Ok(String::new(alloc)),
+        Ok(Footing::Absent) => Ok(String::new(alloc)),
         Ok(Footing::Desk) => match all_rows(conn) {
             Ok(rows) => lines_of(alloc, rows.as_slice()),
             Err(_) => Err(Fail::new("the rows of the table were not read")),
