@@ -3,8 +3,9 @@
 #
 #   sh tour.sh COMMAND..
 #
-# COMMAND.. starts fixdeskd, and the port and the number of connections are put behind it. The port is 8765, or PORT from
-# the environment. fixdeskd ends by itself behind the last connection; the tour needs curl.
+# COMMAND.. starts fixdeskd, and the port and the number of connections are put after it. The port is 8765, or PORT from
+# the environment. fixdeskd ends by itself after the last connection, and is stopped where the tour breaks off; the tour
+# needs curl. COMMAND.. may take an hour until the desk is there, as a first proof of the program does.
 set -eu
 
 [ $# -ge 1 ] || { echo "usage: tour.sh COMMAND.." >&2; exit 1; }
@@ -16,11 +17,12 @@ connections=17
 
 "$@" "$port" "$connections" &
 program=$!
+trap 'kill "$program" 2>/dev/null || true' EXIT
 
 # Each request is one connection. The first waits until the desk is there.
 ask() {
     echo "$1 $2"
-    curl -s --retry 300 --retry-delay 1 --retry-connrefused -X "$1" "$desk$2" ${3+--data-binary "$3"} ||
+    curl -s --retry 3600 --retry-delay 1 --retry-connrefused -X "$1" "$desk$2" ${3+--data-binary "$3"} ||
         { echo "no answer" >&2; exit 1; }
     echo
 }
@@ -61,3 +63,4 @@ ask GET /see/amy/records/postal/1
 ask GET /see/amy/report
 
 wait "$program"
+trap - EXIT
