@@ -18,8 +18,8 @@ unopened link = record { link = link; told = None; uses = record { calls = 0; fa
 abbrev pub opened : Option Rows → Uses → LinkSeen → World
 opened told uses link = record { link = link; told = told; uses = uses }
 
--- what `run` leaves with these words, over files that held this and were not opened before, by what their keeper tells in
--- the end; and what it answers
+-- what `run` leaves with these words, over files that held this and were not opened before, by what their keeper tells
+-- in the end; and what it answers
 abbrev pub RunsOver : Image → List (List ℕ) → LinkSeen → LinkSeen → Option Rows → Uses → ℕ → Type 0
 RunsOver image words old new told uses code =
     Leaves (StandFor image) words (unopened old) (opened told uses new) code

@@ -12,8 +12,9 @@ use keeper_sqlite::FileKeeper;
 use session_machine::Desk;
 use sqlite::Start;
 
-/// Does what the words ask for, which are without the program's name, as `run` of `fixdesk_run` does, over the tables in
-/// the files at a path. These held at first what `S` says.
+/// Does what the words ask for, which are without the program's name, as `run` of `fixdesk_run` does, over the tables
+/// in the files at a path. These held at first what `S` says. Files that are refused give status 4 (docs/formats.md,
+/// *Statuses of `fixdesk`*).
 pub fn run_over<'r, S: Start, R: Source, W: Sink>(
     rt: &'r HostRuntime,
     words: &[String],

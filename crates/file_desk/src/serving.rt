@@ -14,8 +14,9 @@ use keeper_sqlite::FileKeeper;
 use session_machine::Desk;
 use sqlite::Start;
 
-/// Serves the links of a door, as the words say, which are without the program's name, as `serve` of `fixdesk_run` does,
-/// over the tables in the files at a path. These held at first what `S` says.
+/// Serves the links of a door, as the words say, which are without the program's name, as `serve` of `fixdesk_run`
+/// does, over the tables in the files at a path. These held at first what `S` says. Files that are refused
+/// give status 4 (docs/formats.md, *Statuses of `fixdeskd`*).
 pub fn serve_over<'r, S: Start, L: Listener, W: Sink>(
     rt: &'r HostRuntime,
     words: &[String],

@@ -14,7 +14,7 @@ pub record AreNumbered (rows : List Row) : Type 0 where
   pub rising : IsTable rows
   pub whole : AllByRecursion (λ row. fits_i64 (id_in (rowid row)) ≡ true) rows
 
--- fewer numbers of 64 bits than this are left behind that of the last row
+-- fewer numbers of 64 bits than this are left after that of the last row
 abbrev pub LacksNumbers : ℕ → List Row → Type 0
 LacksNumbers count rows = pos (2 ^ 63) <ℤ (next_rowid rows +ℤ pos count)
 
