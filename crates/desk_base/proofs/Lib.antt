@@ -1,5 +1,7 @@
+pub mod Bools
 pub mod Distinct
 pub mod Growth
+pub mod Lists
 pub mod Options
 pub mod Pushed
 pub mod Rows

@@ -7,4 +7,5 @@ pub mod Roomy
 pub mod Memory
 pub mod Places
 pub mod Plans
+pub mod Texts
 pub mod Words

@@ -16,6 +16,10 @@ pub length-put : {T : Type 0} (items : List T) (place : ℕ) (item : T)
     → length (put items place item) ≡ (if place == length items then length items + 1 else length items)
 length-put {T} items place item = grind (arith, nat_tests, length-set {A = T}, length-append {A = T})
 
+-- at the place that is a list's length an item comes after the others
+pub put-end : {T : Type 0} (items : List T) (item : T) → put items (length items) item ≡ items ++ item ∷ []
+put-end items item = grind (arith, nat_tests)
+
 -- there is one list more where a clerk comes
 pub length-with_clerk : {T : Type 0} (lists : List (List T)) (place clerks : ℕ)
     → length (with_clerk lists place clerks) ≡ (if place == clerks then length lists + 1 else length lists)

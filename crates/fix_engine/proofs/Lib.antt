@@ -10,6 +10,7 @@ pub mod Truth
 pub mod Known
 pub mod FirstRuns
 pub mod SecondRuns
+pub mod Listing
 pub mod Lists
 pub mod Twins
 pub mod Rows

@@ -9,7 +9,7 @@ use Rattle.fix_model.specs.Fix.{AreAllCovered, Differs, IsConflict, IsDissent, I
 use Rattle.fix_model.specs.Run.{IsFinal, IsMaximalRun, end_of}
 use Rattle.fix_model.specs.States.{Fits, record_of}
 use Rattle.fix_model.specs.Valid.{IsValid}
-use Rattle.fix_model.proofs.Deciding.{Decided, decide_equal}
+use Rattle.fix_model.proofs.Deciding.{decide_records}
 use Rattle.fix_model.proofs.Runs.{typed-end_of}
 use Rattle.fix_engine.specs.declared.leads.Lead.{Lead}
 use Rattle.fix_engine.specs.declared.runs.Runs.{Runs}
@@ -20,17 +20,6 @@ use Rattle.fix_engine.specs.Runs.{IsBegun, IsCompleted}
 use Rattle.fix_engine.specs.Turns.{BeginsElsewhere, IsLeastElsewhere, IsLeftFrom}
 use Rattle.fix_engine.proofs.Departures.{CanDepart-elsewhere, elsewhere-exists}
 use Rattle.fix_engine.proofs.Ends.{IsInside-end_of, IsInside-start, KeepsTo, KeepsTo-record}
-
--- whether two records are equal
-decide_records : (one other : List (List ℕ)) → Decided (one ≡ other)
-decide_records [] [] = inl refl
-decide_records [] (text ∷ others) = inr (λ same. cc)
-decide_records (text ∷ texts) [] = inr (λ same. cc)
-decide_records (text ∷ texts) (other ∷ others) = elim (decide_equal text other) [
-  | inr differs ↦ inr (λ same. differs cc)
-  | inl same ↦ elim (decide_records texts others)
-      [ inl rest ↦ inl (rw (same, rest) refl) | inr differs ↦ inr (λ all. differs cc) ]
-]
 
 module _ (kit : Kit) (valid : IsValid kit) (state : State) (fits : Fits kit state) (first : List Step)
     (leads : List Lead) where

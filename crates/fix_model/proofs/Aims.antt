@@ -1,11 +1,11 @@
 -- What a look seeks, and the rows that meet it.
-use Rattle.std.proofs.Common.{◌≡◌, ◌<◌, ◌+◌, ◌++◌, ◌∷◌, ◌∙◌, ℕ, List, [], true, false, length, take, get_or, map, ap}
+use Rattle.std.proofs.Common.{◌≡◌, ◌<◌, ◌+◌, ◌++◌, ◌∷◌, ◌∙◌, ℕ, List, [], true, false, length, take, get_or, ap}
 use Rattle.std.proofs.lemmas.List.{map-append}
-use Rattle.std.proofs.lemmas.List.Elements.{All-filter, All-from_recursion, All-map, recursion_from_All}
+use Rattle.std.proofs.lemmas.List.Elements.{All-filter, All-map}
 use Rattle.std.specs.Prelude.{All, MatchOption, Option}
-use Rattle.std.specs.List.{AllByRecursion}
 use Rattle.desk_base.specs.Grid.{cell_text}
 use Rattle.fix_model.specs.declared.book.Hit.{Hit}
+use Rattle.desk_base.proofs.Lists.{All-unmap}
 use Rattle.fix_model.specs.declared.kit.Kit.{Kit}
 use Rattle.fix_model.specs.declared.rule.Rule.{Rule}
 use Rattle.fix_model.specs.declared.state.State.{State}
@@ -37,25 +37,13 @@ module _ (kit : Kit) (state : State) (keys : List (ℕ × ℕ)) (k : ℕ) (withi
   aims_at-uncovered open_ = ap (aims_at kit state)
       (filter-take-fails (λ (key : ℕ × ℕ). is_covering (cell_at state key.0)) keys k (0, 0) within open_)
 
--- the same of a list item by item
-turned : {A B : Type 0} (P : B → Type 0) (f : A → B) (items : List A) → AllByRecursion P (map f items)
-    → AllByRecursion (λ item. P (f item)) items
-turned P f [] all = tt
-turned P f (item ∷ items) all = (all.0, turned P f items all.1)
-
--- what holds of each value of a list holds of what they are the values of
-pub All-of_map : {A B : Type 0} (P : B → Type 0) (f : A → B) (items : List A) → All P (map f items)
-    → All (λ item. P (f item)) items
-All-of_map P f items all = All-from_recursion (λ item. P (f item)) items
-    (turned P f items (recursion_from_All P (map f items) all))
-
 module _ (kit : Kit) (state : State) (rule : Rule) where
   -- a row meets what a look seeks exactly where it agrees at the covered keys
   pub RowAgreesAt-met : (row : ℕ) → Meets (master_of kit rule) rule (aims_of kit state rule) row
       → RowAgreesAt kit (value_at kit state) rule (covered_keys state rule) row
   RowAgreesAt-met row meets = record {
     usable = meets.usable;
-    alike = All-of_map
+    alike = All-unmap
         (λ (aim : Aim). AreAlike aim.folded aim.text (cell_text (master_of kit rule) row aim.column))
         _ (covered_keys state rule) meets.alike;
   }

@@ -17,14 +17,14 @@ use Rattle.fix_model.specs.States.{IsCovered, cell_at, shown, value_at}
 
 module _ (kit : Kit) (state : State) (step : Step) (fires : Fires kit state step) where
   -- a covered attribute is not the head
-  not_head : (attribute : ℕ) → IsCovered state attribute → attribute ≢ (rule_at kit step.rule).head
-  not_head attribute covered same = fires.uncovered (subst (λ place. IsCovered state place) same covered)
+  pub covered-apart : (attribute : ℕ) → IsCovered state attribute → attribute ≢ (rule_at kit step.rule).head
+  covered-apart attribute covered same = fires.uncovered (subst (λ place. IsCovered state place) same covered)
 
   -- a covered cell stays
   pub cell_at-after : (attribute : ℕ) → IsCovered state attribute → cell_at (after kit state step) attribute
       ≡ cell_at state attribute
   cell_at-after attribute covered = get_or-set_other state.cells (rule_at kit step.rule).head attribute (Fixed step)
-      Uncovered (not_head attribute covered)
+      Uncovered (covered-apart attribute covered)
 
   -- a covered attribute stays covered
   pub IsCovered-after : (attribute : ℕ) → IsCovered state attribute → IsCovered (after kit state step) attribute

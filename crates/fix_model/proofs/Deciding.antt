@@ -14,7 +14,7 @@ use Rattle.fix_model.specs.declared.pattern.Pat.TheVariants.{Is, IsNot, OneOf, N
 use Rattle.fix_model.specs.declared.state.State.{State}
 use Rattle.fix_model.specs.declared.state.Step.{Step}
 use Rattle.fix_model.specs.Alike.{AreAlike, compared}
-use Rattle.fix_model.specs.Application.{IsUsable, RowAgrees, IsEnabled, Fires}
+use Rattle.fix_model.specs.Application.{IsUsable, RowAgreesAt, IsEnabled, Fires}
 use Rattle.fix_model.specs.Pattern.{Matches}
 use Rattle.fix_model.specs.Rules.{rule_at, master_of, master_text, from_text, is_folded}
 use Rattle.fix_model.specs.Run.{IsFinal}
@@ -89,17 +89,28 @@ decide_equal one other = elim (cases_Bool (pointwise nat_eq one other)) [
   | inr differ ↦ inr (other_text one other (sym differ))
 ]
 
+-- whether two records are equal
+pub decide_records : (one other : List (List ℕ)) → Decided (one ≡ other)
+decide_records [] [] = inl refl
+decide_records [] (text ∷ others) = inr (λ same. cc)
+decide_records (text ∷ texts) [] = inr (λ same. cc)
+decide_records (text ∷ texts) (other ∷ others) = elim (decide_equal text other) [
+  | inr differs ↦ inr (λ same. differs cc)
+  | inl same ↦ elim (decide_records texts others)
+      [ inl rest ↦ inl (rw (same, rest) refl) | inr differs ↦ inr (λ all. differs cc) ]
+]
+
 -- whether a test passes
-decide_test : (test : Bool) → Decided (IsTrue test)
+pub decide_test : (test : Bool) → Decided (IsTrue test)
 decide_test true = inl refl
 decide_test false = inr (λ h. cc)
 
 -- whether two texts are alike
-decide_alike : (folded : Bool) (one other : List ℕ) → Decided (AreAlike folded one other)
+pub decide_alike : (folded : Bool) (one other : List ℕ) → Decided (AreAlike folded one other)
 decide_alike folded one other = decide_equal (compared folded one) (compared folded other)
 
 -- whether a pattern matches a text
-decide_match : (folded : Bool) (pat : Pat) (text : List ℕ) → Decided (Matches folded pat text)
+pub decide_match : (folded : Bool) (pat : Pat) (text : List ℕ) → Decided (Matches folded pat text)
 decide_match folded (Is constant) text = decide_alike folded constant text
 decide_match folded (IsNot constant) text = opposite (decide_alike folded constant text)
 decide_match folded (OneOf texts) text = decide_any (λ one. AreAlike folded one text)
@@ -117,7 +128,7 @@ decide_less m n = elim (cases_Bool (leb n m)) [
 
 module _ (kit : Kit) (state : State) where
   -- whether a row is usable
-  decide_usable : (rule : Rule) (row : ℕ) → Decided (IsUsable kit rule row)
+  pub decide_usable : (rule : Rule) (row : ℕ) → Decided (IsUsable kit rule row)
   decide_usable rule row = elim (both (decide_less row (length (master_of kit rule).rows))
       (both (decide_all (λ key. master_text kit rule row key.1 ≢ [])
       (λ key. opposite (decide_equal (master_text kit rule row key.1) [])) rule.keys)
@@ -126,20 +137,21 @@ module _ (kit : Kit) (state : State) where
         | inr none ↦ inr (λ u. none (u.row_within, (u.keys, u.from)))
       ]
 
-  -- whether a row agrees
-  decide_agrees : (rule : Rule) (row : ℕ) → Decided (RowAgrees kit (value_at kit state) rule row)
-  decide_agrees rule row =
+  -- whether a row agrees at some keys
+  pub decide_agrees : (rule : Rule) (keys : List (ℕ × ℕ)) (row : ℕ)
+      → Decided (RowAgreesAt kit (value_at kit state) rule keys row)
+  decide_agrees rule keys row =
       let alike = λ (key : ℕ × ℕ). AreAlike (is_folded kit key.0) (value_at kit state key.0)
       (master_text kit rule row key.1) in
       elim (both (decide_usable rule row)
       (decide_all alike (λ key. decide_alike (is_folded kit key.0) (value_at kit state key.0)
-      (master_text kit rule row key.1)) rule.keys)) [
+      (master_text kit rule row key.1)) keys)) [
         | inl h ↦ inl (record { usable = h.0; alike = h.1 })
         | inr none ↦ inr (λ a. none (a.usable, a.alike))
       ]
 
   -- whether a rule is enabled
-  decide_enabled : (rule : Rule) → Decided (IsEnabled kit state rule)
+  pub decide_enabled : (rule : Rule) → Decided (IsEnabled kit state rule)
   decide_enabled rule =
       let covered = λ (attribute : ℕ). decide_test (is_covering (cell_at state attribute)) in
       elim (both (decide_all (λ key. IsCovered state key.0) (λ key. covered key.0) rule.keys)
@@ -155,7 +167,7 @@ module _ (kit : Kit) (state : State) where
   decide_fires step =
       let rule = rule_at kit step.rule in
       elim (both (decide_less step.rule (length kit.rules)) (both (decide_enabled rule)
-      (both (opposite (decide_test (is_covering (cell_at state rule.head)))) (decide_agrees rule step.row)))) [
+      (both (opposite (decide_test (is_covering (cell_at state rule.head)))) (decide_agrees rule rule.keys step.row)))) [
         | inl h ↦ inl (record { rule_within = h.0; enabled = h.1.0; uncovered = h.1.1.0; agrees = h.1.1.1 })
         | inr none ↦ inr (λ f. none (f.rule_within, (f.enabled, (f.uncovered, f.agrees))))
       ]

@@ -20,7 +20,7 @@ use Rattle.fix_model.specs.Alike.{compared}
 use Rattle.fix_model.specs.Application.{IsUsable}
 use Rattle.fix_model.specs.Comparison.{row_key}
 use Rattle.fix_model.specs.Rules.{from_text, is_folded, master_of, master_text, rule_at}
-use Rattle.fix_model.proofs.Aims.{All-of_map}
+use Rattle.desk_base.proofs.Lists.{All-unmap}
 use Rattle.fix_model.proofs.Ranges.{filter-range-fails, filter-range-passes}
 use Rattle.master_index.specs.declared.triples.Triples.{Triples}
 use Rattle.master_index.specs.Triples.{AreTriplesBefore, column_of, columns_of, HasOwner, ShareTriple}
@@ -185,6 +185,6 @@ module _ (kit : Kit) (rule other : Rule) (shares : ShareTriple kit rule other) w
         let given = λ (column : ℕ × Bool). cell_text (master_of kit other) row column.0 ≢ [] in
         let here : All (λ (key : ℕ × ℕ). given (column_of kit key)) rule.keys = rw masters at usable.keys in
         let columns = All-map given (column_of kit) rule.keys here in
-        All-of_map given (column_of kit) other.keys (subst (All given) shares.columns columns);
+        All-unmap given (column_of kit) other.keys (subst (All given) shares.columns columns);
     from = subst (λ text. text ≢ []) (from_text-shared row) usable.from;
   }

@@ -5,7 +5,7 @@ use Rattle.desk_base.specs.Grid.{cell_text}
 use Rattle.fix_model.specs.declared.rows.SoughtText.{SoughtText}
 use Rattle.fix_model.specs.Alike.{AreAlike}
 use Rattle.fix_model.specs.Sought.{Aim, aim_of}
-use Rattle.fix_model.proofs.Aims.{All-of_map}
+use Rattle.desk_base.proofs.Lists.{All-unmap}
 use Rattle.fix_model.proofs.rows.Sought.is_alike.Goals as goal
 
 -- what is read past the last text
@@ -15,7 +15,7 @@ nothing = record { column = 0; text = record { ref_ptr = (0, 0); now = [] }; fol
 pub cell-requires-clause-column_within : goal.cell-requires-clause-column_within
 cell-requires-clause-column_within c =
     let columns = rw (← c.self.view_is) at c.requires.columns in
-    All-of_map (λ (aim : Aim). aim.column < c.args.master.now.columns) aim_of
+    All-unmap (λ (aim : Aim). aim.column < c.args.master.now.columns) aim_of
     (take c.self.inside.count c.self.inside.texts) columns c.texts.sought-index _ c.texts-test.true
 
 pub returns-then-not-alike : goal.returns-then-not-alike
@@ -24,7 +24,7 @@ returns-then-not-alike c = (
   λ all.
       let alike = λ (aim : Aim). AreAlike aim.folded aim.text (cell_text c.args.master.now c.args.row aim.column) in
       let each = rw (← c.self.view_is) at all in
-      let here = All-of_map alike aim_of (take c.self.inside.count c.self.inside.texts) each c.texts.sought-index
+      let here = All-unmap alike aim_of (take c.self.inside.count c.self.inside.texts) each c.texts.sought-index
       _ c.texts-test.true in
       let told = rw (c.as_str-cell.ensures.text, c.cell.ensures) at c.alike.ensures.1 in
       absurd (let e = told here in let f = c.if-not-alike.true in cc),
