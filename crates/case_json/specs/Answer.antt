@@ -14,7 +14,8 @@ use Rattle.fix_engine.specs.declared.verdict.Verdict.{Verdict}
 use Rattle.fix_engine.specs.declared.verdict.Verdict.TheVariants.{Fix, Conflict}
 use Rattle.fix_engine.specs.Verdicts as engine
 use Rattle.case_json.specs.declared.case.Case.{Case}
-use Rattle.json_parts.specs.Shapes.{line, list_of, object_of, whole}
+use Rattle.desk_base.specs.Texts.{line}
+use Rattle.json_parts.specs.Shapes.{list_of, object_of, whole}
 
 -- a place from 0, as it is written: counted from 1
 abbrev pub count_of : ℕ → Data

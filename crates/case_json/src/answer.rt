@@ -7,7 +7,8 @@ ghost use Rattle.fix_model.specs.States.{Fits};
 ghost use Rattle.fix_engine.specs.Verdicts as engine;
 ghost use Rattle.case_json.specs.Answer.{IsAnswer, cell_shown, cells_shown, dissent_shown, run_shown, step_shown};
 ghost use Rattle.case_json.specs.Answer.{conflict_shown, conflict_line, fix_line, fix_shown};
-ghost use Rattle.json_parts.specs.Shapes.{line, list_of};
+ghost use Rattle.desk_base.specs.Texts.{line};
+ghost use Rattle.json_parts.specs.Shapes.{list_of};
 
 use desk_base::{Duplicate, List, NoMemory, Text};
 use fix_engine::{Verdict, Work, apply};

@@ -15,6 +15,7 @@ use Rattle.std.proofs.lemmas.List.Quantifiers.{all_pairs_push}
 use Rattle.std.proofs.lemmas.Slice.Eq.{bytes_eq-Decides}
 use Rattle.std.proofs.lemmas.Str.{IsUtf8-from_ascii}
 use Rattle.std.proofs.lemmas.Str.Ascii.{IsAscii-cons, IsAscii-nil}
+use Rattle.desk_base.proofs.Utf8.{bytes_eq-apart}
 use Rattle.desk_base.specs.Words.{is_word}
 use Rattle.rule_text.specs.declared.rulebook.RuleLine.{RuleLine}
 use Rattle.rule_text.specs.Rulebooks.{AreNamedApart, ArePairs, IsLine, IsPlain, IsRulebook, is_plain}
@@ -90,13 +91,6 @@ rule_name-apart place later order low same =
     let digits : decimal (place + 1) ≡ decimal (later + 1) = cc in
     let number = decimal_injective (place + 1) (later + 1) (omega arith) (omega arith) digits in
     absurd (omega arith)
-
--- two texts are told apart
-bytes_eq-apart : (one other : List ℕ) → one ≢ other → bytes_eq one other ≡ false
-bytes_eq-apart one other apart = elim (cases_Bool (bytes_eq one other)) [
-  | inl same ↦ absurd (apart ((bytes_eq-Decides one other).0 same))
-  | inr told ↦ told
-]
 
 -- rules each two of which have two names are named apart
 AreNamedApart-pairs : (lines : List RuleLine) → AllPairs NamedApart lines → AreNamedApart lines

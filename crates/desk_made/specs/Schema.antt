@@ -3,7 +3,7 @@ use Rattle.std.specs.Prelude.{ℕ, ◌/◌, ◌%◌, List, ◌++◌, map, codes,
 use Rattle.std.specs.List.{range_with_len}
 use Rattle.schema_core.specs.declared.schema.Schema.{Schema}
 use Rattle.rule_text.specs.Printing.{listed}
-use Rattle.json_parts.specs.Shapes.{line}
+use Rattle.desk_base.specs.Texts.{line}
 
 -- the attribute with a number: `a` and two digits
 abbrev pub attribute : ℕ → List ℕ

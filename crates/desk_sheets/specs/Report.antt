@@ -1,11 +1,8 @@
 -- The text of a report (docs/formats.md, Reports and records).
 use Rattle.std.specs.Prelude.{ℕ, List, [], ◌∷◌, ◌++◌, Option, Some, None, codes, decimal, flat_map}
+use Rattle.desk_base.specs.Texts.{line}
 use Rattle.desk_words.specs.declared.report.ReportLine.{ReportLine}
 use Rattle.desk_words.specs.declared.report.ReportSheet.{ReportSheet}
-
--- a line: the text, and then LF
-abbrev pub line : List ℕ → List ℕ
-line text = text ++ 10 ∷ []
 
 -- a number, behind a space
 abbrev pub spaced : ℕ → List ℕ

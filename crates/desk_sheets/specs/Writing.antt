@@ -5,10 +5,6 @@ use Rattle.std.specs.declared.alloc.Global.{Global}
 use Rattle.csv.specs.Writing.{default_writer, fields_written, has_written, row_text, text_written, writer_setup}
 use Rattle.csv.specs.declared.writer.Writer.{Writer}
 
--- what fields hold
-abbrev pub bytes_of : List (Bor (List ℕ)) → List (List ℕ)
-bytes_of fields = map (λ field. field.now) fields
-
 -- these records, and it stands behind the last of them
 pub record HasWritten (writer : Writer (Vec ℕ Global)) (rows : List (List (List ℕ))) : Type 0 where
   pub setup : writer_setup writer ≡ default_writer

@@ -1,7 +1,8 @@
 //! The text of records.
 ghost use Rattle.std.specs.Prelude.{◌≡◌, ℕ, List, [], ◌∷◌, ◌++◌, IfOk, OnOk};
 ghost use Rattle.desk_sheets.specs.Records.{IsFull, certain_word, fields_of, records_text};
-ghost use Rattle.desk_sheets.specs.Writing.{HasWritten, bytes_of};
+ghost use Rattle.desk_base.specs.Texts.{bytes_of};
+ghost use Rattle.desk_sheets.specs.Writing.{HasWritten};
 
 use crate::writing::{push_texts, write};
 use csv::{Writer, WriterBuilder};

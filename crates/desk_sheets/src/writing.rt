@@ -1,6 +1,7 @@
 //! Writing rows of CSV in memory.
 ghost use Rattle.std.specs.Prelude.{◌≡◌, ℕ, List, [], ◌∷◌, ◌++◌, OnOk};
-ghost use Rattle.desk_sheets.specs.Writing.{HasWritten, bytes_of};
+ghost use Rattle.desk_base.specs.Texts.{bytes_of};
+ghost use Rattle.desk_sheets.specs.Writing.{HasWritten};
 
 use csv::Writer;
 use desk_base::{NoMemory, Text};

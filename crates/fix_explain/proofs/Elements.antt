@@ -5,12 +5,6 @@ use Rattle.std.specs.Prelude.{Any, Contains}
 use Rattle.std.proofs.lemmas.Bool.{cases_eq, cases_lt}
 use Rattle.std.proofs.lemmas.List.{get_or_append_left, get_or_default, get_or_push}
 
--- something holds of the element at a place
-pub Any-at : {X : Type 0} (Holds : X → Type 0) (xs : List X) (place : ℕ) (past : X) → place < length xs
-    → Holds (get_or xs place past) → Any Holds xs
-Any-at Holds xs place past within holds =
-    (place, get_or xs place past, within, get_or_default xs place (get_or xs place past) past within, holds)
-
 -- what holds of an element holds of one of a longer list
 pub Any-longer : {X : Type 0} (Holds : X → Type 0) (xs : List X) (x : X) → Any Holds xs → Any Holds (xs ++ x ∷ [])
 Any-longer Holds xs x some =

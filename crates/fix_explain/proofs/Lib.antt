@@ -7,5 +7,4 @@ pub mod Places
 pub mod Finding
 pub mod Members
 pub mod Enough
-pub mod Listing
 pub mod Used

@@ -15,7 +15,7 @@ use Rattle.fix_explain.specs.SubLists.{IsSubList}
 use Rattle.fix_explain.specs.Uses.{Reads}
 use Rattle.fix_explain.proofs.Narrows.{CoversNoMore, CoversNoMore-after, CoversWanted, Fires-narrow, IsCovered-head}
 use Rattle.fix_explain.proofs.Narrows.{IsFixed-covered, Narrows, Narrows-after, Narrows-passed, Reads-covered}
-use Rattle.fix_explain.proofs.Narrows.{covered-apart}
+use Rattle.fix_model.proofs.Covered.{covered-apart}
 use Rattle.fix_explain.proofs.SubLists.{IsSubList-skip}
 
 -- of the rest of a run, the marked steps fix the attribute wherever the wanted cells are kept, and every part of the
@@ -68,7 +68,7 @@ module _ (kit : Kit) (valid : IsValid kit) (target : ℕ) (state : State) (step 
           (record { run = fixes.run.1; fixed = fixes.fixed }) in (
             told.0,
             λ attribute is covered.
-                let apart = covered-apart kit state step fires valid fits attribute covered in
+                let apart = covered-apart kit state step fires attribute covered in
                 rw (cell_at-other kit valid narrow step narrow_fits first attribute apart) at
                 (told.1 attribute is (IsCovered-after kit state step fires attribute covered)),
           )

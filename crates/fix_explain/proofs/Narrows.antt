@@ -18,7 +18,7 @@ use Rattle.fix_engine.specs.Departures.{IsInside}
 use Rattle.fix_engine.proofs.Ends.{IsInside-after, cell_at-head, cell_at-other, value_at-head}
 use Rattle.fix_explain.specs.Reasons.{IsFixed}
 use Rattle.fix_explain.specs.Uses.{Reads}
-use Rattle.fix_explain.proofs.Elements.{Any-at}
+use Rattle.desk_base.proofs.Lists.{Any-at}
 
 -- the narrow state covers no more than the other
 abbrev pub CoversNoMore : State → State → Type 0
@@ -103,11 +103,6 @@ module _ (kit : Kit) (state : State) (step : Step) (fires : Fires kit state step
     -- after a step its head is covered
     pub IsCovered-head : IsCovered (after kit state step) (rule_at kit step.rule).head
     IsCovered-head = rw (cell_at-head kit valid state step fits fires) refl
-
-    -- what was covered before a step is not its head
-    pub covered-apart : (attribute : ℕ) → IsCovered state attribute → attribute ≢ (rule_at kit step.rule).head
-    covered-apart attribute covered same =
-        fires.uncovered (subst (λ one. IsCovered state one) same covered)
 
     module _ (narrow : State) (narrow_fits : Fits kit narrow) (narrow_fires : Fires kit narrow step) where
       -- the step leaves a state that covers no more

@@ -8,7 +8,7 @@ use Rattle.fix_model.specs.declared.state.State.{State}
 use Rattle.fix_model.specs.declared.state.Step.{Step}
 use Rattle.fix_model.specs.States.{Fits, cell_at}
 use Rattle.fix_explain.specs.Uses.{AreUses, IsUse}
-use Rattle.fix_explain.proofs.Listing.{ListsBelow}
+use Rattle.fix_engine.proofs.Listing.{ListsBelow}
 
 module _ (kit : Kit) (state : State) (fits : Fits kit state) where
   -- what is confirmed is an attribute

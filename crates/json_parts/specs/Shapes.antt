@@ -2,6 +2,7 @@
 use Rattle.std.specs.Prelude.{ℕ, List, [], ◌∷◌, ◌++◌}
 use Rattle.serde_json.specs.Data.{Data, Members, member, no_members, array, number, object, unsigned}
 use Rattle.serde_json.specs.View.{items_of}
+pub use Rattle.desk_base.specs.Texts.{line}
 
 -- an array of these values
 abbrev pub list_of : List Data → Data
@@ -19,7 +20,3 @@ object_of pairs = object (members_from pairs)
 -- a whole number
 abbrev pub whole : ℕ → Data
 whole n = number (unsigned n)
-
--- a line: the text, and then LF
-abbrev pub line : List ℕ → List ℕ
-line text = text ++ 10 ∷ []

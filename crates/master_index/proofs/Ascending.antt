@@ -9,6 +9,7 @@ use Rattle.std.proofs.lemmas.Bool.{cases_Bool, cond-true, cond-false}
 use Rattle.std.proofs.lemmas.List.{get_or_default}
 use Rattle.std.proofs.lemmas.List.FromFn.{length-range_with_len, get_or-range_with_len}
 use Rattle.std.proofs.lemmas.List.Kept.{AllPairs-from_increasing, IsStrictlyIncreasing-filter}
+use Rattle.desk_base.proofs.Lists.{range-rising}
 use Rattle.fix_model.proofs.Hits.{least_from_none_below}
 use Rattle.fix_model.proofs.Ranges.{filter-range-passes, filter-range-fails}
 
@@ -47,15 +48,10 @@ module _ (test : ℕ → Bool) (count : ℕ) where
       Contains-filter test (range_with_len 0 count) number number within
       (get_or-range_with_len 0 count number number below ∙ omega arith) passes
 
-  rising : IsStrictlyIncreasing (range_with_len 0 count)
-  rising k within =
-      let last : k + 1 < count = omega (arith, length-range_with_len 0 count) in
-      omega (arith, get_or-range_with_len 0 count k 0 (omega arith), get_or-range_with_len 0 count (k + 1) 0 last)
-
   -- those that pass ascend
   pub AllPairs-filter-range : AllPairs (λ one later. one < later) (filter test (range_with_len 0 count))
   AllPairs-filter-range = AllPairs-from_increasing (filter test (range_with_len 0 count))
-      (IsStrictlyIncreasing-filter test (range_with_len 0 count) rising)
+      (IsStrictlyIncreasing-filter test (range_with_len 0 count) (range-rising count))
 
 module _ (P : ℕ → Type 0) (rows : List ℕ) (complete : (row : ℕ) → P row → Contains rows row) where
   -- what all rows of the list have, all with the property have

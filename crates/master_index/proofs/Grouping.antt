@@ -15,6 +15,7 @@ use Rattle.std.proofs.lemmas.List.{get_or_append_left, get_or_default, get_or-se
 use Rattle.std.proofs.lemmas.Map.Lookups.{exact_bytes}
 use Rattle.std.proofs.Math.Nat.{eq-or-lt_of_le}
 use Rattle.std.proofs.Math.Seq.{get_or-append_seam}
+use Rattle.desk_base.proofs.Lists.{Any-at}
 use Rattle.fix_model.specs.declared.book.Hit.{Hit}
 use Rattle.fix_model.specs.Comparison.{key_order}
 use Rattle.fix_model.specs.Hit.{IsFirstOf, IsHitOf, IsOtherOf}
@@ -153,11 +154,6 @@ pub IsGrown-first : (text : ℕ → List ℕ) (entry : Hit) (row : ℕ) (grown :
     → grown.first ≡ entry.first
 IsGrown-first text entry row grown (inl kept) = ap (λ (hit : Hit). hit.first) kept.0
 IsGrown-first text entry row grown (inr found) = ap (λ (hit : Hit). hit.first) found.0
-
--- what has a property at a place of a list is in it
-pub Any-at : {A : Type 0} (P : A → Type 0) (items : List A) (k : ℕ) (d : A) → k < length items → P (get_or items k d)
-    → Any P items
-Any-at P items k d within has = (k, get_or items k d, within, get_or_default items k (get_or items k d) d within, has)
 
 module _ (key : ℕ → List (List ℕ)) (text : ℕ → List ℕ) (rows : List ℕ) (count : ℕ) (entries : List Hit)
     (are : AreEntries key text (StandsBefore rows count) count entries) where

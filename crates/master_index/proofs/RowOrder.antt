@@ -32,12 +32,6 @@ key_order-at_rows kit rule row other = slice_cmp-map (slice_cmp nat_cmp)
     (λ (key : ℕ × ℕ). compared (is_folded kit key.0) (master_text kit rule row key.1))
     (λ (key : ℕ × ℕ). compared (is_folded kit key.0) (master_text kit rule other key.1)) rule.keys rule.keys
 
--- the test for equal tells that an order is
-pub is_eq-true : (order : Ordering) → is_eq order ≡ true → order ≡ Equal
-is_eq-true Less told = absurd cc
-is_eq-true Equal told = refl
-is_eq-true Greater told = absurd cc
-
 -- the usable ones of the first rows
 pub record AreUsableBefore (kit : Kit) (rule : Rule) (count : ℕ) (rows : List ℕ) : Type 0 where
   pub usable : All (IsUsable kit rule) rows

@@ -10,6 +10,7 @@ use Rattle.std.proofs.lemmas.Bool.{cases_Bool, eq-eqb, ltb-true}
 use Rattle.std.proofs.lemmas.List.Folds.{Any-from_list_any}
 use Rattle.std.proofs.lemmas.Option.{slice_get_read}
 use Rattle.std.proofs.lemmas.Slice.Eq.{bytes_eq-Decides}
+use Rattle.desk_base.proofs.Lists.{slice_get-after, slice_get-front}
 use Rattle.desk_base.specs.Places.{has_text}
 use Rattle.master_rows.specs.declared.error.SheetFault.{SheetFault}
 use Rattle.master_rows.specs.declared.error.SheetFault.TheVariants.{NotUtf8, NoHeader, BadColumn, ColumnTwice, Ragged}
@@ -20,19 +21,6 @@ use Rattle.master_rows.specs.Header.{is_column, columns_fault, header_fault}
 use Rattle.master_rows.specs.Mark.{begins_with_two_marks}
 use Rattle.master_rows.specs.Row.{cells_fault, row_fault, rows_fault}
 use Rattle.master_rows.specs.Sheet.{read_records, read_sheet, sheet_records, unless}
-
--- an item stands behind those before it
-slice_get-behind : {A : Type 0} (items rest : List A) (item : A)
-    → slice_get (items ++ item ∷ rest) (length items) ≡ Some item
-slice_get-behind [] rest item = refl
-slice_get-behind (one ∷ items) rest item = slice_get-behind items rest item
-
--- an item stands where it is whatever comes behind
-slice_get-front : {A : Type 0} (items rest : List A) (place : ℕ) (item : A) → slice_get items place ≡ Some item
-    → slice_get (items ++ rest) place ≡ Some item
-slice_get-front [] rest place item is = absurd cc
-slice_get-front (one ∷ items) rest zero item is = is
-slice_get-front (one ∷ items) rest (suc place) item is = slice_get-front items rest place item is
 
 -- the first of two faults, or the second
 option_or-Some : (first later : Option SheetFault) (fault : SheetFault) → option_or first later ≡ Some fault
@@ -53,7 +41,7 @@ module _ (header : List (List ℕ)) (rows : List (List (List ℕ))) where
   columns_fault-cause earlier [] joined fault is = absurd cc
   columns_fault-cause earlier (column ∷ later) joined fault is =
       let here : slice_get header (length earlier) ≡ Some column =
-      ap (λ list. slice_get list (length earlier)) (sym joined) ∙ slice_get-behind earlier later column in
+      ap (λ list. slice_get list (length earlier)) (sym joined) ∙ slice_get-after earlier later column in
       elim (cases_Bool (is_column column)) [
         | inr other ↦
             let bad = rw other at is in
@@ -119,7 +107,7 @@ module _ (header : List (List ℕ)) (rows : List (List (List ℕ))) where
         elim (cases_Bool (nat_lt 200 (length cell))) [
           | inl long ↦
               let here : slice_get cells (length earlier) ≡ Some cell =
-              ap (λ list. slice_get list (length earlier)) (sym joined) ∙ slice_get-behind earlier later cell in
+              ap (λ list. slice_get list (length earlier)) (sym joined) ∙ slice_get-after earlier later cell in
               let bad = rw long at is in
               let named : CellLong row column ≡ fault = cc in
               subst (IsOf (header ∷ rows)) named (record {
@@ -174,7 +162,7 @@ module _ (header : List (List ℕ)) (rows : List (List (List ℕ))) where
   rows_fault-cause earlier [] joined row counted fault is = absurd cc
   rows_fault-cause earlier (cells ∷ later) joined row counted fault is =
       let here : slice_get rows (length earlier) ≡ Some cells =
-      ap (λ list. slice_get list (length earlier)) (sym joined) ∙ slice_get-behind earlier later cells in
+      ap (λ list. slice_get list (length earlier)) (sym joined) ∙ slice_get-after earlier later cells in
       let stands : slice_get (header ∷ rows) row ≡ Some cells = rw counted here in
       let size : length rows ≡ length earlier + length (cells ∷ later) =
       ap length (sym joined) ∙ length-append earlier (cells ∷ later) in

@@ -15,6 +15,7 @@ use Rattle.std.proofs.lemmas.List.Elements.{All-nil, All-cons, All-head, All-tai
 use Rattle.std.proofs.lemmas.List.Folds.{list_any_none}
 use Rattle.std.proofs.lemmas.List.Sums.{list_all-from_AllPass}
 use Rattle.std.proofs.lemmas.List.Quantifiers.{all_pairs_push}
+use Rattle.desk_base.proofs.Utf8.{bytes_eq-apart}
 use Rattle.master_rows.specs.Mark.{begins_with_mark, begins_with_two_marks}
 use Rattle.desk_base.proofs.Options.{option_or-None}
 use Rattle.desk_base.specs.Places.{has_text}
@@ -48,13 +49,6 @@ is_column-IsColumn : (text : List ℕ) → IsColumn text → is_column text ≡ 
 is_column-IsColumn text column =
     rw (lt-ltb 0 (length text) column.some, le-leb (length text) 64 column.short, column.unmarked) refl
 
--- the test of two texts fails where they differ
-bytes_eq-differ : (one other : List ℕ) → one ≢ other → bytes_eq one other ≡ false
-bytes_eq-differ one other differ = elim (cases_Bool (bytes_eq one other)) [
-  | inl same ↦ absurd (differ ((bytes_eq-Decides one other).0 same))
-  | inr new ↦ new
-]
-
 -- texts whose test fails differ
 bytes_eq-refused : (one other : List ℕ) → bytes_eq one other ≡ false → other ≢ one
 bytes_eq-refused one other new same = let passed = (bytes_eq-Decides one other).1 (sym same) in absurd
@@ -64,7 +58,7 @@ bytes_eq-refused one other new same = let passed = (bytes_eq-Decides one other).
 has_text-none : (earlier : List (List ℕ)) (column : List ℕ)
     → ((k : ℕ) (d : List ℕ) → k < length earlier → get_or earlier k d ≢ column) → has_text earlier column ≡ false
 has_text-none earlier column differs = list_any_none (bytes_eq column) earlier
-    (λ k d within. bytes_eq-differ column (get_or earlier k d) (λ same. differs k d within (sym same)))
+    (λ k d within. bytes_eq-apart column (get_or earlier k d) (λ same. differs k d within (sym same)))
 
 -- and differs from each, where it does not
 has_text-differs : (earlier : List (List ℕ)) (column : List ℕ) → has_text earlier column ≡ false

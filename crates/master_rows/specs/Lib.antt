@@ -1,5 +1,4 @@
 pub mod Mark
-pub mod Fields
 pub mod Header
 pub mod Row
 pub mod Sheet

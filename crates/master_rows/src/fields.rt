@@ -3,7 +3,7 @@ ghost use Rattle.std.specs.Prelude.{◌≡◌, IfOk, IfSome, is_some};
 ghost use Rattle.std.specs.List.{list_all};
 ghost use Rattle.std.specs.Str.{is_utf8};
 ghost use Rattle.csv.specs.Records.{fields_of};
-ghost use Rattle.master_rows.specs.Fields.{bytes_of};
+ghost use Rattle.desk_base.specs.Texts.{bytes_of};
 
 use csv::ByteRecord;
 use desk_base::NoMemory;

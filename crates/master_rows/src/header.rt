@@ -4,7 +4,7 @@ ghost use Rattle.std.specs.List.{list_all};
 ghost use Rattle.std.specs.Str.{is_utf8};
 ghost use Rattle.master_rows.specs.Mark.{begins_with_mark};
 ghost use Rattle.master_rows.specs.Header.{is_column, columns_fault, header_fault};
-ghost use Rattle.master_rows.specs.Fields.{bytes_of};
+ghost use Rattle.desk_base.specs.Texts.{bytes_of};
 
 use crate::error::SheetFault;
 use crate::fields::strings_of;

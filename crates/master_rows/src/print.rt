@@ -1,7 +1,7 @@
 //! The sheet of a master, record by record.
 ghost use Rattle.std.specs.Prelude.{◌≡◌, ◌<◌, ◌+◌, [], length, slice_index_or, IfOk};
 ghost use Rattle.master_rows.specs.Sheet.{sheet_of};
-ghost use Rattle.master_rows.specs.Fields.{bytes_of};
+ghost use Rattle.desk_base.specs.Texts.{bytes_of};
 
 use crate::master::Master;
 use csv::{Error, WriterBuilder};

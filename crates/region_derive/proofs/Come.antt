@@ -5,6 +5,7 @@ use Rattle.std.proofs.Common.{refl, sym, subst, ap, arith}
 use Rattle.std.specs.Prelude.{◌↔◌}
 use Rattle.std.specs.Cmp.Lexicographic.{bytes_decides, pointwise_decides}
 use Rattle.std.proofs.Math.Nat.{eq-or-lt_of_le}
+use Rattle.desk_base.proofs.Bools.{or-second}
 use Rattle.desk_base.specs.Grid.{GridRows}
 use Rattle.fix_model.specs.declared.kit.Kit.{Kit}
 use Rattle.region_derive.specs.Derived.{IsDerived, texts_in}
@@ -24,10 +25,6 @@ or-left : (one other : Bool) → IsTrue one → IsTrue (one || other)
 or-left true other is = is
 or-left false other is = absurd cc
 
-or-right : (one other : Bool) → IsTrue other → IsTrue (one || other)
-or-right true other is = refl
-or-right false other is = is
-
 -- lists of texts are the same where the test says so
 pub are_same-is : (texts others : List (List ℕ)) → IsTrue (are_same texts others) ↔ (texts ≡ others)
 are_same-is texts others = pointwise_decides bytes_decides texts others
@@ -45,7 +42,7 @@ module _ (grid : GridRows) (columns : List ℕ) (count : ℕ) (old new : List (L
     ],
     λ (earlier, below, is). subst IsTrue (sym (kept texts))
         (elim (eq-or-lt_of_le (let up_to : earlier ≤ count = omega arith in up_to)) [
-          | inr before ↦ or-right (are_same texts (texts_in grid columns count)) (old texts)
+          | inr before ↦ or-second (are_same texts (texts_in grid columns count)) (old texts)
               ((come texts).1 (earlier, before, is))
           | inl here ↦ or-left (are_same texts (texts_in grid columns count)) (old texts)
               ((are_same-is texts (texts_in grid columns count)).1 (sym is ∙ ap (texts_in grid columns) here))

@@ -7,6 +7,7 @@ use Rattle.std.proofs.lemmas.Bool.{cases_Bool}
 use Rattle.std.proofs.lemmas.List.{length-map}
 use Rattle.std.proofs.lemmas.List.Recursion.{is_count_by}
 use Rattle.std.proofs.lemmas.List.Sums.{count_by-le-length, count_by_more_no, count_by_more_yes, sum_by-take-drop}
+use Rattle.fix_engine.proofs.Reach.{IsFlagged-cells}
 use Rattle.fix_model.specs.declared.kit.Kit.{Kit}
 use Rattle.fix_model.specs.declared.state.Cell.{Cell}
 use Rattle.fix_model.specs.declared.state.Cell.TheVariants.{Uncovered}
@@ -64,13 +65,6 @@ pub count-covering : (cells : List Cell) → count_by (λ flag. flag) (map is_co
 count-covering cells = sym (set_count-is (map is_covering cells))
     ∙ is_count_by (λ (some : List Cell). set_count (map is_covering some)) is_covering refl (λ x xs. refl) cells
 
--- the flag of a cell
-pub flag-covering : (cells : List Cell) (place : ℕ)
-    → get_or (map is_covering cells) place false ≡ is_covering (get_or cells place Uncovered)
-flag-covering [] place = refl
-flag-covering (cell ∷ cells) zero = refl
-flag-covering (cell ∷ cells) (suc place) = flag-covering cells place
-
 module _ (kit : Kit) (state : State) (made : Dependencies) (flags closure : List Bool) (attribute : ℕ)
     (fits : Fits kit state) (openings : AreOpenings kit state (length kit.rules) made)
     (covered : flags ≡ map is_covering state.cells) (within : attribute < kit.width)
@@ -79,7 +73,7 @@ module _ (kit : Kit) (state : State) (made : Dependencies) (flags closure : List
   whole = ap length covered ∙ length-map state.cells is_covering ∙ fits.cells
 
   flag-is : (one : ℕ) → get_or flags one false ≡ is_covering (get_or state.cells one Uncovered)
-  flag-is one = rw covered (flag-covering state.cells one)
+  flag-is one = rw covered (IsFlagged-cells state.cells one)
 
   clear : get_or flags attribute false ≡ false
   clear = elim (cases_Bool (get_or flags attribute false)) [

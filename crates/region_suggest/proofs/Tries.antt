@@ -8,6 +8,7 @@ use Rattle.std.proofs.lemmas.List.{get_or-replicate, get_or-set_same, get_or-set
 use Rattle.std.proofs.lemmas.List.{get_or_default, length-replicate}
 use Rattle.std.proofs.lemmas.List.Elements.{Contains-append_cases, Contains-append_left, Contains-append_right}
 use Rattle.std.proofs.Math.Seq.{get_or-append_seam}
+use Rattle.fix_engine.proofs.Listing.{ListsBelow}
 use Rattle.fix_model.specs.declared.kit.Kit.{Kit}
 use Rattle.fix_model.specs.declared.state.State.{State}
 use Rattle.fix_model.specs.States.{Fits, IsCovered}
@@ -181,59 +182,6 @@ module _ (kit : Kit) (state : State) where
           | inl is_set ↦ absurd (unset is_set)
           | inr clear ↦ rw clear refl
         ]
-
--- exactly the numbers below a bound of which this holds, in their order
-pub record ListsBelow (Holds : ℕ → Type 0) (bound : ℕ) (ones : List ℕ) : Type 0 where
-  pub in_order : AllPairs (λ earlier later. earlier < later) ones
-  pub each : (one : ℕ) → Contains ones one ↔ ((one < bound) × Holds one)
-
--- one that holds is listed behind the others
-pub ListsBelow-yes : (Holds : ℕ → Type 0) (bound : ℕ) (ones longer : List ℕ) → Holds bound → ListsBelow Holds bound ones
-    → longer ≡ ones ++ bound ∷ [] → ListsBelow Holds (bound + 1) longer
-ListsBelow-yes Holds bound ones longer holds lists pushed = record {
-  in_order = rw pushed (λ i j d less within. elim (decide_less j (length ones)) [
-    | inl before ↦ rw (
-      get_or_append_left ones (bound ∷ []) d j before,
-      get_or_append_left ones (bound ∷ []) d i
-          (omega (arith, less, before)),
-    )
-        (lists.in_order i j d less before)
-    | inr last ↦
-        let is : j ≡ length ones = omega (arith, within, last, length-append ones (bound ∷ [])) in
-        let under : i < length ones = omega (arith, less, is) in
-        rw (is, get_or-append_seam ones bound [] d, get_or_append_left ones (bound ∷ []) d i under)
-        ((lists.each (get_or ones i d)).0 (Contains-at ones i d under)).0
-  ]);
-  each = λ one. (
-    (λ h. elim (Contains-append_cases ones (bound ∷ []) one (rw pushed at h)) [
-      | inl before ↦ let told = (lists.each one).0 before in (omega (arith, told.0), told.1)
-      | inr last ↦ elim (Contains-cases bound one [] last) [
-        | inl is ↦ (omega (arith, is), rw is holds)
-        | inr none ↦ absurd (Contains-nil one none)
-      ]
-    ]),
-    λ h. elim (cases_Bool (eqb one bound)) [
-      | inl same ↦ rw (pushed, eqb-true one bound same)
-          (Contains-append_right ones (bound ∷ []) bound (Contains-first bound []))
-      | inr differs ↦ let apart = eqb-false one bound differs in
-          rw pushed (Contains-append_left ones (bound ∷ []) one ((lists.each one).1 (omega (arith, h.0, apart), h.1)))
-    ],
-  );
-}
-
--- and one that does not is passed over
-pub ListsBelow-no : (Holds : ℕ → Type 0) (bound : ℕ) (ones : List ℕ) → (Holds bound → ⊥) → ListsBelow Holds bound ones
-    → ListsBelow Holds (bound + 1) ones
-ListsBelow-no Holds bound ones fails lists = record {
-  in_order = lists.in_order;
-  each = λ one. (
-    (λ h. let told = (lists.each one).0 h in (omega (arith, told.0), told.1)),
-    λ h. elim (cases_Bool (eqb one bound)) [
-      | inl same ↦ absurd (fails (rw (eqb-true one bound same) at h.1))
-      | inr differs ↦ let apart = eqb-false one bound differs in (lists.each one).1 (omega (arith, h.0, apart), h.1)
-    ],
-  );
-}
 
 -- what is flagged and not covered, where all are tested, is the need
 pub IsNeed-tried : (kit : Kit) (state : State) (flags : List Bool) (need : List ℕ) → AreTried kit state 0 flags

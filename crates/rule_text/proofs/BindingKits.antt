@@ -10,6 +10,7 @@ use Rattle.std.proofs.lemmas.List.Elements.{All-from_recursion, All-map}
 use Rattle.std.proofs.lemmas.List.FromFn.{length-map-range_with_len}
 use Rattle.std.proofs.lemmas.List.Kept.{AllPairs-cons}
 use Rattle.std.proofs.lemmas.List.Quantifiers.{position-Some}
+use Rattle.desk_base.proofs.Options.{option_or-None}
 use Rattle.fix_model.specs.declared.pattern.Pat.{Pat}
 use Rattle.fix_model.specs.declared.pattern.Pat.TheVariants.{Is, IsNot, OneOf, NoneOf, Any}
 use Rattle.fix_model.specs.Pattern.{IsSized}
@@ -25,12 +26,6 @@ use Rattle.rule_text.specs.Reading.{has_attribute}
 use Rattle.rule_text.specs.Rulebooks.{IsPlain, IsPattern, AreDistinct, ArePairs, IsLine, IsRulebook}
 use Rattle.rule_text.specs.Binding.{AreMasters, master_of, master_at, column_of, column_fault, keys_fault}
 use Rattle.rule_text.specs.Binding.{columns_fault, line_fault, first_fault, bound_key, rule_of, kit_of}
-
--- where the first of two faults is none, neither is one
-None-from_option_or : {A : Type 0} (first second : Option A) → option_or first second ≡ None
-    → (first ≡ None) × (second ≡ None)
-None-from_option_or None second none = (refl, none)
-None-from_option_or (Some fault) second none = absurd (cc)
 
 -- what is found stands within the list
 within-found : {A : Type 0} (test : A → Bool) (xs : List A) (d : A) (found : Option ℕ) (fault : BindFault)
@@ -71,7 +66,7 @@ All-keys_fault : (number : ℕ) (master : Master) (place : ℕ) (keys : List (�
     → AllByRecursion (λ key. (bound_key master key).1 < length master.columns) keys
 All-keys_fault number master place [] none = tt
 All-keys_fault number master place (key ∷ rest) none =
-    let parts = None-from_option_or (column_fault number master place key.1)
+    let parts = option_or-None (column_fault number master place key.1)
     (keys_fault number master (place + 1) rest) none in (
       within-found _ master.columns [] (column_of master key.1) (NoColumn number place) refl parts.0,
       All-keys_fault
@@ -142,7 +137,7 @@ module _ (rulebook : Rulebook) (schema : Schema) (masters : List (List ℕ × Ma
   IsValidRule-rule_of number line is none =
       let place : ℕ = unwrap_or (master_of masters line.master) 0 in
       let parts = line_fault-parts masters number line (master_of masters line.master) refl none in
-      let faults = None-from_option_or (keys_fault number (master_at masters place) 1 line.keys)
+      let faults = option_or-None (keys_fault number (master_at masters place) 1 line.keys)
       (column_fault number (master_at masters place) 0 line.from) parts.1 in
       let columns = columns-map masters place are parts.0 in
       record {
@@ -161,7 +156,7 @@ module _ (rulebook : Rulebook) (schema : Schema) (masters : List (List ℕ × Ma
       → AllByRecursion (λ line. IsValidRule (kit_of rulebook schema masters folded) (rule_of masters line)) lines
   All-rule_of number [] are_lines none = tt
   All-rule_of number (line ∷ rest) are_lines none =
-      let parts = None-from_option_or (line_fault masters number line) (first_fault masters (number + 1) rest) none in
+      let parts = option_or-None (line_fault masters number line) (first_fault masters (number + 1) rest) none in
       (IsValidRule-rule_of number line are_lines.0 parts.0, All-rule_of (number + 1) rest are_lines.1 parts.1)
 
   -- the kit of a rulebook without a fault is valid

@@ -10,6 +10,7 @@ use Rattle.std.proofs.lemmas.Bool.Decides.{nat_tests}
 use Rattle.std.proofs.lemmas.List.{length-append}
 use Rattle.std.proofs.lemmas.List.Quantifiers.{position-Some}
 use Rattle.std.proofs.lemmas.Str.{IsUtf8-from_ascii}
+use Rattle.desk_base.proofs.Lists.{AllByRecursion-push}
 use Rattle.desk_base.specs.Words.{is_word, is_word_byte}
 use Rattle.fix_model.specs.declared.pattern.Pat.{Pat}
 use Rattle.schema_core.specs.declared.schema.Schema.{Schema}
@@ -24,7 +25,7 @@ use Rattle.rule_text.specs.Reading.{content, attribute_of, is_long, draft_behind
 use Rattle.rule_text.specs.Reading.{with_key_of, with_key_column, with_head_of, with_head_column, with_asked_of}
 use Rattle.rule_text.specs.Reading.{with_cond, with_constant, with_text, set_of}
 use Rattle.rule_text.specs.Rulebooks.{is_plain, IsPlain, IsSet, IsPattern, ArePairs, IsLine, AreNamedApart}
-use Rattle.rule_text.proofs.Parts.{AllByRecursion-push, has_attribute-push, ArePairs-push, ArePairs-none}
+use Rattle.rule_text.proofs.Parts.{has_attribute-push, ArePairs-push, ArePairs-none}
 use Rattle.rule_text.proofs.Parts.{AreNamedApart-push, nat_eq-other}
 use Rattle.rule_text.proofs.Walk.{IsSpelled}
 use Rattle.rule_text.proofs.Led.{unless-Ok, same-draft}

@@ -7,16 +7,11 @@ use Rattle.std.proofs.lemmas.Bool.Decides.{nat_tests}
 use Rattle.std.proofs.lemmas.List.{length-append}
 use Rattle.std.proofs.lemmas.List.Folds.{list_any-append}
 use Rattle.std.proofs.lemmas.Slice.Eq.{bytes_eq-Decides}
+use Rattle.desk_base.proofs.Lists.{AllByRecursion-push}
 use Rattle.schema_core.specs.declared.schema.Schema.{Schema}
 use Rattle.rule_text.specs.declared.rulebook.RuleLine.{RuleLine}
 use Rattle.rule_text.specs.Reading.{has_name, has_attribute}
 use Rattle.rule_text.specs.Rulebooks.{AreDistinct, ArePairs, AreNamedApart}
-
--- all of them hold, with one more at the end
-pub AllByRecursion-push : {A : Type 0} (P : A → Type 0) (xs : List A) (x : A) → AllByRecursion P xs → P x
-    → AllByRecursion P (xs ++ x ∷ [])
-AllByRecursion-push P [] x all last = (last, tt)
-AllByRecursion-push P (y ∷ ys) x all last = (all.0, AllByRecursion-push P ys x all.1 last)
 
 -- numbers that differ differ the other way round
 pub nat_eq-other : (x y : ℕ) → (x == y) ≡ false → (y == x) ≡ false

@@ -16,14 +16,6 @@ use Rattle.rule_text.specs.declared.token.Mark.TheVariants as mark
 use Rattle.rule_text.specs.Tokens.{is_blank, is_in_line, comment_length, word_at, mark_at, with_byte, quoted}
 use Rattle.rule_text.specs.Tokens.{string_of, piece_at}
 
--- the test fails of what is no UTF-8
-pub is_utf8-other : (bytes : List ℕ) → (IsUtf8 bytes → ⊥) → is_utf8 bytes ≡ false
-is_utf8-other bytes other =
-    elim (cases_Bool (is_utf8 bytes)) [
-      | inl utf8 ↦ absurd (other (IsUtf8-from_is_utf8 bytes utf8))
-      | inr not_utf8 ↦ not_utf8
-    ]
-
 -- how many bytes of a piece stand behind its first
 abbrev pub more_of : Piece → ℕ
 more_of (Gap more) = more

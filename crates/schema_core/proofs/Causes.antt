@@ -9,6 +9,7 @@ use Rattle.std.proofs.lemmas.Bool.{cases_Bool, eqb-true, ltb-true}
 use Rattle.std.proofs.lemmas.List.Folds.{Any-from_list_any}
 use Rattle.std.proofs.lemmas.Option.{slice_get_read}
 use Rattle.std.proofs.lemmas.Slice.Eq.{bytes_eq-Decides}
+use Rattle.desk_base.proofs.Lists.{slice_get-after, slice_get-front}
 use Rattle.toml.specs.Data.{Data, Members, get_member, as_str}
 use Rattle.desk_base.specs.Words.{is_name, is_word}
 use Rattle.schema_core.specs.declared.schema.Schema.{Schema}
@@ -18,19 +19,6 @@ use Rattle.schema_core.specs.declared.fault.SchemaFault.TheVariants.{BadName, Ba
 use Rattle.schema_core.specs.Causes.{HasAttributes, HasCause, IsOf}
 use Rattle.schema_core.specs.Reading.{keys_known, texts_of, first_fault, schema_with, schema_of_texts}
 use Rattle.schema_core.specs.Reading.{schema_of_values, schema_of_document, document_of, schema_of}
-
--- an item stands behind those before it
-slice_get-behind : {A : Type 0} (items rest : List A) (item : A)
-    → slice_get (items ++ item ∷ rest) (length items) ≡ Some item
-slice_get-behind [] rest item = refl
-slice_get-behind (one ∷ items) rest item = slice_get-behind items rest item
-
--- an item stands where it is whatever comes behind
-slice_get-front : {A : Type 0} (items rest : List A) (place : ℕ) (item : A) → slice_get items place ≡ Some item
-    → slice_get (items ++ rest) place ≡ Some item
-slice_get-front [] rest place item is = absurd cc
-slice_get-front (one ∷ items) rest zero item is = is
-slice_get-front (one ∷ items) rest (suc place) item is = slice_get-front items rest place item is
 
 -- the fault where there is one
 Err-fault : (first : Option SchemaFault) (schema : Schema) (fault : SchemaFault)
@@ -45,7 +33,7 @@ module _ (members : Members) (all : List (List ℕ)) (stand : HasAttributes memb
   first_fault-cause earlier [] joined fault is = absurd cc
   first_fault-cause earlier (attribute ∷ rest) joined fault is =
       let here : slice_get all (length earlier) ≡ Some attribute =
-      ap (λ list. slice_get list (length earlier)) (sym joined) ∙ slice_get-behind earlier rest attribute in
+      ap (λ list. slice_get list (length earlier)) (sym joined) ∙ slice_get-after earlier rest attribute in
       elim (cases_Bool (is_word attribute)) [
         | inr other ↦
             let bad = rw other at is in

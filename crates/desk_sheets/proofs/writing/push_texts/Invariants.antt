@@ -1,5 +1,5 @@
 use Rattle.std.proofs.Common.{◌≡◌, ◌++◌, take}
-use Rattle.desk_sheets.specs.Writing.{bytes_of}
+use Rattle.desk_base.specs.Texts.{bytes_of}
 use Rattle.desk_sheets.proofs.writing.push_texts.Given as goal
 
 abbrev pub invariant-texts : goal.invariant-texts

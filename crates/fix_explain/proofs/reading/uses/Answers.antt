@@ -1,6 +1,6 @@
 use Rattle.std.proofs.Common.{◌≡◌, ◌+◌, ◌∙◌, arith, ℕ, subst, sym}
 use Rattle.fix_explain.specs.Uses.{IsUse}
-use Rattle.fix_explain.proofs.Listing.{ListsBelow, ListsBelow-no, ListsBelow-yes}
+use Rattle.fix_engine.proofs.Listing.{ListsBelow, ListsBelow-no, ListsBelow-yes}
 use Rattle.fix_explain.proofs.Used.{AreUses-listed}
 use Rattle.fix_explain.proofs.reading.uses.Goals as goal
 use Rattle.fix_explain.proofs.reading.uses.Goals.{then-is_use+in_ok-push, else-is_use}

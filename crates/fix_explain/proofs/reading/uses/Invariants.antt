@@ -1,5 +1,5 @@
 use Rattle.fix_explain.specs.Uses.{IsUse}
-use Rattle.fix_explain.proofs.Listing.{ListsBelow}
+use Rattle.fix_engine.proofs.Listing.{ListsBelow}
 use Rattle.fix_explain.proofs.reading.uses.Given as goal
 
 -- of the attributes so far those that are used are listed

@@ -3,7 +3,7 @@ use Rattle.std.specs.Ordering.{is_eq}
 use Rattle.std.proofs.lemmas.Cmp.{tied_itself}
 use Rattle.fix_model.specs.Comparison.{key_order, row_key}
 use Rattle.master_index.proofs.Grouping.{key_order-exact, key_order-total}
-use Rattle.master_index.proofs.RowOrder.{is_eq-true}
+use Rattle.desk_base.proofs.Bools.{is_eq-true}
 use Rattle.master_index.proofs.sorting.has_same_key.Goals as goal
 
 pub returns : goal.returns

@@ -1,6 +1,6 @@
 use Rattle.std.proofs.Common.{◌≡◌, take}
 use Rattle.csv.specs.Records.{fields_of}
-use Rattle.master_rows.specs.Fields.{bytes_of}
+use Rattle.desk_base.specs.Texts.{bytes_of}
 use Rattle.master_rows.proofs.fields.fields_of.Given as goal
 
 abbrev pub invariant-loop-place : goal.invariant-loop-place

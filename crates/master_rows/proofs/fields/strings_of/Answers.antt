@@ -2,7 +2,7 @@ use Rattle.std.proofs.Common.{◌++◌, ◌∷◌, [], ◌∙◌, ℕ, List, Bor
 use Rattle.std.proofs.lemmas.List.{map-append}
 use Rattle.std.proofs.lemmas.Str.{is_utf8-from_IsUtf8}
 use Rattle.desk_base.proofs.Utf8.{is_utf8-other}
-use Rattle.master_rows.specs.Fields.{bytes_of}
+use Rattle.desk_base.specs.Texts.{bytes_of}
 use Rattle.master_rows.proofs.Records.{take-texts, list_all-other, list_all-next}
 use Rattle.master_rows.proofs.fields.strings_of.Goals as goal
 

@@ -1,5 +1,5 @@
 use Rattle.std.proofs.Common.{◌++◌, ◌∷◌, [], ℕ, List, suc, drop, get_or, sym, ap, ◌∙◌, add-one}
-use Rattle.master_rows.specs.Fields.{bytes_of}
+use Rattle.desk_base.specs.Texts.{bytes_of}
 use Rattle.master_rows.specs.Header.{columns_fault}
 use Rattle.master_rows.proofs.Records.{drop-texts, take-texts}
 use Rattle.master_rows.proofs.Faults.{columns_fault-bad, columns_fault-twice, columns_fault-next}

@@ -1,5 +1,5 @@
 use Rattle.std.proofs.Common.{◌≡◌, [], take, drop}
-use Rattle.master_rows.specs.Fields.{bytes_of}
+use Rattle.desk_base.specs.Texts.{bytes_of}
 use Rattle.master_rows.specs.Header.{columns_fault}
 use Rattle.master_rows.proofs.header.tested_columns.Given as goal
 

@@ -1,5 +1,5 @@
 use Rattle.std.proofs.Common.{◌≡◌, take}
-use Rattle.master_rows.specs.Fields.{bytes_of}
+use Rattle.desk_base.specs.Texts.{bytes_of}
 use Rattle.master_rows.proofs.print.header_fields.Given as goal
 
 abbrev pub invariant-loop-column : goal.invariant-loop-column

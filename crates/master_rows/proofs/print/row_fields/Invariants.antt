@@ -1,6 +1,6 @@
 use Rattle.std.proofs.Common.{◌≡◌, [], take}
 use Rattle.std.specs.Prelude.{slice_index_or}
-use Rattle.master_rows.specs.Fields.{bytes_of}
+use Rattle.desk_base.specs.Texts.{bytes_of}
 use Rattle.master_rows.proofs.print.row_fields.Given as goal
 
 abbrev pub invariant-loop-column : goal.invariant-loop-column

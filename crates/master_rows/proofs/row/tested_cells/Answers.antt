@@ -1,7 +1,7 @@
 use Rattle.desk_base.specs.declared.limits.TheConstants.{MAX_TEXT}
 use Rattle.std.proofs.Common.{rules, ◌<◌, ◌+◌, ◌++◌, ◌∷◌, [], ℕ, List, suc, drop, get_or, length, sym, ap, ◌∙◌, add-one}
 use Rattle.std.proofs.Common.{length-append}
-use Rattle.master_rows.specs.Fields.{bytes_of}
+use Rattle.desk_base.specs.Texts.{bytes_of}
 use Rattle.master_rows.specs.Row.{cells_fault}
 use Rattle.master_rows.proofs.Records.{drop-texts, take-texts}
 use Rattle.master_rows.proofs.Faults.{cells_fault-long, cells_fault-next}

@@ -1,6 +1,6 @@
 use Rattle.fix_model.specs.States.{IsCovered}
 use Rattle.fix_engine.specs.Flags.{IsFlagged}
-use Rattle.region_suggest.proofs.Tries.{ListsBelow}
+use Rattle.fix_engine.proofs.Listing.{ListsBelow}
 use Rattle.region_suggest.proofs.needing.needed.Given as goal
 
 -- the needed ones of the attributes so far are listed
