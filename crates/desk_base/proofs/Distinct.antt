@@ -26,13 +26,12 @@ module _ {A B : Type 0} (key : A → B) (items : List A) (place : ℕ) (item : A
   pub repeated : Any (λ later. key item ≡ key later) (behind items place)
       → ¬ AllPairs (λ one later. key one ≢ key later) items
   repeated found distinct =
-      let later = rw behind_whole at found in
-      let x : A = later.1 in
-      let seat : ℕ = place + 1 + later.0 in
-      let inside : seat < length items = omega (arith, length-drop (place + 1) items, later.2) in
-      let here : item ≡ get_or items place x = get_or_read items place item within is x in
-      let there : get_or items seat x ≡ x = sym (get_or-drop (place + 1) items later.0 x) ∙ later.3 in
-      distinct place seat x (omega arith) inside (ap key (sym here) ∙ later.4 ∙ ap key (sym there))
+      let (further, later, below, stands, same) = rw behind_whole at found in
+      let seat : ℕ = place + 1 + further in
+      let inside : seat < length items = omega (arith, length-drop (place + 1) items, below) in
+      let here : item ≡ get_or items place later = get_or_read items place item within is later in
+      let there : get_or items seat later ≡ later = sym (get_or-drop (place + 1) items further later) ∙ stands in
+      distinct place seat later (omega arith) inside (ap key (sym here) ∙ same ∙ ap key (sym there))
 
   -- an item whose key doesn't stand behind it differs from all that do
   pub differs : ¬ Any (λ later. key item ≡ key later) (behind items place)

@@ -33,7 +33,7 @@ abbrev pub source_seen_code : Coded SourceSeen
 source_seen_code = code_by (List ℕ × (ℕ × (Schedule × ℕ)))
     (coded× (coded_list coded_ℕ) (coded× coded_ℕ (coded× schedule_code coded_ℕ)))
     (λ s. (s.left, (s.cut, (s.schedule, s.faults))))
-    (λ p. record { left = p.0; cut = p.1.0; schedule = p.1.1.0; faults = p.1.1.1 }) (λ _. refl)
+    (λ (left, (cut, (schedule, faults))). record { left = left; cut = cut; schedule = schedule; faults = faults }) (λ _. refl)
 
 -- the bytes that a sink holds, how many a call takes at most, and how many it holds at most
 pub record SinkSeen : Type 0 where
@@ -48,4 +48,10 @@ abbrev pub sink_seen_code : Coded SinkSeen
 sink_seen_code = code_by (List ℕ × (ℕ × (ℕ × (Schedule × ℕ))))
     (coded× (coded_list coded_ℕ) (coded× coded_ℕ (coded× coded_ℕ (coded× schedule_code coded_ℕ))))
     (λ s. (s.written, (s.cut, (s.room, (s.schedule, s.faults)))))
-    (λ p. record { written = p.0; cut = p.1.0; room = p.1.1.0; schedule = p.1.1.1.0; faults = p.1.1.1.1 }) (λ _. refl)
+    (λ (written, (cut, (room, (schedule, faults)))). record {
+      written = written;
+      cut = cut;
+      room = room;
+      schedule = schedule;
+      faults = faults;
+    }) (λ _. refl)

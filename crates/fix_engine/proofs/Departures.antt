@@ -129,11 +129,11 @@ module _ (kit : Kit) (valid : IsValid kit) (end : State) where
         → IsMaximalRun kit state run → EndsElsewhere kit end state run → Departs state
     CanDepart-elsewhere state [] fits led maximal elsewhere =
         absurd (elsewhere (stays_there leads state fits led maximal.1))
-    CanDepart-elsewhere state (step ∷ rest) fits led maximal elsewhere =
-        departs-by state fits led step (get_or leads step.rule Nothing) maximal.0.0
-        (led.leads_there.each step.rule maximal.0.0.rule_within) (λ supports keeps.
-        CanDepart-elsewhere (after kit state step) rest (Fits-after kit state step fits maximal.0.0)
-        (IsLedTo-after leads state fits led step maximal.0.0 keeps) (maximal.0.1, maximal.1) elsewhere)
+    CanDepart-elsewhere state (step ∷ rest) fits led ((fires, whole), final) elsewhere =
+        departs-by state fits led step (get_or leads step.rule Nothing) fires
+        (led.leads_there.each step.rule fires.rule_within) (λ supports keeps.
+        CanDepart-elsewhere (after kit state step) rest (Fits-after kit state step fits fires)
+        (IsLedTo-after leads state fits led step fires keeps) (whole, final) elsewhere)
 
   -- ---- and a departure leads elsewhere
 
@@ -169,13 +169,14 @@ module _ (kit : Kit) (valid : IsValid kit) (end : State) where
       let here = end_of kit state depart.run in
       let fits' = Fits-end_of kit valid state depart.run fits whole in
       let next = after kit here depart.step in
-      let more = IsMaximalRun-exists kit valid next [] (Fits-after kit here depart.step fits' depart.fires) tt in
-      let tail = depart.step ∷ more.0 in
+      let (rest, (more, final)) =
+      IsMaximalRun-exists kit valid next [] (Fits-after kit here depart.step fits' depart.fires) tt in
+      let tail = depart.step ∷ rest in
       let end_is = end_of-append kit state depart.run tail in (
         depart.run ++ tail,
         (
-          (IsRun-append kit state depart.run tail whole (depart.fires, more.1.0), rw end_is more.1.1),
-          λ same. elsewhere-behind state depart.run more.0 depart.step fits whole depart.fires depart.departs more.1.0
+          (IsRun-append kit state depart.run tail whole (depart.fires, more), rw end_is final),
+          λ same. elsewhere-behind state depart.run rest depart.step fits whole depart.fires depart.departs more
               (rw end_is at same),
         ),
       )

@@ -7,6 +7,7 @@ use Rattle.std.specs.List.{count_by}
 use Rattle.std.proofs.lemmas.Bool.{cases_Bool, eqb-false}
 use Rattle.std.proofs.lemmas.List.Sums.{sum_by-cons}
 use Rattle.std.proofs.lemmas.List.{get_or-set_same, get_or-set_other, length-replicate}
+use Rattle.fix_model.specs.declared.rule.Rule.{Rule}
 use Rattle.desk_base.specs.Counts.{Counts}
 use Rattle.fix_model.specs.declared.book.Hit.{Hit}
 use Rattle.fix_model.specs.declared.kit.Kit.{Kit}
@@ -33,6 +34,13 @@ get_or-replicate_self (suc count) (suc place) = get_or-replicate_self count plac
 pub pending_count-replicate : (count : ℕ) → pending_count (replicate count Pending) ≡ count
 pending_count-replicate zero = refl
 pending_count-replicate (suc count) = ap suc (pending_count-replicate count)
+
+-- so they are where all was forgotten for the rules of a kit
+pub pending_count-forgotten : (remembered : List Remembered) (rules : List Rule) (kit : Kit)
+    → remembered ≡ replicate (length rules) Pending → rules ≡ kit.rules
+    → pending_count remembered ≡ length kit.rules
+pending_count-forgotten remembered rules kit forgotten same =
+    ap pending_count forgotten ∙ pending_count-replicate (length rules) ∙ ap length same
 
 -- and what is remembered of none is known
 pub AreKnown-replicate : (kit : Kit) (state : State) → AreKnown kit state (replicate (length kit.rules) Pending)

@@ -116,15 +116,16 @@ module _ (kit : Kit) (end : State) (leads : List Lead) (final : IsFinal kit end)
       → ((earlier : ℕ) → earlier < place → leaving_row (get_or leads earlier Nothing) ≡ None)
       → IsLeastDissent kit end (record { rule = place; row = row })
   IsLeastDissent-first place row within is none =
-      let leaves = leaving_row-leaves kit end place row (get_or leads place Nothing) (known.each place within) is in
+      let (enabled, agrees, differs) =
+      leaving_row-leaves kit end place row (get_or leads place Nothing) (known.each place within) is in
       let first : Step = record { rule = place; row = row } in
       record {
         holds = record {
           rule_within = within;
-          enabled = leaves.0;
-          covered = covered_there first within leaves.0 leaves.1;
-          agrees = leaves.1;
-          differs = leaves.2;
+          enabled = enabled;
+          covered = covered_there first within enabled agrees;
+          agrees = agrees;
+          differs = differs;
         };
         least = λ other dissents. elim (decide_less other.rule place) [
           | inl before ↦ absurd (no_dissent-of other (none other.rule before) dissents)

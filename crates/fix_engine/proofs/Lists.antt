@@ -8,7 +8,7 @@ Contains-first x xs = (zero, omega arith, refl)
 
 -- an item behind the first is in the list
 pub Contains-behind : {A : Type 0} (x y : A) (xs : List A) → Contains xs y → Contains (x ∷ xs) y
-Contains-behind x y xs h = (suc h.0, omega (arith, h.1), h.2)
+Contains-behind x y xs (k, within, is) = (suc k, omega (arith, within), is)
 
 -- an item of a list is the first or behind it
 pub Contains-cases : {A : Type 0} (x y : A) (xs : List A) → Contains (x ∷ xs) y → (y ≡ x) ⊎ Contains xs y

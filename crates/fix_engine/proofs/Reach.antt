@@ -226,17 +226,17 @@ module _ (kit : Kit) (valid : IsValid kit) (end : State) where
         → HasFlags flags (rule_at kit place) → CanDepart kit end state left_out
     CanDepart-flagged place row within is head flags_of =
         let step : Step = record { rule = place; row = row } in
-        let leaves = leaving_row-leaves kit end place row (get_or leads place Nothing)
+        let (enabled, agrees, departs) = leaving_row-leaves kit end place row (get_or leads place Nothing)
         (led.leads_there.each place within) is in
         record {
           run = reach.run;
           supported = reach.supported;
           step = step;
-          fires = fires_there step within leaves.0 leaves.1 flags_of
+          fires = fires_there step within enabled agrees flags_of
               (λ covered. reach.uncovered (subst (λ (attribute : ℕ). IsCovered (end_of kit state reach.run) attribute)
               head covered));
           head = head;
-          departs = leaves.2;
+          departs = departs;
         }
 
   -- ---- a departure has a rule with a leaving row
@@ -318,10 +318,9 @@ module _ (kit : Kit) (valid : IsValid kit) (end : State) where
       → IsLedTo kit state end leads → IsReach kit end state attribute flags → IsClosed kit end attribute flags
       → IsLeft kit leads flags attribute ↔ CanDepart kit end state attribute
   CanDepart-left leads state attribute flags fits led reach closed = (
-    (λ left.
-        let some = some-row (leaving_row (get_or leads left.0 Nothing)) left.2.0.leaves in
-        CanDepart-flagged leads state fits led attribute flags reach left.0 some.0 left.1 some.1 left.2.0.head
-        left.2.1),
+    (λ (place, within, (by, flags_of)).
+        let (row, is) = some-row (leaving_row (get_or leads place Nothing)) by.leaves in
+        CanDepart-flagged leads state fits led attribute flags reach place row within is by.head flags_of),
     λ depart. IsLeft-CanDepart leads state flags attribute fits led closed
         (λ other is. flagged_there leads state fits led attribute flags reach other
         (still_covered state reach.run other reach.supported is)) depart,

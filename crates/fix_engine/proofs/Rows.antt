@@ -1,7 +1,7 @@
 -- The state of a region row, and the states that confirm the row.
 use Rattle.std.proofs.Common.{◌≡◌, ◌<◌, ◌≤◌, ◌+◌, ◌∙◌, ◌==◌, ℕ, suc, true, false, List, [], ◌∷◌, get_or, length, map}
 use Rattle.std.proofs.Common.{refl, sym, ap, eq-eqb, eqb-true, inl, inr, arith}
-use Rattle.std.specs.Prelude.{Contains, Some, position, unwrap_or}
+use Rattle.std.specs.Prelude.{Contains, Some, position, unwrap_or, Option}
 use Rattle.std.specs.List.{position_from}
 use Rattle.std.proofs.lemmas.Bool.{cases_Bool}
 use Rattle.std.proofs.Math.ListN.{get_or-eq_default}
@@ -13,12 +13,15 @@ use Rattle.fix_model.specs.declared.kit.Kit.{Kit}
 use Rattle.fix_model.specs.declared.state.Cell.{Cell}
 use Rattle.fix_model.specs.declared.state.Cell.TheVariants.{Uncovered, Confirmed}
 use Rattle.fix_model.specs.declared.state.State.{State}
+use Rattle.fix_model.specs.declared.state.Step.{Step}
+use Rattle.fix_model.specs.Fix.{HasFix, IsFix}
 use Rattle.fix_model.specs.Regions.{ConfirmsExactly, row_state, row_texts, text_for}
 use Rattle.fix_model.specs.States.{Fits, IsCovered, cell_at, confirmed_cell, shown, value_at}
+use Rattle.fix_model.specs.Valid.{IsValid}
 use Rattle.fix_model.proofs.Deciding.{decide_less}
 use Rattle.fix_model.proofs.States.{Fits-confirmed}
 use Rattle.fix_engine.proofs.Lists.{All-Contains, Contains-behind, Contains-cases, Contains-first}
-use Rattle.fix_engine.proofs.Twins.{AreTwins}
+use Rattle.fix_engine.proofs.Twins.{AreTwins, IsFix-twins}
 
 -- a number is listed exactly where the list contains it
 pub is_listed-Contains : (ones : List ℕ) (one : ℕ) → is_listed ones one ≡ true → Contains ones one
@@ -48,18 +51,19 @@ place_from (first ∷ rest) one from h = elim (cases_Bool (first == one)) [
   | inr differs ↦ elim (Contains-cases first one rest h) [
     | inl is ↦ absurd (let t = eq-eqb first one (sym is) in let f = differs in cc)
     | inr behind ↦
-        let later = place_from rest one (from + 1) behind in
-        (suc later.0, rw differs (later.1 ∙ ap Some (omega arith)), omega (arith, later.2), later.3)
+        let (k, is, within, there) = place_from rest one (from + 1) behind in
+        (suc k, rw differs (is ∙ ap Some (omega arith)), omega (arith, within), there)
   ]
 ]
 
 -- so the text for it is the one at its place
 pub text_for-map : (values : ℕ → List ℕ) (attributes : List ℕ) (attribute : ℕ) → Contains attributes attribute
     → unwrap_or (text_for attributes (map values attributes) attribute) [] ≡ values attribute
-text_for-map values attributes attribute h = let found = place_from attributes attribute 0 h in
-    let place : position (λ one. one == attribute) attributes ≡ Some found.0 =
-    position_from-zero (λ one. one == attribute) attributes ∙ found.1 ∙ ap Some (omega arith) in
-    rw place (get_or-map values attributes found.0 0 [] found.2 ∙ ap values found.3)
+text_for-map values attributes attribute h =
+    let (k, is, within, there) = place_from attributes attribute 0 h in
+    let place : position (λ one. one == attribute) attributes ≡ Some k =
+    position_from-zero (λ one. one == attribute) attributes ∙ is ∙ ap Some (omega arith) in
+    rw place (get_or-map values attributes k 0 [] within ∙ ap values there)
 
 module _ (kit : Kit) (attributes : List ℕ) (texts : List (List ℕ)) (state : State) (fits : Fits kit state)
     (confirms : ConfirmsExactly kit attributes texts state) where
@@ -158,3 +162,17 @@ Fits-row kit attributes texts =
     let typed = length-map-range_with_len (λ one. unwrap_or (text_for attributes texts one) []) 0 kit.width in
     Fits-confirmed kit (row_state kit.width attributes texts) (flags_of kit.width attributes)
     (typed ∙ sym (length-map-range_with_len (is_listed attributes) 0 kit.width)) refl typed
+
+-- a certain fix at a row is one at each state that confirms exactly the row, with the same first run
+pub HasFix-row : (kit : Kit) (attributes : List ℕ) (texts : List (List ℕ)) (state : State) → IsValid kit
+    → Fits kit state → ConfirmsExactly kit attributes texts state
+    → HasFix kit (row_state kit.width attributes texts) true
+    → (first : List Step) × (dissent : Option Step)
+    × IsFix kit (row_state kit.width attributes texts) first true dissent × IsFix kit state first true dissent
+HasFix-row kit attributes texts state valid fits confirms (first, dissent, fix) = (
+  first,
+  dissent,
+  fix,
+  IsFix-twins kit valid (row_state kit.width attributes texts) state first dissent
+      (AreTwins-row kit attributes texts state fits confirms) (Fits-row kit attributes texts) fits fix,
+)

@@ -91,19 +91,19 @@ module _ (kit : Kit) (valid : IsValid kit) (end : State) (leads : List Lead) (st
     (led : IsLedTo kit state end leads) where
   -- ---- one rule
 
-  -- a row that agrees at the state agrees at the end
-  agrees_at_end : (place : ℕ) (step : Step) → step.rule ≡ place → Fires kit state step
+  -- the row by which a maximal run begins agrees at the end
+  agrees_at_end : (place : ℕ) (step : Step) (rest : List Step) → step.rule ≡ place → IsMaximalRun kit state (step ∷ rest)
       → RowAgrees kit (value_at kit end) (rule_at kit place) step.row
-  agrees_at_end place step is fires =
+  agrees_at_end place step rest is ((fires, whole), final) =
       subst (λ (p : ℕ). RowAgrees kit (value_at kit end) (rule_at kit p) step.row) is
       (RowAgrees-inside kit state end led.inside (rule_at kit step.rule) step.row fires.enabled.keys fires.agrees)
 
   -- where no row agrees at the end, no run begins with the rule
   pub IsPassed-nothing : (place : ℕ) → IsLead kit end place Nothing → IsPassed kit end state place
-  IsPassed-nothing place nothing step rest is maximal elsewhere =
-      let enabled = subst (λ (p : ℕ). IsEnabled kit state (rule_at kit p)) is maximal.0.0.enabled in
+  IsPassed-nothing place nothing step rest is ((fires, whole), final) elsewhere =
+      let enabled = subst (λ (p : ℕ). IsEnabled kit state (rule_at kit p)) is fires.enabled in
       nothing (IsEnabled-inside kit state end led.inside (rule_at kit place) enabled) step.row
-      (agrees_at_end place step is maximal.0.0)
+      (agrees_at_end place step rest is ((fires, whole), final))
 
   -- a row that agrees at the end fires at the state, where the rule is enabled and its head is not covered
   fires_by : (place row : ℕ) → IsOpen kit state place → RowAgrees kit (value_at kit end) (rule_at kit place) row
@@ -128,7 +128,7 @@ module _ (kit : Kit) (valid : IsValid kit) (end : State) (leads : List Lead) (st
       stays = λ is. absurd cc;
     },
     λ step rest is maximal elsewhere. least_row place hit.first step is
-        (leaves.0.found.first.least step.row (agrees_at_end place step is maximal.0.0)),
+        (leaves.0.found.first.least step.row (agrees_at_end place step rest is maximal)),
   )
 
   -- ---- a rule whose first row keeps to the end
@@ -160,19 +160,18 @@ module _ (kit : Kit) (valid : IsValid kit) (end : State) (leads : List Lead) (st
             );
           },
           λ step rest is maximal elsewhere. least_row place hit.first step is
-              (keeps.0.found.first.least step.row (agrees_at_end place step is maximal.0.0)),
+              (keeps.0.found.first.least step.row (agrees_at_end place step rest is maximal)),
         )
 
     module _ (only : (other : ℕ) → IsFlagged flags other → other ≡ (rule_at kit place).head) where
       -- where nothing else can be departed at, no run goes elsewhere behind a step that keeps to the end
       departs_now : (step : Step) (rest : List Step) → step.rule ≡ place → IsMaximalRun kit state (step ∷ rest)
           → EndsElsewhere kit end state (step ∷ rest) → ¬ Keeps kit end step
-      departs_now step rest is maximal elsewhere same =
-          let fires = maximal.0.0 in
+      departs_now step rest is ((fires, whole), final) elsewhere same =
           let supports : Supports kit end step.rule = subst (Supports kit end) (sym is) supports_by in
           let left = CanDepart-elsewhere kit valid end leads (after kit state step) rest
           (Fits-after kit state step fits fires) (IsLedTo-after kit valid end leads state fits led step fires same)
-          (maximal.0.1, maximal.1) elsewhere in
+          (whole, final) elsewhere in
           let flagged = (departures.each left.0).1
           (CanDepart-step kit valid end state step left.0 fires supports same left.1) in
           head_stays kit valid end leads state step fits led fires supports same left.0 left.1
@@ -199,7 +198,7 @@ module _ (kit : Kit) (valid : IsValid kit) (end : State) (leads : List Lead) (st
           stays = λ is. absurd cc;
         },
         λ step rest is maximal elsewhere. least_row place row step is
-            (found.least step.row (agrees_at_end place step is maximal.0.0)
+            (found.least step.row (agrees_at_end place step rest is maximal)
             (gives_other step rest is maximal elsewhere)),
       )
 
@@ -208,7 +207,7 @@ module _ (kit : Kit) (valid : IsValid kit) (end : State) (leads : List Lead) (st
           → from_text kit (rule_at kit place) row ≡ from_text kit (rule_at kit place) hit.first)
           → IsPassed kit end state place
       IsPassed-keeping all step rest is maximal elsewhere =
-          gives_other step rest is maximal elsewhere (all step.row (agrees_at_end place step is maximal.0.0))
+          gives_other step rest is maximal elsewhere (all step.row (agrees_at_end place step rest is maximal))
 
   -- ---- all rules
 
@@ -229,14 +228,14 @@ module _ (kit : Kit) (valid : IsValid kit) (end : State) (leads : List Lead) (st
   pub departs_nowhere : ((place : ℕ) → place < length kit.rules → IsPassed kit end state place)
       → ¬ CanDepartSomewhere kit end state
   departs_nowhere passed depart =
-      let run = elsewhere-exists kit valid end state depart.0 fits depart.1 in
-      ends_nowhere run.0 run.1.0 run.1.1
+      let (run, (maximal, elsewhere)) = elsewhere-exists kit valid end state depart.0 fits depart.1 in
+      ends_nowhere run maximal elsewhere
     where
       -- no maximal run ends elsewhere
       ends_nowhere : (run : List Step) → IsMaximalRun kit state run → ¬ EndsElsewhere kit end state run
       ends_nowhere [] maximal elsewhere = elsewhere (stays_there kit valid end leads state fits led maximal.1)
-      ends_nowhere (step ∷ rest) maximal elsewhere =
-          passed step.rule maximal.0.0.rule_within step rest refl maximal elsewhere
+      ends_nowhere (step ∷ rest) ((fires, whole), final) elsewhere =
+          passed step.rule fires.rule_within step rest refl ((fires, whole), final) elsewhere
 
   -- ---- the run goes on
 
@@ -251,8 +250,9 @@ module _ (kit : Kit) (valid : IsValid kit) (end : State) (leads : List Lead) (st
   least_behind step rest least then (next ∷ others) is = elim (least next others is.maximal is.elsewhere) [
     | inr before ↦ inr (inl before)
     | inl same ↦
+        let ((fires, whole), final) = is.maximal in
         let there : IsMaximalRun kit (after kit state step) others =
-        subst (λ (x : Step). IsMaximalRun kit (after kit state x) others) (sym same) (is.maximal.0.1, is.maximal.1) in
+        subst (λ (x : Step). IsMaximalRun kit (after kit state x) others) (sym same) (whole, final) in
         let apart : EndsElsewhere kit end (after kit state step) others =
         subst (λ (x : Step). EndsElsewhere kit end (after kit state x) others) (sym same) is.elsewhere in
         elim (then others (record { maximal = there; elsewhere = apart })) [
@@ -290,10 +290,10 @@ pub IsLeftFrom-after : (kit : Kit) (valid : IsValid kit) (state end : State) (le
     → turn.departs ≡ false → head ≡ (rule_at kit turn.step.rule).head
     → IsLeftFrom kit (after kit state turn.step) end leads (set flags head false)
 IsLeftFrom-after kit valid state end leads flags turn head fits left is_turn stays same =
-    let kept = is_turn.stays stays in
+    let (supports, keeps, somewhere) = is_turn.stays stays in
     record {
-      led = IsLedTo-after kit valid end leads state fits left.led turn.step is_turn.fires kept.1;
-      departures = rw same (AreDepartures-after kit valid end leads state turn.step fits left.led is_turn.fires kept.0
-          kept.1 flags left.departures);
-      somewhere = kept.2;
+      led = IsLedTo-after kit valid end leads state fits left.led turn.step is_turn.fires keeps;
+      departures = rw same (AreDepartures-after kit valid end leads state turn.step fits left.led is_turn.fires supports
+          keeps flags left.departures);
+      somewhere = somewhere;
     }

@@ -114,12 +114,13 @@ module _ (kit : Kit) (old new : State) (runs : Runs) (leads : List Lead)
   pub SomeRunDiffers-begun : (flags : List Bool) → AreDepartures kit new old flags
       → (attribute : ℕ) × IsFlagged flags attribute → SomeRunDiffers kit old runs.first.items
   SomeRunDiffers-begun flags departures some =
-      let found = elsewhere-exists kit begun.valid new old some.0 fits ((departures.each some.0).0 some.1) in
-      let apart : Differs kit old runs.first.items found.0 = record {
-        maximal = found.1.0;
-        differs = λ same. found.1.1 (sym same ∙ ap (record_of kit) (sym begun.ends));
+      let (other, (maximal, elsewhere)) =
+      elsewhere-exists kit begun.valid new old some.0 fits ((departures.each some.0).0 some.1) in
+      let apart : Differs kit old runs.first.items other = record {
+        maximal = maximal;
+        differs = λ same. elsewhere (sym same ∙ ap (record_of kit) (sym begun.ends));
       } in
-      (found.0, apart)
+      (other, apart)
 
   -- where some maximal run ends in another record, a run can depart from the end
   pub IsLeftFrom-begun : (flags there : List Bool) → AreDepartures kit new old flags → there ≡ flags

@@ -15,5 +15,5 @@ work_seen_code =
     code_by (List Step × (List Step × (ℕ × ℕ)))
     (coded× (coded_list step_code) (coded× (coded_list step_code) (coded× coded_ℕ coded_ℕ)))
     (λ w. (w.first, (w.second, (w.width, w.rules))))
-    (λ q. record { first = q.0; second = q.1.0; width = q.1.1.0; rules = q.1.1.1 })
+    (λ (first, (second, (width, rules))). record { first = first; second = second; width = width; rules = rules })
     (λ _. refl)

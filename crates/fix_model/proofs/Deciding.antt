@@ -58,12 +58,12 @@ module _ {A : Type 0} (P : A → Type 0) (decide : (a : A) → Decided (P a)) wh
 
   -- and so is a fact about some item
   pub decide_any : (items : List A) → Decided (list.Any P items)
-  decide_any [] = inr (λ found. absurd (let h : found.0 < 0 = found.2 in omega arith))
+  decide_any [] = inr (λ (place, x, within, is, p). absurd (omega (arith, within)))
   decide_any (a ∷ items) = elim (decide a) [
     | inl here ↦ inl (0, a, omega arith, refl, here)
     | inr first ↦ elim (decide_any items) [
-      | inl found ↦ inl (suc found.0, found.1, omega (arith, found.2), found.3, found.4)
-      | inr later ↦ inr (λ found. not_here a items first later found.0 found.1 found.2 found.3 found.4)
+      | inl (place, x, within, is, p) ↦ inl (suc place, x, omega (arith, within), is, p)
+      | inr later ↦ inr (λ (place, x, within, is, p). not_here a items first later place x within is p)
     ]
   ]
 
@@ -74,7 +74,7 @@ decide_below P decide zero = inr (λ n h. absurd (omega arith))
 decide_below P decide (suc bound) = elim (decide bound) [
   | inl here ↦ inl (bound, omega arith, here)
   | inr none ↦ elim (decide_below P decide bound) [
-    | inl found ↦ inl (found.0, omega (arith, found.1), found.2)
+    | inl (n, under, has) ↦ inl (n, omega (arith, under), has)
     | inr below ↦ inr (λ n h p. elim (eq-or-lt_of_le (let m : n ≤ bound = omega arith in m)) [
       | inl same ↦ none (subst P same p)
       | inr under ↦ below n under p
@@ -133,7 +133,7 @@ module _ (kit : Kit) (state : State) where
       (both (decide_all (λ key. master_text kit rule row key.1 ≢ [])
       (λ key. opposite (decide_equal (master_text kit rule row key.1) [])) rule.keys)
       (opposite (decide_equal (from_text kit rule row) [])))) [
-        | inl h ↦ inl (record { row_within = h.0; keys = h.1.0; from = h.1.1 })
+        | inl (within, (keys, from)) ↦ inl (record { row_within = within; keys = keys; from = from })
         | inr none ↦ inr (λ u. none (u.row_within, (u.keys, u.from)))
       ]
 
@@ -158,7 +158,7 @@ module _ (kit : Kit) (state : State) where
       (both (decide_all (λ cond. IsCovered state cond.0) (λ cond. covered cond.0) rule.conds)
       (decide_all (λ cond. Matches (is_folded kit cond.0) cond.1 (value_at kit state cond.0))
       (λ cond. decide_match (is_folded kit cond.0) cond.1 (value_at kit state cond.0)) rule.conds))) [
-        | inl h ↦ inl (record { keys = h.0; conds = h.1.0; matched = h.1.1 })
+        | inl (keys, (conds, matched)) ↦ inl (record { keys = keys; conds = conds; matched = matched })
         | inr none ↦ inr (λ e. none (e.keys, (e.conds, e.matched)))
       ]
 
@@ -168,7 +168,8 @@ module _ (kit : Kit) (state : State) where
       let rule = rule_at kit step.rule in
       elim (both (decide_less step.rule (length kit.rules)) (both (decide_enabled rule)
       (both (opposite (decide_test (is_covering (cell_at state rule.head)))) (decide_agrees rule rule.keys step.row)))) [
-        | inl h ↦ inl (record { rule_within = h.0; enabled = h.1.0; uncovered = h.1.1.0; agrees = h.1.1.1 })
+        | inl (within, (enabled, (uncovered, agrees))) ↦
+            inl (record { rule_within = within; enabled = enabled; uncovered = uncovered; agrees = agrees })
         | inr none ↦ inr (λ f. none (f.rule_within, (f.enabled, (f.uncovered, f.agrees))))
       ]
 
@@ -177,7 +178,7 @@ module _ (kit : Kit) (state : State) where
       ⊎ ((row : ℕ) → ¬ Fires kit state (record { rule = place; row = row }))
   row_of place = elim (decide_below (λ row. Fires kit state (record { rule = place; row = row }))
       (λ row. decide_fires (record { rule = place; row = row })) (length (master_of kit (rule_at kit place)).rows)) [
-        | inl found ↦ inl (record { rule = place; row = found.0 }, found.2)
+        | inl (row, below, fires) ↦ inl (record { rule = place; row = row }, fires)
         | inr none ↦ inr (λ row fires. none row fires.agrees.usable.row_within fires)
       ]
 

@@ -42,19 +42,19 @@ module _ (kit : Kit) (valid : IsValid kit) where
   go_on (suc fuel) state enough fits = elim (fires_or_final kit state) [
     | inr final ↦ ([], (tt, final))
     | inl found ↦
-        let next = go_on fuel (after kit state found.0)
-        (omega (arith, uncovered_count-step kit state found.0 valid fits found.1))
-        (Fits-after kit state found.0 fits found.1) in
-        (found.0 ∷ next.0, ((found.1, next.1.0), next.1.1))
+        let (step, fires) = found in
+        let (rest, (whole, final)) = go_on fuel (after kit state step)
+        (omega (arith, uncovered_count-step kit state step valid fits fires)) (Fits-after kit state step fits fires) in
+        (step ∷ rest, ((fires, whole), final))
   ]
 
   -- a run goes on to a maximal one
   pub IsMaximalRun-exists : (state : State) (run : List Step) → Fits kit state → IsRun kit state run
       → (rest : List Step) × IsMaximalRun kit state (run ++ rest)
   IsMaximalRun-exists state run fits whole =
-      let more = go_on (uncovered_count (end_of kit state run)) (end_of kit state run) (omega arith)
+      let (rest, (more, final)) = go_on (uncovered_count (end_of kit state run)) (end_of kit state run) (omega arith)
       (Fits-end_of state run fits whole) in
-      (more.0, (IsRun-append kit state run more.0 whole more.1.0, rw (end_of-append kit state run more.0) more.1.1))
+      (rest, (IsRun-append kit state run rest whole more, rw (end_of-append kit state run rest) final))
 
 -- covered attributes stay covered along a run, with their values
 pub IsCovered-end_of : (kit : Kit) (state : State) (run : List Step) (attribute : ℕ) → IsRun kit state run

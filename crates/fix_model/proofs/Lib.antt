@@ -8,7 +8,6 @@ pub mod Hits
 pub mod LeftSides
 pub mod Lengths
 pub mod Order
-pub mod Pairs
 pub mod Plain
 pub mod Ranges
 pub mod Runs

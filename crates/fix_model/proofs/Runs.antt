@@ -12,18 +12,18 @@ use Rattle.fix_model.specs.Run.{IsRun, end_of, IsFinal, IsMaximalRun}
 IsRunBefore-nil : (kit : Kit) (state : State) → IsFinal kit state → (other : List Step) → IsMaximalRun kit state other
     → ([] ≡ other) ⊎ IsRunBefore [] other
 IsRunBefore-nil kit state final [] maximal = inl refl
-IsRunBefore-nil kit state final (step ∷ rest) maximal = absurd (final step maximal.0.0)
+IsRunBefore-nil kit state final (step ∷ rest) ((fires, whole), ended) = absurd (final step fires)
 
 -- a run by the least step and the first run from there is before every other
 IsRunBefore-cons : (kit : Kit) (state : State) (step : Step) (rest : List Step) → IsLeastStep kit state step
     → IsFirstRun kit (after kit state step) rest → (other : List Step) → IsMaximalRun kit state other
     → ((step ∷ rest) ≡ other) ⊎ IsRunBefore (step ∷ rest) other
 IsRunBefore-cons kit state step rest least first [] maximal = absurd (maximal.1 step least.holds)
-IsRunBefore-cons kit state step rest least first (next ∷ others) maximal = elim (least.least next maximal.0.0) [
+IsRunBefore-cons kit state step rest least first (next ∷ others) ((fires, whole), final) = elim (least.least next fires) [
   | inr before ↦ inr (inl before)
   | inl same ↦
       let there : IsMaximalRun kit (after kit state step) others = subst (λ (x : Step). IsMaximalRun kit
-      (after kit state x) others) (sym same) (maximal.0.1, maximal.1) in
+      (after kit state x) others) (sym same) (whole, final) in
       elim (first.least others there) [
         | inl equal ↦ inl (rw (same, equal) refl)
         | inr before ↦ inr (inr (same, before))

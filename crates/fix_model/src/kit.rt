@@ -155,7 +155,7 @@ fn has_distinct_attributes<T>(pairs: &[(u16, T)]) -> bool
 }
 
 fn names<T>(pairs: &[(u16, T)], attribute: u16) -> bool
-    ensures { IsTrue result ↔ Any (λ pair. pair.0 ≡ attribute) pairs.now }
+    ensures { IsTrue result ↔ Any (λ pair. attribute ≡ pair.0) pairs.now }
 {
     'pairs: for pair in pairs {
         if pair.0 == attribute {

@@ -183,7 +183,7 @@ pub Contains-with_uses : (one : ℕ) (attributes : List ℕ) (uses : List (List 
     → Contains (users (with_uses one attributes uses) place) other
     ↔ (Contains (users uses place) other ⊎ ((other ≡ one) × Contains attributes place))
 Contains-with_uses one [] uses place other within =
-    ((λ h. inl h), λ h. elim h [ inl there ↦ there | inr none ↦ absurd (omega (arith, none.1.1)) ])
+    ((λ h. inl h), λ h. elim h [ inl there ↦ there | inr (is, (k, within, stands)) ↦ absurd (omega (arith, within)) ])
 Contains-with_uses one (attribute ∷ rest) uses place other within = let added = users uses attribute ++ one ∷ [] in
     let used = set uses attribute added in
     let here : attribute < length uses = within zero attribute (omega arith) in

@@ -161,57 +161,51 @@ module _ (kit : Kit) (state : State) (regions : List Region) (place : ℕ) where
     | inr here ↦ let bound = here.1 in inr (here.0, omega (arith, bound))
   ]
 
+  -- what was found in the region or before it was found before the next
+  IsMatchWithin-next : (rows : ℕ) (other : ℕ × ℕ) → IsMatchWithin kit state regions place rows other
+      → IsMatchWithin kit state regions (place + 1) 0 other
+  IsMatchWithin-next rows other (matched, within) = (
+    matched,
+    inl (elim within [
+      | inl below ↦ omega (arith, below)
+      | inr here ↦ let is = here.0 in omega (arith, is)
+    ]),
+  )
+
+  -- what was found before the next region was found before this one, or is a row of this one
+  IsMatchWithin-cases : (rows : ℕ) (other : ℕ × ℕ) → (other.0 ≡ place + 1 → other.0 - 1 ≡ place
+      → IsMatch kit state regions other → other.1 ≤ rows) → IsMatchWithin kit state regions (place + 1) 0 other
+      → IsMatchWithin kit state regions place rows other
+  IsMatchWithin-cases rows other last (matched, within) = (
+    matched,
+    elim within [
+      | inl below ↦ elim (decide_less other.0 (place + 1)) [
+        | inl less ↦ inl (omega (arith, less))
+        | inr not_less ↦
+            let is : other.0 ≡ place + 1 = omega (arith, below, not_less) in
+            inr (is, last is (omega (arith, is)) matched)
+      ]
+      | inr none ↦ let low = matched.place.row.0 in let high = none.1 in absurd (omega (arith, low, high))
+    ],
+  )
+
   -- all rows of the region are found
   pub IsMatchWithin-region : (rows : ℕ) → rows ≡ length (region_at regions place).rows → (other : ℕ × ℕ)
       → IsMatchWithin kit state regions place rows other ↔ IsMatchWithin kit state regions (place + 1) 0 other
   IsMatchWithin-region rows all other = (
-    (λ h. (
-      h.0,
-      inl (elim h.1 [
-        | inl below ↦ omega (arith, below)
-        | inr here ↦ let is = here.0 in omega (arith, is)
-      ]),
-    )),
-    λ h. (
-      h.0,
-      elim h.1 [
-        | inl below ↦ elim (decide_less other.0 (place + 1)) [
-          | inl less ↦ inl (omega (arith, less))
-          | inr not_less ↦
-              let is : other.0 ≡ place + 1 = omega (arith, below, not_less) in
-              let same : other.0 - 1 ≡ place = omega (arith, is) in
-              let bound : other.1 ≤ length (region_at regions place).rows = rw same at h.0.place.row.1 in
-              inr (is, omega (arith, bound, all))
-        ]
-        | inr none ↦ let low = h.0.place.row.0 in let high = none.1 in absurd (omega (arith, low, high))
-      ],
-    ),
+    IsMatchWithin-next rows other,
+    IsMatchWithin-cases rows other (λ is same matched.
+        let bound : other.1 ≤ length (region_at regions place).rows = rw same at matched.place.row.1 in
+        omega (arith, bound, all)),
   )
 
   -- a region that lacks a confirmed attribute is passed over
   pub IsMatchWithin-lacks : (HoldsConfirmed state (region_at regions place).attrs → ⊥) → (other : ℕ × ℕ)
       → IsMatchWithin kit state regions place 0 other ↔ IsMatchWithin kit state regions (place + 1) 0 other
   IsMatchWithin-lacks lacks other = (
-    (λ h. (
-      h.0,
-      inl (elim h.1 [
-        | inl below ↦ omega (arith, below)
-        | inr here ↦ let is = here.0 in omega (arith, is)
-      ]),
-    )),
-    λ h. (
-      h.0,
-      elim h.1 [
-        | inl below ↦ elim (decide_less other.0 (place + 1)) [
-          | inl less ↦ inl (omega (arith, less))
-          | inr not_less ↦
-              let is : other.0 ≡ place + 1 = omega (arith, below, not_less) in
-              let same : other.0 - 1 ≡ place = omega (arith, is) in
-              absurd (lacks (subst (λ (n : ℕ). HoldsConfirmed state (region_at regions n).attrs) same h.0.confirmed))
-        ]
-        | inr none ↦ let low = h.0.place.row.0 in let high = none.1 in absurd (omega (arith, low, high))
-      ],
-    ),
+    IsMatchWithin-next 0 other,
+    IsMatchWithin-cases 0 other (λ is same matched. absurd
+        (lacks (subst (λ (n : ℕ). HoldsConfirmed state (region_at regions n).attrs) same matched.confirmed))),
   )
 
   -- a row of a region matches where the region holds all that is confirmed, and the row has the values
@@ -285,14 +279,14 @@ module _ (pairs : List (ℕ × ℕ)) (place : ℕ) (within : place < length pair
   pub IsSeen-grows : (other : ℕ × ℕ) → IsSeen pairs (place + 1) other
       ↔ (IsSeen pairs place other ⊎ (other ≡ get_or pairs place (0, 0)))
   IsSeen-grows other = (
-    (λ h. let bound = h.1 in elim (decide_less h.0 place) [
-      | inl less ↦ inl (h.0, less, h.2)
+    (λ (k, bound, there). elim (decide_less k place) [
+      | inl less ↦ inl (k, less, there)
       | inr not_less ↦
-          let is : h.0 ≡ place = omega (arith, bound, not_less) in
-          inr (sym h.2 ∙ ap (λ n. get_or pairs n other) is ∙ get_or_default pairs place other (0, 0) within)
+          let is : k ≡ place = omega (arith, bound, not_less) in
+          inr (sym there ∙ ap (λ n. get_or pairs n other) is ∙ get_or_default pairs place other (0, 0) within)
     ]),
     λ h. elim h [
-      | inl seen ↦ let bound = seen.1 in (seen.0, omega (arith, bound), seen.2)
+      | inl (k, bound, there) ↦ (k, omega (arith, bound), there)
       | inr is ↦ (place, omega arith, get_or_default pairs place other (0, 0) within ∙ sym is)
     ],
   )
@@ -300,21 +294,21 @@ module _ (pairs : List (ℕ × ℕ)) (place : ℕ) (within : place < length pair
   -- and what was seen comes before it
   pub IsSeen-before : AllPairs IsOfferBefore pairs → (other : ℕ × ℕ) → IsSeen pairs place other
       → IsOfferBefore other (get_or pairs place (0, 0))
-  IsSeen-before in_order other seen = let bound = seen.1 in
-      let here : get_or pairs seen.0 (0, 0) ≡ other =
-      get_or_default pairs seen.0 (0, 0) other (omega (arith, bound, within)) ∙ seen.2 in
+  IsSeen-before in_order other (k, bound, there) =
+      let here : get_or pairs k (0, 0) ≡ other =
+      get_or_default pairs k (0, 0) other (omega (arith, bound, within)) ∙ there in
       subst (λ (one : ℕ × ℕ). IsOfferBefore one (get_or pairs place (0, 0))) here
-      (in_order seen.0 place (0, 0) bound within)
+      (in_order k place (0, 0) bound within)
 
 -- a row with a certain fix has the verdict certain
 pub certain-only : (kit : Kit) (state : State) (verdict : RowVerdict) → IsVerdict kit state verdict
     → HasFix kit state true → verdict ≡ Certain
 certain-only kit state Certain is fix = refl
-certain-only kit state Partial is fix = absurd (
-    let same = IsFirstRun-unique kit state fix.0 is.0 fix.2.is_first is.2.is_first in
-    let all = fix.2.is_certain.0 refl in
-    let none = is.2.is_certain.1 (rw same at all) in
+certain-only kit state Partial (run, dissent, partial) (first, other, certain) = absurd (
+    let same = IsFirstRun-unique kit state first run certain.is_first partial.is_first in
+    let all = certain.is_certain.0 refl in
+    let none = partial.is_certain.1 (rw same at all) in
     cc)
-certain-only kit state Conflict is fix = absurd (
-    let same : fix.0 ≡ is.0 = IsFirstRun-unique kit state fix.0 is.0 fix.2.is_first is.1 in
-    is.2.1.differs (rw same at (fix.2.unique is.2.0 is.2.1.maximal)))
+certain-only kit state Conflict (run, is_first, (elsewhere, apart)) (first, other, certain) = absurd (
+    let same : first ≡ run = IsFirstRun-unique kit state first run certain.is_first is_first in
+    apart.differs (rw same at (certain.unique elsewhere apart.maximal)))

@@ -1,13 +1,11 @@
 -- Attributes are tested from the last to the first.
-use Rattle.std.proofs.Common.{◌≡◌, ◌≢◌, ◌⊎◌, ◌<◌, ◌+◌, ◌∙◌, ℕ, Bool, true, false, not, List, [], ◌∷◌, ◌++◌, get_or}
-use Rattle.std.proofs.Common.{set, length, length-append, length-set, replicate, eqb, eqb-true, refl, sym, ap, inl}
+use Rattle.std.proofs.Common.{◌≡◌, ◌≢◌, ◌⊎◌, ◌<◌, ◌+◌, ◌∙◌, ℕ, Bool, true, false, not, List, get_or}
+use Rattle.std.proofs.Common.{set, length, length-set, replicate, eqb, eqb-true, refl, sym, ap, inl}
 use Rattle.std.proofs.Common.{inr, arith}
-use Rattle.std.specs.Prelude.{◌↔◌, AllPairs, Contains, IsTrue}
+use Rattle.std.specs.Prelude.{◌↔◌, IsTrue}
 use Rattle.std.proofs.lemmas.Bool.{cases_Bool, eqb-false}
-use Rattle.std.proofs.lemmas.List.{get_or-replicate, get_or-set_same, get_or-set_other, get_or_append_left}
+use Rattle.std.proofs.lemmas.List.{get_or-replicate, get_or-set_same, get_or-set_other}
 use Rattle.std.proofs.lemmas.List.{get_or_default, length-replicate}
-use Rattle.std.proofs.lemmas.List.Elements.{Contains-append_cases, Contains-append_left, Contains-append_right}
-use Rattle.std.proofs.Math.Seq.{get_or-append_seam}
 use Rattle.fix_engine.proofs.Listing.{ListsBelow}
 use Rattle.fix_model.specs.declared.kit.Kit.{Kit}
 use Rattle.fix_model.specs.declared.state.State.{State}
@@ -20,9 +18,15 @@ use Rattle.region_suggest.specs.Need.{IsGivenWithout, IsNeed}
 use Rattle.region_suggest.specs.Openings.{AreOpenings}
 use Rattle.region_suggest.specs.Trying.{AreTried, IsGivenAt, IsTested}
 use Rattle.region_suggest.proofs.Hopes.{IsClosure-IsHoped}
-use Rattle.fix_engine.proofs.Lists.{Contains-cases, Contains-first}
-use Rattle.region_suggest.proofs.Lists.{Contains-nil, Contains-at}
 use Rattle.region_suggest.proofs.Needs.{AreAllHoped-more, decide_covered}
+
+-- which attributes are given where one is tested hangs on the flags after it alone
+IsGivenAt-same : (state : State) (flags later : List Bool) (attribute : ℕ)
+    → ((other : ℕ) → attribute < other → get_or later other false ≡ get_or flags other false)
+    → (width other : ℕ) → other < width → IsGivenAt state flags attribute other → IsGivenAt state later attribute other
+IsGivenAt-same state flags later attribute same width other below (inl before) = inl before
+IsGivenAt-same state flags later attribute same width other below (inr (after, (flagged, open_there))) =
+    inr (after, (same other after ∙ flagged, open_there))
 
 module _ (kit : Kit) (state : State) where
   -- all attributes are given where none is tested yet
@@ -105,7 +109,7 @@ module _ (kit : Kit) (state : State) where
               | inl covered ↦ tried.covered attribute within covered
               | inr there ↦ elim there [
                 | inl before ↦ let h = before.0 in tried.before attribute (omega (arith, h))
-                | inr behind ↦ sym kept ∙ behind.1.0
+                | inr (after, (flagged, open_there)) ↦ sym kept ∙ flagged
               ]
             ],
           )
@@ -147,24 +151,10 @@ module _ (kit : Kit) (state : State) where
             let apart : attribute ≢ first = eqb-false attribute first differs in
             let was = tried.each attribute (omega (arith, past, apart)) within uncovered in
             let kept = written_other attribute apart in
-            let move : (other : ℕ) → other < kit.width → IsGivenAt state flags attribute other
-            → IsGivenAt state later attribute other =
-            λ other below given. elim given [
-              | inl before ↦ inl before
-              | inr behind ↦
-                  let h = behind.0 in
-                  let not_first : other ≢ first = omega (arith, h, past) in
-                  inr (h, (written_other other not_first ∙ behind.1.0, behind.1.1))
-            ] in
-            let back : (other : ℕ) → other < kit.width → IsGivenAt state later attribute other
-            → IsGivenAt state flags attribute other =
-            λ other below given. elim given [
-              | inl before ↦ inl before
-              | inr behind ↦
-                  let h = behind.0 in
-                  let not_first : other ≢ first = omega (arith, h, past) in
-                  inr (h, (sym (written_other other not_first) ∙ behind.1.0, behind.1.1))
-            ] in (
+            let same : (other : ℕ) → attribute < other → get_or later other false ≡ get_or flags other false =
+            λ other after. written_other other (omega (arith, after, past)) in
+            let move = IsGivenAt-same state flags later attribute same kit.width in
+            let back = IsGivenAt-same state later flags attribute (λ other after. sym (same other after)) kit.width in (
               (λ flagged all. was.0 (sym kept ∙ flagged)
                   (AreAllHoped-more kit state (IsGivenAt state later attribute) (IsGivenAt state flags attribute) back
                   all)),
@@ -200,11 +190,11 @@ IsNeed-tried kit state flags need tried lists =
       in_order = lists.in_order;
       each = λ attribute. (
         (λ h.
-            let told = (lists.each attribute).0 h in
+            let (within, (flagged, uncovered)) = (lists.each attribute).0 h in
             record {
-              within = told.0;
-              uncovered = told.1.1;
-              missed = λ all. (tried.each attribute (omega arith) told.0 told.1.1).0 told.1.0
+              within = within;
+              uncovered = uncovered;
+              missed = λ all. (tried.each attribute (omega arith) within uncovered).0 flagged
                   (AreAllHoped-more kit state (IsGivenWithout state need attribute) (IsGivenAt state flags attribute)
                   (out_of attribute) all);
             }),

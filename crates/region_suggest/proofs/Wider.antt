@@ -132,10 +132,10 @@ module _ (kit : Kit) (valid : IsValid kit) (attributes : List ℕ) where
       let apart : Contains attributes head → ⊥ =
       λ h. open_there head h (IsCovered-end_of kit next rest head whole.1 covers).0 in
       let fires' = Fires-wider one other step wider whole.0 apart in
-      let later = IsRun-wider next (after kit other step) rest
+      let (whole', wider', ends') = IsRun-wider next (after kit other step) rest
       (IsWider-after one other step wider fits fits' whole.0 fires')
       (Fits-after kit one step fits whole.0) (Fits-after kit other step fits' fires') whole.1 open_there in
-      ((fires', later.0), later.1, later.2)
+      ((fires', whole'), wider', ends')
 
   module _ (end : State) (flags : List Bool) (closed : IsHopeClosed kit end (Contains attributes) flags) where
     -- a rule that is applied beyond the end was open there

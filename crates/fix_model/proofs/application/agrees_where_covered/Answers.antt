@@ -7,11 +7,7 @@ agrees-requires-clause-columns c = rw (c.master-master.ensures, c.at.ensures)
 
 pub returns : goal.returns
 returns c =
-    let kit = c.args.kit.now in
-    let state = c.args.state.now in
-    let rule = c.args.rule.now in
     let iff = rw (c.master-master.ensures, c.at.ensures) at c.agrees.ensures in (
-      λ told. RowAgreesAt-met kit state rule c.args.row (iff.0 told),
-      λ agrees. iff.1
-          (Meets-agreeing kit state rule c.args.row agrees),
+      λ told. RowAgreesAt-met c.args.kit.now c.args.state.now c.args.rule.now c.args.row (iff.0 told),
+      λ agrees. iff.1 (Meets-agreeing c.args.kit.now c.args.state.now c.args.rule.now c.args.row agrees),
     )

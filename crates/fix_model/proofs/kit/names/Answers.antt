@@ -5,7 +5,7 @@ use Rattle.fix_model.proofs.kit.names.Goals as goal
 -- the pair at the loop's place is the one that is sought
 pub returns-then-pair-attribute : goal.returns-then-pair-attribute
 returns-then-pair-attribute g c = (
-  λ _. (c.pairs.pair-index, c.pair-item.result, c.pairs-test.true, sym c.pair-item.is, c.if-pair-attribute.true),
+  λ _. (c.pairs.pair-index, c.pair-item.result, c.pairs-test.true, sym c.pair-item.is, sym c.if-pair-attribute.true),
   λ _. refl,
 )
 

@@ -5,49 +5,45 @@ use Rattle.fix_model.specs.States.{value_at}
 use Rattle.fix_model.proofs.Comparing.{at_keys, key_order-at_keys}
 use Rattle.fix_model.proofs.Order.{slice_cmp-drop_decided, slice_cmp-drop_tied}
 use Rattle.fix_model.proofs.ordering.order_at_keys.Goals as goal
+use Rattle.fix_model.proofs.ordering.order_at_keys.Goals.{After-text_order-order}
+
+-- the loop is at a key of the rule
+key-within : (c : After-text_order-order) → c.keys.key-index < length c.args.rule.now.keys
+key-within c = rw c.as_slice-key-items.ensures at c.keys-test.true
+
+-- the order is that of the row's cell and the record's value at that key
+order-at_keys : (c : After-text_order-order)
+    → (let key = get_or c.args.rule.now.keys c.keys.key-index (0, 0) in
+    c.text_order-order.result
+    ≡ at_keys c.args.kit.now (value_at c.args.kit.now c.args.state.now) c.args.rule.now c.args.row key key)
+order-at_keys c = rw (
+  c.folds.ensures,
+  c.as_str-cell.ensures.text,
+  c.cell.ensures,
+  c.master-master.ensures,
+  c.as_str-text.ensures.text,
+  c.value.ensures,
+  c.as_slice-key-items.ensures,
+) at c.text_order-order.ensures
 
 pub returns-then-is_ne : goal.returns-then-is_ne
 returns-then-is_ne c =
-    let kit = c.args.kit.now in
-    let values = value_at kit c.args.state.now in
+    let values = value_at c.args.kit.now c.args.state.now in
     let keys = c.args.rule.now.keys in
-    let place = c.keys.key-index in
-    let within : place < length keys = rw c.as_slice-key-items.ensures at c.keys-test.true in
-    let order : c.text_order-order.result ≡ at_keys kit values c.args.rule.now c.args.row (get_or keys place (0, 0))
-    (get_or keys place (0, 0)) =
-    rw (
-      c.folds.ensures,
-      c.as_str-cell.ensures.text,
-      c.cell.ensures,
-      c.master-master.ensures,
-      c.as_str-text.ensures.text,
-      c.value.ensures,
-      c.as_slice-key-items.ensures,
-    ) at c.text_order-order.ensures in
-    sym (key_order-at_keys kit values c.args.rule.now c.args.row ∙ c.keys.invariant
-    ∙ slice_cmp-drop_decided (at_keys kit values c.args.rule.now c.args.row) keys keys place (0, 0) (0, 0) within
-    within c.text_order-order.result order (sym c.is_ne.ensures ∙ c.if-is_ne.true))
+    let found = (goal.at.returns-then-is_ne c).After-text_order-order in
+    sym (key_order-at_keys c.args.kit.now values c.args.rule.now c.args.row ∙ c.keys.invariant
+    ∙ slice_cmp-drop_decided (at_keys c.args.kit.now values c.args.rule.now c.args.row) keys keys c.keys.key-index
+    (0, 0) (0, 0) (key-within found) (key-within found) c.text_order-order.result (order-at_keys found)
+    (sym c.is_ne.ensures ∙ c.if-is_ne.true))
 
 pub keys-preserved : goal.keys-preserved
 keys-preserved c =
-    let kit = c.args.kit.now in
-    let values = value_at kit c.args.state.now in
     let keys = c.args.rule.now.keys in
-    let place = c.keys.key-index in
-    let within : place < length keys = rw c.as_slice-key-items.ensures at c.keys-test.true in
-    let order : c.text_order-order.result ≡ at_keys kit values c.args.rule.now c.args.row (get_or keys place (0, 0))
-    (get_or keys place (0, 0)) =
-    rw (
-      c.folds.ensures,
-      c.as_str-cell.ensures.text,
-      c.cell.ensures,
-      c.master-master.ensures,
-      c.as_str-text.ensures.text,
-      c.value.ensures,
-      c.as_slice-key-items.ensures,
-    ) at c.text_order-order.ensures in
-    c.keys.invariant ∙ slice_cmp-drop_tied (at_keys kit values c.args.rule.now c.args.row) keys keys place (0, 0)
-    (0, 0) within within c.text_order-order.result order (sym c.is_ne.ensures ∙ c.if-is_ne.false)
+    let found = (goal.at.keys-preserved c).After-text_order-order in
+    c.keys.invariant
+    ∙ slice_cmp-drop_tied (at_keys c.args.kit.now (value_at c.args.kit.now c.args.state.now) c.args.rule.now c.args.row)
+    keys keys c.keys.key-index (0, 0) (0, 0) (key-within found) (key-within found) c.text_order-order.result
+    (order-at_keys found) (sym c.is_ne.ensures ∙ c.if-is_ne.false)
 
 pub returns : goal.returns
 returns c =

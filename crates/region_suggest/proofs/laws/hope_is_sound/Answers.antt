@@ -22,19 +22,18 @@ returns c = λ attribute within flags closed.
     let open_start = λ (one : ℕ) (h : Contains attributes one) (is : IsCovered state one).
     open_end one h (IsCovered-end_of kit state run one c.requires.run is).0 in
     let wider = IsWider-start kit state more attributes c.requires.confirms open_start in
-    let ends = IsRun-wider kit valid attributes state more run wider c.requires.fits c.requires.confirmed_fits
-    c.requires.run open_end in
-    let rest = IsMaximalRun-exists kit valid more run c.requires.confirmed_fits ends.0 in
-    let fix = c.requires.certain.2 in
-    let alike = fix.unique (run ++ rest.0) rest.1 in
-    let into = IsInside-alike kit valid more c.requires.certain.0 (run ++ rest.0) c.requires.confirmed_fits
-    fix.is_first.holds.0 rest.1 alike in
-    let last : IsCovered (end_of kit (end_of kit more run) rest.0) attribute =
+    let (whole, wide_end, end_fits) = IsRun-wider kit valid attributes state more run wider c.requires.fits
+    c.requires.confirmed_fits c.requires.run open_end in
+    let (rest, maximal) = IsMaximalRun-exists kit valid more run c.requires.confirmed_fits whole in
+    let (first, dissent, fix) = c.requires.certain in
+    let alike = fix.unique (run ++ rest) maximal in
+    let into = IsInside-alike kit valid more first (run ++ rest) c.requires.confirmed_fits fix.is_first.holds.0 maximal
+    alike in
+    let last : IsCovered (end_of kit (end_of kit more run) rest) attribute =
     rw end_of-append at (into.covered attribute (fix.is_certain.0 refl attribute within)) in
-    covered-closed kit valid attributes (end_of kit state run) flags closed (end_of kit more run) rest.0 ends.2
-    ends.1.inside
-    (IsRun-behind kit more run rest.0 rest.1.0)
-    (λ one covered. elim (ends.1.only one covered) [
+    covered-closed kit valid attributes (end_of kit state run) flags closed (end_of kit more run) rest end_fits
+    wide_end.inside (IsRun-behind kit more run rest maximal.0)
+    (λ one covered. elim (wide_end.only one covered) [
       | inl before ↦ closed.covered one before
-      | inr listed ↦ closed.given_ones one (IsCovered-within kit (end_of kit more run) ends.2 one covered) listed
+      | inr listed ↦ closed.given_ones one (IsCovered-within kit (end_of kit more run) end_fits one covered) listed
     ]) attribute last

@@ -10,17 +10,43 @@ use Rattle.region_suggest.specs.Verdicts.{row_at}
 use Rattle.region_suggest.proofs.Pairs.{region-read, region-valid, IsMatch-here, IsMatch-values, IsMatchWithin-before}
 use Rattle.region_suggest.proofs.Pairs.{IsMatchWithin-lacks, IsMatchWithin-region, IsMatchWithin-row}
 use Rattle.region_suggest.proofs.Pairs.{IsMatchWithin-skip, ListsExactly-push, ListsExactly-same}
+use Rattle.region_suggest.proofs.offering.add_rows.Given.{Over}
 use Rattle.region_suggest.proofs.offering.add_rows.Goals as goal
-use Rattle.region_suggest.proofs.offering.add_rows.Goals.{then-has_values+in_ok-push, else-has_values}
+use Rattle.region_suggest.proofs.offering.add_rows.Goals.{After-as_slice-attributes, After-as_slice-texts, then-has_values+in_ok-push, else-has_values}
+
+-- the attributes of the region were read
+attributes-read : (g : Over) (c : After-as_slice-attributes g)
+    → c.as_slice-attributes.result.now ≡ (region_at c.args.regions.now c.args.place).attrs
+attributes-read g c = c.as_slice-attributes.ensures ∙ ap (λ (one : Region). one.attrs)
+    (region-read c.args.regions.now c.args.place c.index-regions-place.result c.requires.place c.index-regions-place.is)
+
+-- the loop is at a row of the region
+row-within : (g : Over) (c : After-as_slice-texts g)
+    → c.rows.row < length (region_at c.args.regions.now c.args.place).rows
+row-within g c = omega (
+  arith,
+  c.rows-test.true,
+  c.len-row-end.ensures,
+  ap (λ (one : Region). length one.rows) (region-read c.args.regions.now c.args.place c.index-regions-place.result
+      c.requires.place c.index-regions-place.is),
+)
+
+-- and its texts were read
+texts-read : (g : Over) (c : After-as_slice-texts g)
+    → c.as_slice-texts.result.now ≡ row_at (region_at c.args.regions.now c.args.place) c.rows.row
+texts-read g c =
+    let rows : c.as_slice.result.now ≡ (region_at c.args.regions.now c.args.place).rows =
+    c.as_slice.ensures ∙ ap (λ (one : Region). one.rows) (region-read c.args.regions.now c.args.place
+    c.index-regions-place.result c.requires.place c.index-regions-place.is) in
+    c.as_slice-texts.ensures ∙ get_or_read c.as_slice.result.now c.rows.row c.index-as_slice-row.result
+    (rw rows (row-within g c)) c.index-as_slice-row.is [] ∙ ap (λ some. get_or some c.rows.row []) rows
 
 pub returns-then-not-holds_confirmed-clause-behind : goal.returns-then-not-holds_confirmed-clause-behind
 returns-then-not-holds_confirmed-clause-behind g c = let kit = g.B.Book.kit c.args.book.now in
     let state = c.args.state.now in
     let regions = c.args.regions.now in
     let place : ℕ = c.args.place in
-    let region = region-read regions place c.index-regions-place.result c.requires.place c.index-regions-place.is in
-    let attributes : c.as_slice-attributes.result.now ≡ (region_at regions place).attrs =
-    c.as_slice-attributes.ensures ∙ ap (λ (one : Region). one.attrs) region in
+    let attributes = attributes-read g (goal.at.returns-then-not-holds_confirmed-clause-behind g c).After-as_slice-attributes in
     ListsExactly-same (IsMatchWithin kit state regions place 0) (IsMatchWithin kit state regions (place + 1) 0)
     c.args.found.now
     (IsMatchWithin-lacks kit state regions place (λ holds.
@@ -33,9 +59,7 @@ pub has_values-requires-clause-within : goal.has_values-requires-clause-within
 has_values-requires-clause-within g c = let kit = g.B.Book.kit c.args.book.now in
     let regions = c.args.regions.now in
     let place : ℕ = c.args.place in
-    let region = region-read regions place c.index-regions-place.result c.requires.place c.index-regions-place.is in
-    let attributes : c.as_slice-attributes.result.now ≡ (region_at regions place).attrs =
-    c.as_slice-attributes.ensures ∙ ap (λ (one : Region). one.attrs) region in
+    let attributes = attributes-read g (goal.at.has_values-requires-clause-within g c).After-as_slice-attributes in
     subst (λ (some : List ℕ). All (λ attribute. attribute < kit.width) some) (sym attributes)
     (region-valid kit regions place c.requires.regions c.requires.place).attributes.attributes_within
 
@@ -44,17 +68,9 @@ has_values-requires-clause-whole g c = let kit = g.B.Book.kit c.args.book.now in
     let regions = c.args.regions.now in
     let place : ℕ = c.args.place in
     let row : ℕ = c.rows.row in
-    let region = region-read regions place c.index-regions-place.result c.requires.place c.index-regions-place.is in
-    let attributes : c.as_slice-attributes.result.now ≡ (region_at regions place).attrs =
-    c.as_slice-attributes.ensures ∙ ap (λ (one : Region). one.attrs) region in
-    let rows : c.as_slice.result.now ≡ (region_at regions place).rows = c.as_slice.ensures
-    ∙ ap (λ (one : Region). one.rows) region in
-    let row_within : row < length (region_at regions place).rows =
-    omega (arith, c.rows-test.true, c.len-row-end.ensures, ap (λ (one : Region). length one.rows) region) in
-    let texts : c.as_slice-texts.result.now ≡ row_at (region_at regions place) row = c.as_slice-texts.ensures
-    ∙ get_or_read c.as_slice.result.now row c.index-as_slice-row.result (rw rows row_within) c.index-as_slice-row.is
-    []
-    ∙ ap (λ some. get_or some row []) rows in
+    let attributes = attributes-read g (goal.at.has_values-requires-clause-whole g c).After-as_slice-attributes in
+    let row_within = row-within g (goal.at.has_values-requires-clause-whole g c).After-as_slice-texts in
+    let texts = texts-read g (goal.at.has_values-requires-clause-whole g c).After-as_slice-texts in
     let whole : length (row_at (region_at regions place) row) ≡ length (region_at regions place).attrs =
     (region-valid kit regions place c.requires.regions c.requires.place).rows row [] row_within in
     ap length texts ∙ whole ∙ ap length (sym attributes)
@@ -65,17 +81,9 @@ rows-preserved g c = let kit = g.B.Book.kit c.args.book.now in
     let regions = c.args.regions.now in
     let place : ℕ = c.args.place in
     let row : ℕ = c.rows.row in
-    let region = region-read regions place c.index-regions-place.result c.requires.place c.index-regions-place.is in
-    let attributes : c.as_slice-attributes.result.now ≡ (region_at regions place).attrs =
-    c.as_slice-attributes.ensures ∙ ap (λ (one : Region). one.attrs) region in
-    let rows : c.as_slice.result.now ≡ (region_at regions place).rows = c.as_slice.ensures
-    ∙ ap (λ (one : Region). one.rows) region in
-    let row_within : row < length (region_at regions place).rows =
-    omega (arith, c.rows-test.true, c.len-row-end.ensures, ap (λ (one : Region). length one.rows) region) in
-    let texts : c.as_slice-texts.result.now ≡ row_at (region_at regions place) row = c.as_slice-texts.ensures
-    ∙ get_or_read c.as_slice.result.now row c.index-as_slice-row.result (rw rows row_within) c.index-as_slice-row.is
-    []
-    ∙ ap (λ some. get_or some row []) rows in
+    let attributes = attributes-read g (goal.at.rows-preserved g c).After-as_slice-attributes in
+    let row_within = row-within g (goal.at.rows-preserved g c).After-as_slice-texts in
+    let texts = texts-read g (goal.at.rows-preserved g c).After-as_slice-texts in
     let confirmed : HoldsConfirmed state (region_at regions place).attrs =
     rw attributes at (c.holds_confirmed.ensures.0 c.if-not-holds_confirmed.false) in
     elim c.if-has_values.branch [

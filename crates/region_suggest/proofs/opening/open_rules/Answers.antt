@@ -9,11 +9,12 @@ use Rattle.region_suggest.proofs.opening.open_rules.Goals as goal
 use Rattle.region_suggest.proofs.opening.open_rules.Goals.{then-is_open+in_ok-add, else-is_open}
 
 pub rules-init : goal.rules-init
-rules-init g c = let none : List ℕ = [] in
+rules-init g c =
+    let none : List ℕ = [] in
+    let (users, heads, counts) = c.in_ok-made.ensures in
     record {
       openings = AreOpenings-none (g.B.Book.kit c.args.book.now) c.args.state.now c.in_ok-made.made
-          (c.in_ok-made.ensures.0 ∙ ap (λ n. replicate n none) c.width.ensures.width) c.in_ok-made.ensures.1
-          c.in_ok-made.ensures.2;
+          (users ∙ ap (λ n. replicate n none) c.width.ensures.width) heads counts;
       looks = omega arith;
     }
 

@@ -1,4 +1,4 @@
-use Rattle.std.proofs.Common.{◌≤◌, ◌+◌, ◌*◌, ◌∙◌, ℕ, List, length, ap, inl, inr, sym, subst, get_or, arith}
+use Rattle.std.proofs.Common.{◌≤◌, ◌+◌, ◌∙◌, ℕ, List, length, ap, inl, inr, sym, subst, get_or, arith}
 use Rattle.std.specs.Prelude.{All, AllPairs, Contains}
 use Rattle.std.proofs.Math.Nat.{mul-le-mul_left}
 use Rattle.desk_base.specs.Counts.{Counts}
@@ -7,11 +7,28 @@ use Rattle.fix_model.proofs.LeftSides.{few_left_sides}
 use Rattle.region_suggest.specs.Gains.{AreGains}
 use Rattle.region_suggest.specs.Need.{IsNeed}
 use Rattle.region_suggest.specs.Offers.{IsCertain, IsMatch, IsOffer, IsOfferBefore, IsPlace, ListsExactly}
-use Rattle.region_suggest.specs.Verdicts.{row_count}
 use Rattle.region_suggest.proofs.Lists.{Contains-at}
 use Rattle.region_suggest.proofs.Pairs.{ListsExactly-same}
+use Rattle.region_suggest.proofs.suggesting.suggest.Given.{Over}
 use Rattle.region_suggest.proofs.suggesting.suggest.Goals as goal
-use Rattle.region_suggest.proofs.suggesting.suggest.Goals.{in-Conflict, in-Fix+in_ok-need-in-Fix}
+use Rattle.region_suggest.proofs.suggesting.suggest.Goals.{After-matching_rows, in-Conflict, in-Fix+in_ok-need-in-Fix}
+
+-- each rule was looked up at most once for the record itself
+looks-judged : (g : Over) (c : After-matching_rows g)
+    → c.match-judge.counts.looks ≤ c.args.counts.now.looks + length (g.B.Book.kit c.args.book.now).rules
+looks-judged g c =
+    let kit = g.B.Book.kit c.args.book.now in
+    elim c.match-judge.branch [
+      | in-Conflict w ↦ omega (
+        arith,
+        ap (λ (n : Counts). n.looks) w.counts-is,
+        c.judge.ensures.looks,
+        few_left_sides kit (end_of kit c.args.state.now c.judge.new.work.first),
+      )
+      | in-Fix+in_ok-need-in-Fix w ↦
+          let advised = rw (c.judge.ensures.state, w.first.ensures) at w.advice.ensures.looks in
+          omega (arith, ap (λ (n : Counts). n.looks) w.counts-is, c.judge.ensures.looks, advised)
+    ]
 
 pub certain_rows-requires-clause-places : goal.certain_rows-requires-clause-places
 certain_rows-requires-clause-places g c = let found = c.in_ok-found.found in
@@ -33,42 +50,16 @@ returns-in_err-need-in-Fix-clause-looks g c = let kit = g.B.Book.kit c.args.book
     omega (arith, c.judge.ensures.looks, advised)
 
 pub returns-in_err-found-clause-looks : goal.returns-in_err-found-clause-looks
-returns-in_err-found-clause-looks g c = let kit = g.B.Book.kit c.args.book.now in
-    let rules : ℕ = length kit.rules in
-    let counted : c.match-judge.counts.looks ≤ c.args.counts.now.looks + rules = elim c.match-judge.branch [
-      | in-Conflict w ↦ omega (
-        arith,
-        ap (λ (n : Counts). n.looks) w.counts-is,
-        c.judge.ensures.looks,
-        few_left_sides kit
-            (end_of kit c.args.state.now c.judge.new.work.first),
-      )
-      | in-Fix+in_ok-need-in-Fix w ↦
-          let advised = rw (c.judge.ensures.state, w.first.ensures) at w.advice.ensures.looks in
-          omega (arith, ap (λ (n : Counts). n.looks) w.counts-is, c.judge.ensures.looks, advised)
-    ] in
-    omega (arith, counted)
+returns-in_err-found-clause-looks g c =
+    omega (arith, looks-judged g (goal.at.returns-in_err-found-clause-looks g c).After-matching_rows)
 
 pub returns-in_err-offers-clause-looks : goal.returns-in_err-offers-clause-looks
-returns-in_err-offers-clause-looks g c = let kit = g.B.Book.kit c.args.book.now in
-    let rules : ℕ = length kit.rules in
-    let counted : c.match-judge.counts.looks ≤ c.args.counts.now.looks + rules = elim c.match-judge.branch [
-      | in-Conflict w ↦ omega (
-        arith,
-        ap (λ (n : Counts). n.looks) w.counts-is,
-        c.judge.ensures.looks,
-        few_left_sides
-            kit
-            (end_of kit c.args.state.now c.judge.new.work.first),
-      )
-      | in-Fix+in_ok-need-in-Fix w ↦
-          let advised = rw (c.judge.ensures.state, w.first.ensures) at w.advice.ensures.looks in
-          omega (arith, ap (λ (n : Counts). n.looks) w.counts-is, c.judge.ensures.looks, advised)
-    ] in
-    let few : rules * length c.in_ok-found.found ≤ rules * row_count c.args.regions.now =
-    mul-le-mul_left rules c.in_ok-found.ensures.few in
-    let rows = rw c.as_slice.ensures at c.certain_rows.ensures.looks in
-    omega (arith, counted, rows, few)
+returns-in_err-offers-clause-looks g c = omega (
+  arith,
+  looks-judged g (goal.at.returns-in_err-offers-clause-looks g c).After-matching_rows,
+  rw c.as_slice.ensures at c.certain_rows.ensures.looks,
+  mul-le-mul_left (length (g.B.Book.kit c.args.book.now).rules) c.in_ok-found.ensures.few,
+)
 
 pub returns-clause-suggestion : goal.returns-clause-suggestion
 returns-clause-suggestion g c = let kit = g.B.Book.kit c.args.book.now in
@@ -111,22 +102,9 @@ returns-clause-suggestion g c = let kit = g.B.Book.kit c.args.book.now in
     }
 
 pub returns-clause-looks : goal.returns-clause-looks
-returns-clause-looks g c = let kit = g.B.Book.kit c.args.book.now in
-    let rules : ℕ = length kit.rules in
-    let counted : c.match-judge.counts.looks ≤ c.args.counts.now.looks + rules = elim c.match-judge.branch [
-      | in-Conflict w ↦ omega (
-        arith,
-        ap (λ (n : Counts). n.looks) w.counts-is,
-        c.judge.ensures.looks,
-        few_left_sides
-            kit
-            (end_of kit c.args.state.now c.judge.new.work.first),
-      )
-      | in-Fix+in_ok-need-in-Fix w ↦
-          let advised = rw (c.judge.ensures.state, w.first.ensures) at w.advice.ensures.looks in
-          omega (arith, ap (λ (n : Counts). n.looks) w.counts-is, c.judge.ensures.looks, advised)
-    ] in
-    let few : rules * length c.in_ok-found.found ≤ rules * row_count c.args.regions.now =
-    mul-le-mul_left rules c.in_ok-found.ensures.few in
-    let rows = rw c.as_slice.ensures at c.certain_rows.ensures.looks in
-    omega (arith, counted, rows, few)
+returns-clause-looks g c = omega (
+  arith,
+  looks-judged g (goal.at.returns-clause-looks g c).After-matching_rows,
+  rw c.as_slice.ensures at c.certain_rows.ensures.looks,
+  mul-le-mul_left (length (g.B.Book.kit c.args.book.now).rules) c.in_ok-found.ensures.few,
+)

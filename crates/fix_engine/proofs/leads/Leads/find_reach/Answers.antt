@@ -5,7 +5,14 @@ use Rattle.fix_model.proofs.Counts.{length-filter-set}
 use Rattle.fix_engine.specs.Departures.{IsNextRule}
 use Rattle.fix_engine.specs.declared.leads.Lead.TheVariants.{Nothing}
 use Rattle.fix_engine.proofs.Reach.{IsClosed-none, IsReach-set, Supports-keeping}
+use Rattle.fix_engine.proofs.leads.Leads.find_reach.Given.{Over}
 use Rattle.fix_engine.proofs.leads.Leads.find_reach.Goals as goal
+use Rattle.fix_engine.proofs.leads.Leads.find_reach.Goals.{In-Some}
+
+-- the rule that was found goes on
+IsNextRule-found : (g : Over) (c : In-Some g) → IsNextRule (g.B.Book.kit c.args.book.now) c.args.self.now.leads.items
+    c.rules.reach.items c.args.left_out c.in-Some.rule
+IsNextRule-found g c = rw c.deref.ensures.value at c.in-Some.ensures.1
 
 -- one flag more is set
 pub rules-smaller : goal.rules-smaller
@@ -13,8 +20,7 @@ rules-smaller g c =
     let kit = g.B.Book.kit c.args.book.now in
     let flags = c.rules.reach.items in
     let rule = c.in-Some.rule in
-    let next : IsNextRule kit c.args.self.now.leads.items flags c.args.left_out rule =
-    rw c.deref.ensures.value at c.in-Some.ensures.1 in
+    let next = IsNextRule-found g (goal.at.rules-smaller g c).In-Some in
     let valid : IsValidRule kit (rule_at kit rule) = c.requires.valid.rules rule _ c.in-Some.ensures.0 in
     let within : (rule_at kit rule).head < length flags = rw c.rules.invariant.whole valid.head in
     let clear : not (get_or flags (rule_at kit rule).head false) ≡ true =
@@ -32,8 +38,7 @@ rules-preserved g c =
     let kit = g.B.Book.kit c.args.book.now in
     let flags = c.rules.reach.items in
     let rule = c.in-Some.rule in
-    let next : IsNextRule kit c.args.self.now.leads.items flags c.args.left_out rule =
-    rw c.deref.ensures.value at c.in-Some.ensures.1 in
+    let next = IsNextRule-found g (goal.at.rules-preserved g c).In-Some in
     rw (c.from.ensures, c.head_of-head.ensures) (record {
       whole = length-set flags (rule_at kit rule).head true ∙ c.rules.invariant.whole;
       room = c.rules.invariant.room;

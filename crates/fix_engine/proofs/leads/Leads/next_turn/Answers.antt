@@ -11,10 +11,10 @@ rules-preserved g c = λ end led departures.
 pub returns-in-Some : goal.returns-in-Some
 returns-in-Some g c = λ end led departures.
     let kit = g.B.Book.kit c.args.book.now in
-    let turn = c.in-Some.ensures end led departures in (
-      turn.0,
+    let (is_turn, its, least) = c.in-Some.ensures end led departures in (
+      is_turn,
       IsLeastOfAll-passed kit c.rules-2.ensures.valid end c.args.self.now.leads.items c.args.state.now c.requires
-          led c.rules.rule c.in-Some.turn.step turn.1 (c.rules.invariant end led departures) turn.2,
+          led c.rules.rule c.in-Some.turn.step its (c.rules.invariant end led departures) least,
     )
 
 pub returns : goal.returns

@@ -5,43 +5,44 @@ use Rattle.fix_model.specs.States.{value_at}
 use Rattle.fix_model.proofs.SharedLooks.{IsFound-shared}
 use Rattle.fix_engine.specs.declared.looks.Remembered.TheVariants.{Done, Pending}
 use Rattle.fix_engine.proofs.Known.{LooksAround-new}
+use Rattle.fix_engine.proofs.looks.Looks.look_up.Given.{Over}
 use Rattle.fix_engine.proofs.looks.Looks.look_up.Goals as goal
+use Rattle.fix_engine.proofs.looks.Looks.look_up.Goals.{After-from-place}
+
+-- what is remembered for the earlier rule has a place
+place-within : (g : Over) (c : After-from-place g) → c.from-place.result < length c.args.self.now.remembered.items
+place-within g c = rw (c.from-place.ensures, c.requires.knows.known.whole)
+    (omega (arith, c.earliest.ensures.up_to, c.requires.rule_within))
 
 -- what is remembered for the earlier rule is found for this one
 pub returns-in-Done-clause-found : goal.returns-in-Done-clause-found
 returns-in-Done-clause-found g c =
     let kit = g.B.Book.kit c.args.book.now in
-    let known = c.requires.knows.known in
-    let place_is = c.from-place.ensures in
     let shares = c.earliest.ensures in
-    let within : c.from-place.result < length c.args.self.now.remembered.items =
-    rw (place_is, known.whole) (omega (arith, shares.up_to, c.requires.rule_within)) in
+    let within = place-within g (goal.at.returns-in-Done-clause-found g c).After-from-place in
     let items = c.args.self.now.remembered.items in
     let held : get_or items c.from-place.result c.index.result.now ≡ Done c.in-Done.answer =
     search (rules, c.index.ensures, c.in-Done.is) in
-    let there = known.known c.from-place.result c.in-Done.answer within
+    let there = c.requires.knows.known.known c.from-place.result c.in-Done.answer within
     (get_or_default items c.from-place.result Pending c.index.result.now within ∙ held) in
     IsFound-shared kit (value_at kit c.args.state.now) (rule_at kit c.args.rule) (rule_at kit c.earliest.result)
-    shares.keys shares.master shares.from c.in-Done.answer (rw place_is at there.found)
+    shares.keys shares.master shares.from c.in-Done.answer (rw c.from-place.ensures at there.found)
 
 -- the look is made, and remembered beside the others
 pub returns-in-Pending-clause-looks : goal.returns-in-Pending-clause-looks
 returns-in-Pending-clause-looks g c =
     let kit = g.B.Book.kit c.args.book.now in
-    let known = c.requires.knows.known in
-    let place_is = c.from-place.ensures in
     let shares = c.earliest.ensures in
-    let within : c.from-place.result < length c.args.self.now.remembered.items =
-    rw (place_is, known.whole) (omega (arith, shares.up_to, c.requires.rule_within)) in
+    let within = place-within g (goal.at.returns-in-Pending-clause-looks g c).After-from-place in
     let rule = rule_at kit c.args.rule in
     let earlier = rule_at kit c.earliest.result in
     LooksAround-new kit c.args.state.now c.args.self.now _ c.args.counts.now c.find-answer.new.counts
     c.from-place.result c.find-answer.result c.index.result.now
     within (search (rules, c.index.ensures, c.in-Pending.is))
-    (rw place_is (record {
+    (rw c.from-place.ensures (record {
       covered = rw (← shares.keys) c.requires.covered;
       conds = rw (← shares.conds) c.requires.conds;
       found = IsFound-shared kit (value_at kit c.args.state.now) earlier rule (sym shares.keys) (sym shares.master)
           (sym shares.from) c.find-answer.result c.find-answer.ensures.found;
     }))
-    known (search rules) (search rules) (omega (arith, c.find-answer.ensures.looks))
+    c.requires.knows.known (search rules) (search rules) (omega (arith, c.find-answer.ensures.looks))

@@ -1,8 +1,7 @@
-use Rattle.std.proofs.Common.{◌≡◌, ◌∙◌, ◌++◌, ap, length, arith}
+use Rattle.std.proofs.Common.{◌∙◌, ◌++◌, ap, length, arith}
 use Rattle.fix_model.proofs.Counts.{uncovered_count-le}
-use Rattle.fix_engine.specs.Looks.{pending_count}
 use Rattle.fix_engine.proofs.FirstRuns.{IsBegun-completed}
-use Rattle.fix_engine.proofs.Known.{pending_count-replicate}
+use Rattle.fix_engine.proofs.Known.{pending_count-forgotten}
 use Rattle.fix_engine.proofs.runs.Runs.begin.Goals as goal
 
 pub complete-requires-clause-room : goal.complete-requires-clause-room
@@ -20,8 +19,6 @@ returns-clause-begun g c =
 
 pub returns-clause-looks : goal.returns-clause-looks
 returns-clause-looks g c =
-    let all : pending_count c.forget.new.self.remembered.items ≡ length (g.B.Book.kit c.args.book.now).rules =
-    ap pending_count c.forget.ensures.forgotten
-    ∙ pending_count-replicate (length c.rules.result.now)
-    ∙ ap length c.rules.ensures.rules in
+    let all = pending_count-forgotten c.forget.new.self.remembered.items c.rules.result.now
+    (g.B.Book.kit c.args.book.now) c.forget.ensures.forgotten c.rules.ensures.rules in
     omega (arith, all, c.complete.ensures.looks.looks)

@@ -2,9 +2,8 @@ use Rattle.std.proofs.Common.{◌≡◌, ◌∙◌, ap, length, refl, sym, arith
 use Rattle.fix_model.specs.declared.state.State.{State}
 use Rattle.fix_model.proofs.Counts.{uncovered_count-le}
 use Rattle.fix_model.proofs.Runs.{typed-end_of}
-use Rattle.fix_engine.specs.Looks.{pending_count}
 use Rattle.fix_engine.proofs.FirstRuns.{typed-completed}
-use Rattle.fix_engine.proofs.Known.{pending_count-replicate}
+use Rattle.fix_engine.proofs.Known.{pending_count-forgotten}
 use Rattle.fix_engine.proofs.Verdicts.{IsConflict-begun, IsLeftFrom-begun}
 use Rattle.fix_engine.proofs.search.Search.run_elsewhere.Goals as goal
 
@@ -54,8 +53,6 @@ returns-clause-state g c =
 
 pub returns-clause-looks : goal.returns-clause-looks
 returns-clause-looks g c =
-    let all : pending_count c.forget.new.self.remembered.items ≡ length (g.B.Book.kit c.args.book.now).rules =
-    ap pending_count c.forget.ensures.forgotten
-    ∙ pending_count-replicate (length c.rules.result.now)
-    ∙ ap length c.rules.ensures.rules in
+    let all = pending_count-forgotten c.forget.new.self.remembered.items c.rules.result.now
+    (g.B.Book.kit c.args.book.now) c.forget.ensures.forgotten c.rules.ensures.rules in
     omega (arith, all, c.complete.ensures.looks.looks)
