@@ -33,7 +33,8 @@ abbrev pub source_seen_code : Coded SourceSeen
 source_seen_code = code_by (List ℕ × (ℕ × (Schedule × ℕ)))
     (coded× (coded_list coded_ℕ) (coded× coded_ℕ (coded× schedule_code coded_ℕ)))
     (λ s. (s.left, (s.cut, (s.schedule, s.faults))))
-    (λ (left, (cut, (schedule, faults))). record { left = left; cut = cut; schedule = schedule; faults = faults }) (λ _. refl)
+    (λ (left, (cut, (schedule, faults))). record { left = left; cut = cut; schedule = schedule; faults = faults })
+    (λ _. refl)
 
 -- the bytes that a sink holds, how many a call takes at most, and how many it holds at most
 pub record SinkSeen : Type 0 where

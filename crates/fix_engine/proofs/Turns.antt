@@ -92,8 +92,8 @@ module _ (kit : Kit) (valid : IsValid kit) (end : State) (leads : List Lead) (st
   -- ---- one rule
 
   -- the row by which a maximal run begins agrees at the end
-  agrees_at_end : (place : ℕ) (step : Step) (rest : List Step) → step.rule ≡ place → IsMaximalRun kit state (step ∷ rest)
-      → RowAgrees kit (value_at kit end) (rule_at kit place) step.row
+  agrees_at_end : (place : ℕ) (step : Step) (rest : List Step) → step.rule ≡ place
+      → IsMaximalRun kit state (step ∷ rest) → RowAgrees kit (value_at kit end) (rule_at kit place) step.row
   agrees_at_end place step rest is ((fires, whole), final) =
       subst (λ (p : ℕ). RowAgrees kit (value_at kit end) (rule_at kit p) step.row) is
       (RowAgrees-inside kit state end led.inside (rule_at kit step.rule) step.row fires.enabled.keys fires.agrees)

@@ -79,15 +79,13 @@ module _ (kit : Kit) (state narrow : State) (steps : List Step) (uses : List ℕ
       -- and it has the same value there
       used-value : (attribute : ℕ) → Contains uses attribute
           → value_at kit narrow attribute ≡ value_at kit state attribute
-      used-value attribute listed =
-          let place : ℕ = listed.0 in
+      used-value attribute (place, within, stands) =
           let same = ap (λ (texts : List (List ℕ)). get_or texts place []) confirms.texts_there in
-          let at : get_or uses place attribute ≡ attribute = listed.2 in
-          let one = get_or-map (value_at kit narrow) uses place attribute [] listed.1 in
-          let other = get_or-map (value_at kit state) uses place attribute [] listed.1 in
+          let one = get_or-map (value_at kit narrow) uses place attribute [] within in
+          let other = get_or-map (value_at kit state) uses place attribute [] within in
           let joined : value_at kit narrow (get_or uses place attribute)
           ≡ value_at kit state (get_or uses place attribute) = sym one ∙ same ∙ other in
-          rw at at joined
+          rw stands at joined
 
       -- so the state with the uses alone narrows the other, and keeps what the steps want
       pub Narrows-uses : (target : ℕ) → ((attribute : ℕ) → ¬ IsFixed state attribute) → ¬ IsCovered state target
@@ -153,14 +151,7 @@ module _ (kit : Kit) (valid : IsValid kit) (state : State) (run : List Step) (ta
 
       module _ (uses : List ℕ) (are_uses : AreUses kit state reason uses) where
         module _ (confirms : ConfirmsExactly kit uses (map (value_at kit state) uses) narrow) where
-          narrows_uses : Narrows kit (IsWanted kit target reason) state narrow
-          narrows_uses = Narrows-uses kit state narrow reason uses are_uses confirms target unfixed
+          -- the state in which its uses alone are confirmed is narrower, and keeps what it wants
+          pub Narrows-wanted : Narrows kit (IsWanted kit target reason) state narrow
+          Narrows-wanted = Narrows-uses kit state narrow reason uses are_uses confirms target unfixed
               (uncovered-before is.fixes)
-
-          -- so it does from the state in which its uses alone are confirmed
-          pub Fixes-uses : Fixes kit narrow target reason
-          Fixes-uses = Fixes-narrow narrows_uses
-
-          pub value_at-uses : IsRun kit state run
-              → value_at kit (end_of kit narrow reason) target ≡ value_at kit (end_of kit state run) target
-          value_at-uses whole = value_at-narrow narrows_uses whole

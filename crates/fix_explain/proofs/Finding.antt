@@ -1,6 +1,7 @@
 -- A run that fixes an attribute has a reason for it.
 use Rattle.std.proofs.Common.{◌≡◌, ◌⊎◌, ℕ, List, [], ◌∷◌, inl, inr, refl}
 use Rattle.std.proofs.lemmas.Bool.{cases_eq}
+use Rattle.fix_model.proofs.Deciding.{decide_any}
 use Rattle.fix_model.specs.declared.kit.Kit.{Kit}
 use Rattle.fix_model.specs.declared.pattern.Pat.{Pat}
 use Rattle.fix_model.specs.declared.rule.Rule.{Rule}
@@ -17,7 +18,7 @@ use Rattle.fix_explain.specs.Reasons.{IsFixed, IsReason}
 use Rattle.fix_explain.specs.Uses.{Reads}
 use Rattle.fix_explain.proofs.Marking.{IsMarked, IsMarked-marked, IsMarked-nil, IsMarked-passed}
 use Rattle.fix_explain.proofs.Shortest.{IsReason-marked}
-use Rattle.fix_explain.proofs.Elements.{Any-cases, Any-first, Any-later, Any-nil, decide_any}
+use Rattle.fix_explain.proofs.Elements.{Any-cases, Any-first, Any-later, Any-nil}
 
 -- whether a rule reads an attribute is decided
 decide_reads : (rule : Rule) (attribute : ℕ) → Reads rule attribute ⊎ ¬ Reads rule attribute

@@ -46,8 +46,8 @@ pub IsStepIn-split : (step : Step) (steps : List Step) → IsStepIn step steps
 IsStepIn-split step [] there = absurd there
 IsStepIn-split step (first ∷ steps) (inl same) = ([], steps, rw same refl)
 IsStepIn-split step (first ∷ steps) (inr later) =
-    let parts = IsStepIn-split step steps later in
-    (first ∷ parts.0, parts.1, ap (λ (l : List Step). first ∷ l) parts.2)
+    let (front, rest, is) = IsStepIn-split step steps later in
+    (first ∷ front, rest, ap (λ (l : List Step). first ∷ l) is)
 
 -- and it is the last of those up to it
 pub IsStepIn-last : (step : Step) (front : List Step) → IsStepIn step (front ++ step ∷ [])
@@ -140,27 +140,28 @@ module _ (kit : Kit) (valid : IsValid kit) where
     pub cell_at-reason : (reason : List Step) → ¬ IsFixed state attribute → IsReason kit state run attribute reason
         → cell_at (end_of kit state reason) attribute ≡ cell_at (end_of kit state run) attribute
     cell_at-reason reason unfixed is =
-        let made = cell_at-part reason unfixed is.part is.fixes.run is.fixes.fixed in
-        made.4 ∙ sym made.3
+        let (step, there, heads, whole_cell, cell) =
+        cell_at-part reason unfixed is.part is.fixes.run is.fixes.fixed in
+        cell ∙ sym whole_cell
 
     -- and ends in the step that does so
     pub reason-last : (reason : List Step) (step : Step) → ¬ IsFixed state attribute
         → IsReason kit state run attribute reason → cell_at (end_of kit state run) attribute ≡ Fixed step
         → (front : List Step) × (reason ≡ front ++ step ∷ [])
     reason-last reason step unfixed is there =
-        let made = cell_at-part reason unfixed is.part is.fixes.run is.fixes.fixed in
-        let fixed_alike : Fixed made.0 ≡ Fixed step = sym made.3 ∙ there in
-        let one : made.0 ≡ step = cc in
-        let parts = IsStepIn-split made.0 reason made.1 in
-        let short : List Step = parts.0 ++ made.0 ∷ [] in
-        let joined : short ++ parts.1 ≡ reason = append_assoc parts.0 (made.0 ∷ []) parts.1 ∙ sym parts.2 in
-        let sub : IsSubList short reason = rw joined at (IsSubList-front short parts.1) in
-        let short_run : IsRun kit state short =
-        IsRun-front kit state short parts.1 (rw joined is.fixes.run) in
-        let fixed : IsFixed (end_of kit state short) attribute = IsFixed-from (end_of kit state short) attribute made.0
-        (rw made.2 at (cell_at-step state short made.0 fits short_run (IsStepIn-last made.0 parts.0))) in
+        let (made, among, heads, whole_cell, cell) =
+        cell_at-part reason unfixed is.part is.fixes.run is.fixes.fixed in
+        let fixed_alike : Fixed made ≡ Fixed step = sym whole_cell ∙ there in
+        let one : made ≡ step = cc in
+        let (front, rest, split) = IsStepIn-split made reason among in
+        let short : List Step = front ++ made ∷ [] in
+        let joined : short ++ rest ≡ reason = append_assoc front (made ∷ []) rest ∙ sym split in
+        let sub : IsSubList short reason = rw joined at (IsSubList-front short rest) in
+        let short_run : IsRun kit state short = IsRun-front kit state short rest (rw joined is.fixes.run) in
+        let fixed : IsFixed (end_of kit state short) attribute = IsFixed-from (end_of kit state short) attribute made
+        (rw heads at (cell_at-step state short made fits short_run (IsStepIn-last made front))) in
         elim (is.shortest short (IsSubList-trans short reason run sub is.part)
         (record { run = short_run; fixed = fixed })) [
-          | inl same ↦ (parts.0, same ∙ ap (λ (last : Step). parts.0 ++ last ∷ []) one)
-          | inr less ↦ absurd (omega (arith, less, ap length joined, length-append short parts.1))
+          | inl same ↦ (front, same ∙ ap (λ (last : Step). front ++ last ∷ []) one)
+          | inr less ↦ absurd (omega (arith, less, ap length joined, length-append short rest))
         ]

@@ -84,12 +84,12 @@ module _ (kit : Kit) (state : State) (step : Step) (fires : Fires kit state step
 
   -- what its rule reads is covered
   pub Reads-covered : (attribute : ℕ) → Reads (rule_at kit step.rule) attribute → IsCovered state attribute
-  Reads-covered attribute (inl read) =
-      subst (λ one. IsCovered state one) read.4
-      (subst (λ (key : ℕ × ℕ). IsCovered state key.0) read.3 (fires.enabled.keys read.0 read.1 read.2))
-  Reads-covered attribute (inr read) =
-      subst (λ one. IsCovered state one) read.4
-      (subst (λ (cond : ℕ × Pat). IsCovered state cond.0) read.3 (fires.enabled.conds read.0 read.1 read.2))
+  Reads-covered attribute (inl (place, key, within, stands, is)) =
+      subst (λ one. IsCovered state one) is
+      (subst (λ (key : ℕ × ℕ). IsCovered state key.0) stands (fires.enabled.keys place key within))
+  Reads-covered attribute (inr (place, cond, within, stands, is)) =
+      subst (λ one. IsCovered state one) is
+      (subst (λ (cond : ℕ × Pat). IsCovered state cond.0) stands (fires.enabled.conds place cond within))
 
   -- what is inside a state is inside what a step leaves of it
   pub IsInside-passed : (narrow : State) → IsInside kit narrow state → IsInside kit narrow (after kit state step)

@@ -167,7 +167,8 @@ module _ (kit : Kit) (state : State) where
   decide_fires step =
       let rule = rule_at kit step.rule in
       elim (both (decide_less step.rule (length kit.rules)) (both (decide_enabled rule)
-      (both (opposite (decide_test (is_covering (cell_at state rule.head)))) (decide_agrees rule rule.keys step.row)))) [
+      (both (opposite (decide_test (is_covering (cell_at state rule.head))))
+      (decide_agrees rule rule.keys step.row)))) [
         | inl (within, (enabled, (uncovered, agrees))) ↦
             inl (record { rule_within = within; enabled = enabled; uncovered = uncovered; agrees = agrees })
         | inr none ↦ inr (λ f. none (f.rule_within, (f.enabled, (f.uncovered, f.agrees))))

@@ -19,7 +19,8 @@ IsRunBefore-cons : (kit : Kit) (state : State) (step : Step) (rest : List Step) 
     → IsFirstRun kit (after kit state step) rest → (other : List Step) → IsMaximalRun kit state other
     → ((step ∷ rest) ≡ other) ⊎ IsRunBefore (step ∷ rest) other
 IsRunBefore-cons kit state step rest least first [] maximal = absurd (maximal.1 step least.holds)
-IsRunBefore-cons kit state step rest least first (next ∷ others) ((fires, whole), final) = elim (least.least next fires) [
+IsRunBefore-cons kit state step rest least first (next ∷ others) ((fires, whole), final) =
+    elim (least.least next fires) [
   | inr before ↦ inr (inl before)
   | inl same ↦
       let there : IsMaximalRun kit (after kit state step) others = subst (λ (x : Step). IsMaximalRun kit

@@ -21,7 +21,8 @@ pub record Aim : Type 0 where
 -- it is stored as its fields
 abbrev pub aim_code : Coded Aim
 aim_code = code_by (ℕ × (List ℕ × Bool)) (coded× coded_ℕ (coded× (coded_list coded_ℕ) coded_bool))
-    (λ a. (a.column, (a.text, a.folded))) (λ (column, (text, folded)). record { column = column; text = text; folded = folded }) (λ _. refl)
+    (λ a. (a.column, (a.text, a.folded)))
+    (λ (column, (text, folded)). record { column = column; text = text; folded = folded }) (λ _. refl)
 
 -- what a stored text is seen as
 abbrev pub aim_of : SoughtText → Aim

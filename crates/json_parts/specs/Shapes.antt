@@ -1,5 +1,5 @@
 -- The shapes of the JSON values that are printed.
-use Rattle.std.specs.Prelude.{ℕ, List, [], ◌∷◌, ◌++◌}
+use Rattle.std.specs.Prelude.{ℕ, List, [], ◌∷◌}
 use Rattle.serde_json.specs.Data.{Data, Members, member, no_members, array, number, object, unsigned}
 use Rattle.serde_json.specs.View.{items_of}
 pub use Rattle.desk_base.specs.Texts.{line}

@@ -3,7 +3,6 @@ use Rattle.std.proofs.Common.{◌≡◌, ◌<◌, ◌≤◌, ◌+◌, ◌∙◌,
 use Rattle.std.proofs.Common.{get_or, filter, inl, inr, sym, ap, subst, arith}
 use Rattle.std.specs.Prelude.{AllPairs}
 use Rattle.std.specs.List.{Contains, range_with_len}
-use Rattle.std.specs.List.Sorted.{IsStrictlyIncreasing}
 use Rattle.std.proofs.Math.Nat.{eq-or-lt_of_le}
 use Rattle.std.proofs.lemmas.Bool.{cases_Bool, cond-true, cond-false}
 use Rattle.std.proofs.lemmas.List.{get_or_default}
@@ -21,10 +20,10 @@ Contains-filter test (first ∷ items) zero item within is passes =
     let here : test first ≡ true = ap test is ∙ passes in
     rw here (0, omega arith, is)
 Contains-filter test (first ∷ items) (suc k) item within is passes =
-    let rest = Contains-filter test items k item (omega arith) is passes in
+    let (place, inside, stands) = Contains-filter test items k item (omega arith) is passes in
     elim (cases_Bool (test first)) [
-      | inl here ↦ rw here (suc rest.0, omega (arith, rest.1), rest.2)
-      | inr fails ↦ rw fails rest
+      | inl here ↦ rw here (suc place, omega (arith, inside), stands)
+      | inr fails ↦ rw fails (place, inside, stands)
     ]
 
 module _ (test : ℕ → Bool) (count : ℕ) where
@@ -58,9 +57,9 @@ module _ (P : ℕ → Type 0) (rows : List ℕ) (complete : (row : ℕ) → P ro
   pub all_from_listed : (Q : ℕ → Type 0) → ((k : ℕ) → k < length rows → P (get_or rows k 0) → Q (get_or rows k 0))
       → (row : ℕ) → P row → Q row
   all_from_listed Q all row has =
-      let place = complete row has in
-      let here : get_or rows place.0 0 ≡ row = get_or_default rows place.0 0 row place.1 ∙ place.2 in
-      subst Q here (all place.0 place.1 (subst P (sym here) has))
+      let (place, within, stands) = complete row has in
+      let here : get_or rows place 0 ≡ row = get_or_default rows place 0 row within ∙ stands in
+      subst Q here (all place within (subst P (sym here) has))
 
   -- where no row of the list has the property, none has
   pub none_from_listed : ((k : ℕ) → k < length rows → ¬ P (get_or rows k 0)) → (row : ℕ) → ¬ P row

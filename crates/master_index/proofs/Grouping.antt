@@ -1,7 +1,7 @@
 -- Entries of rows in the order of their keys, one row more at a time.
 use Rattle.std.proofs.Common.{◌≡◌, ◌≢◌, ◌⊎◌, inl, inr, ◌<◌, ◌≤◌, ◌+◌, ◌-◌, ◌∙◌, ◌++◌, ℕ, false, List, [], ◌∷◌, length}
 use Rattle.std.proofs.Common.{get_or, set, Some, None, ap, sym, refl, subst, arith, length-append, length-set}
-use Rattle.std.specs.Prelude.{Option, Any}
+use Rattle.std.specs.Prelude.{Option}
 use Rattle.std.specs.Cmp.{IsStrictWeakOrder, IsTotalOrder, ranked}
 use Rattle.std.specs.List.Sorted.{IsSorted}
 use Rattle.std.proofs.lemmas.List.MinMax.{ranks_by}
@@ -75,10 +75,10 @@ module _ (key : ℕ → List (List ℕ)) where
   -- in rows that are sorted none is before one that stands before it
   pub not_before-sorted : (rows : List ℕ) → IsSorted (row_order key) rows → (count : ℕ) → count < length rows
       → (other : ℕ) → StandsBefore rows count other → is_lt (row_order key (get_or rows count 0) other) ≡ false
-  not_before-sorted rows sorted count within other is =
-      let far = sorted_far (λ (one other : ℕ). is_lt (row_order key one other)) row_order-ranks rows sorted is.0 count
-      0 (omega (arith, is.1)) within in
-      rw is.2 at far
+  not_before-sorted rows sorted count within other (place, before, stands) =
+      let far = sorted_far (λ (one other : ℕ). is_lt (row_order key one other)) row_order-ranks rows sorted place count
+      0 (omega (arith, before)) within in
+      rw stands at far
 
   -- such a row of the same key has a smaller number
   pub behind-not_before : (row other : ℕ) → is_lt (row_order key row other) ≡ false → key other ≡ key row → other ≤ row
@@ -143,11 +143,11 @@ module _ (P : ℕ → Type 0) (row : ℕ) (behind : (other : ℕ) → P other �
     -- so what there is to find is the grown entry
     pub IsHitOf-grown : (entry grown : Hit) → IsHitOf text P entry → IsGrown text entry row grown
         → IsHitOf text OneMore grown
-    IsHitOf-grown entry grown is (inl kept) = subst (IsHitOf text OneMore) (sym kept.0)
-        (IsHitOf-kept entry.first entry.other is kept.1)
-    IsHitOf-grown entry grown is (inr found) = subst (IsHitOf text OneMore) (sym found.0)
+    IsHitOf-grown entry grown is (inl (same, kept)) = subst (IsHitOf text OneMore) (sym same)
+        (IsHitOf-kept entry.first entry.other is kept)
+    IsHitOf-grown entry grown is (inr (same, none, differs)) = subst (IsHitOf text OneMore) (sym same)
         (IsHitOf-found entry.first (subst (λ other. IsHitOf text P (record { first = entry.first; other = other }))
-        found.1 is) found.2)
+        none is) differs)
 
 -- a grown entry has the first row of the entry
 pub IsGrown-first : (text : ℕ → List ℕ) (entry : Hit) (row : ℕ) (grown : Hit) → IsGrown text entry row grown
@@ -161,25 +161,25 @@ module _ (key : ℕ → List (List ℕ)) (text : ℕ → List ℕ) (rows : List 
   abbrev row : ℕ
   row = get_or rows count 0
 
+  -- a row that stands among the first and this one is this one or one of the first
+  stands : (other : ℕ) → StandsBefore rows (count + 1) other → StandsBefore rows count other ⊎ (other ≡ row)
+  stands other (place, below, is) = elim (eq-or-lt_of_le (let up_to : place ≤ count = omega (arith, below) in up_to)) [
+    | inl here ↦ inr (sym is ∙ ap (λ (place : ℕ). get_or rows place 0) here)
+    | inr before ↦ inl (place, before, is)
+  ]
+
   -- what there is to find at another key does not change by it
   each-unchanged : (entry : Hit) → key entry.first ≢ key row → IsEntryOf key text (StandsBefore rows count) entry
       → IsEntryOf key text (StandsBefore rows (count + 1)) entry
   each-unchanged entry differs is = IsHitOf-iff (λ (other : ℕ). StandsBefore rows count other ×
       (key other ≡ key entry.first)) (λ (other : ℕ). StandsBefore rows (count + 1) other ×
       (key other ≡ key entry.first))
-      (λ other has. ((has.0.0, omega (arith, has.0.1), has.0.2), has.1))
-      (λ other has. elim (eq-or-lt_of_le (let up_to : has.0.0 ≤ count = omega (arith, has.0.1) in up_to)) [
-        | inl here ↦ absurd (differs (sym has.1 ∙ ap key (sym has.0.2 ∙ ap (λ (place : ℕ). get_or rows place 0) here)))
-        | inr before ↦ ((has.0.0, before, has.0.2), has.1)
+      (λ other ((place, before, is), same). ((place, omega (arith, before), is), same))
+      (λ other (there, same). elim (stands other there) [
+        | inl before ↦ (before, same)
+        | inr here ↦ absurd (differs (sym same ∙ ap key here))
       ])
       text entry is
-
-  -- a row that stands among the first and this one is this one or one of the first
-  stands : (other : ℕ) → StandsBefore rows (count + 1) other → StandsBefore rows count other ⊎ (other ≡ row)
-  stands other is = elim (eq-or-lt_of_le (let up_to : is.0 ≤ count = omega (arith, is.1) in up_to)) [
-    | inl here ↦ inr (sym is.2 ∙ ap (λ (place : ℕ). get_or rows place 0) here)
-    | inr before ↦ inl (is.0, before, is.2)
-  ]
 
   -- a row whose key is that of the last entry makes that entry grow
   module _ (behind : (other : ℕ) → StandsBefore rows count other → key other ≡ key row → other ≤ row) (d : Hit)
@@ -215,7 +215,7 @@ module _ (key : ℕ → List (List ℕ)) (text : ℕ → List ℕ) (rows : List 
           IsHitOf-iff (OneMore P row after) (λ (other : ℕ). StandsBefore rows (count + 1) other ×
           (key other ≡ key grown.first))
           (λ other has. elim has [
-            | inl before ↦ ((before.0.0, omega (arith, before.0.1), before.0.2), before.1 ∙ sym keys)
+            | inl ((place, before, is), its) ↦ ((place, omega (arith, before), is), its ∙ sym keys)
             | inr here ↦ ((count, omega arith, sym here), ap key here ∙ sym same ∙ sym keys)
           ])
           (λ other has. elim (stands other has.0) [
@@ -247,12 +247,10 @@ module _ (key : ℕ → List (List ℕ)) (text : ℕ → List ℕ) (rows : List 
                 rw (firsts i e (omega arith), firsts j e inside) (are.ascending i j e below inside);
             whole = λ other is. elim (stands other is) [
               | inl before ↦
-                  let found = are.whole other before in
-                  let inside : found.0 < length entries = found.2 in
-                  Any-at (λ (hit : Hit). key hit.first ≡ key other) changed found.0 d (omega (arith, size))
-                  (ap key (firsts found.0 d inside)
-                  ∙ ap (λ (hit : Hit). key hit.first) (get_or_default entries found.0 d found.1 inside ∙ found.3)
-                  ∙ found.4)
+                  let (k, hit, inside, stands, its) = are.whole other before in
+                  Any-at (λ (hit : Hit). key hit.first ≡ key other) changed k d (omega (arith, size, inside))
+                  (ap key (firsts k d inside)
+                  ∙ ap (λ (hit : Hit). key hit.first) (get_or_default entries k d hit inside ∙ stands) ∙ its)
               | inr here ↦
                   Any-at (λ (hit : Hit). key hit.first ≡ key other) changed (length entries - 1) d (omega (arith, size))
                   (ap key (firsts (length entries - 1) d (omega arith)) ∙ same ∙ ap key (sym here))
@@ -305,10 +303,8 @@ module _ (key : ℕ → List (List ℕ)) (text : ℕ → List ℕ) (rows : List 
     -- no row before it has its key
     none-before : (other : ℕ) → StandsBefore rows count other → key other ≢ key row
     none-before other before same =
-        let found = are.whole other before in
-        let there = get_or_default entries found.0 found.1 found.1 found.2 in
-        key_order-irreflexive _ _ (ahead found.0 found.1 found.2)
-        (ap (λ (hit : Hit). key hit.first) found.3 ∙ found.4 ∙ same)
+        let (k, hit, within, stands, its) = are.whole other before in
+        key_order-irreflexive _ _ (ahead k hit within) (ap (λ (hit : Hit). key hit.first) stands ∙ its ∙ same)
 
     -- its entry is what there is to find at its key
     own-is : IsEntryOf key text (StandsBefore rows (count + 1)) own
@@ -351,14 +347,8 @@ module _ (key : ℕ → List (List ℕ)) (text : ℕ → List ℕ) (rows : List 
               ];
           whole = λ other is. elim (stands other is) [
             | inl before ↦
-                let found = are.whole other before in (
-                  found.0,
-                  found.1,
-                  omega (arith, size, found.2),
-                  get_or_append_left entries (own ∷ []) found.1 found.0
-                      found.2 ∙ found.3,
-                  found.4,
-                )
+                let (k, hit, within, stands, its) = are.whole other before in
+                (k, hit, omega (arith, size, within), get_or_append_left entries (own ∷ []) hit k within ∙ stands, its)
             | inr here ↦ (
               length entries,
               own,

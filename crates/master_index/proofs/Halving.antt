@@ -97,12 +97,11 @@ module _ (key : ℕ → List (List ℕ)) (text : ℕ → List ℕ) (IsListed : �
   pub none-narrowed : (low high : ℕ) → IsNarrowed key entries sought low high → high ≤ low → (row : ℕ) → IsListed row
       → key row ≢ sought
   none-narrowed low high narrowed ended row listed same =
-      let found = are.whole row listed in
-      let k : ℕ = found.0 in
-      let is : key_at k found.1 ≡ sought = ap (λ (hit : Hit). key hit.first) found.3 ∙ found.4 ∙ same in
+      let (k, hit, within, stands, its) = are.whole row listed in
+      let is : key_at k hit ≡ sought = ap (λ (hit : Hit). key hit.first) stands ∙ its ∙ same in
       elim (below_or k low) [
-        | inl before ↦ key_order-irreflexive (key_at k found.1) sought (narrowed.below k found.1 before) is
-        | inr behind ↦ (let greater = narrowed.above k found.1 (omega arith) found.2
+        | inl before ↦ key_order-irreflexive (key_at k hit) sought (narrowed.below k hit before) is
+        | inr behind ↦ (let greater = narrowed.above k hit (omega arith) within
             in absurd (let e = rw is at greater in let f = tied_itself key_order-total sought in cc))
       ]
 

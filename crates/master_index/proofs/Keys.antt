@@ -43,10 +43,10 @@ module _ {X Z : Type 0} where
   pub at-updates : (bytes : List ℕ) (old new : BTreeMap (Vec ℕ Z) X) (value : Option X)
       → UpdatesBy key_cmp (λ held. slice_cmp nat_cmp bytes held.items) old new value → (other : List ℕ) → at new other
       ≡ cond (bytes_eq bytes other) value (at old other)
-  at-updates bytes old new value updates other = elim (cases_Bool (bytes_eq bytes other)) [
-    | inl same ↦ subst (λ (l : List ℕ). at new l ≡ value) ((bytes_decides bytes other).0 same) updates.1
+  at-updates bytes old new value (kept, there, within, others) other = elim (cases_Bool (bytes_eq bytes other)) [
+    | inl same ↦ subst (λ (l : List ℕ). at new l ≡ value) ((bytes_decides bytes other).0 same) there
         ∙ sym (cond-true (bytes_eq bytes other) value (at old other) same)
-    | inr differ ↦ others_stay bytes other old new updates.3 differ
+    | inr differ ↦ others_stay bytes other old new others differ
         ∙ sym (cond-false (bytes_eq bytes other) value (at old other) differ)
   ]
 

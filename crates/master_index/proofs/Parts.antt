@@ -59,8 +59,8 @@ AreEntriesOf-shared kit rule other entries shares are =
       ascending = λ i j d below h. rw (keys (get_or entries i d).first, keys (get_or entries j d).first)
           (are.ascending i j d below h);
       whole = λ row usable.
-          let found = are.whole row (IsUsable-shared kit rule other shares row usable) in
-          (found.0, found.1, found.2, found.3, rw (keys found.1.first, keys row) found.4);
+          let (k, hit, within, stands, its) = are.whole row (IsUsable-shared kit rule other shares row usable) in
+          (k, hit, within, stands, rw (keys hit.first, keys row) its);
       few = rw (masters kit rule other shares) are.few;
     }
 

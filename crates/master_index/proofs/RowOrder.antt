@@ -1,12 +1,11 @@
 -- The order of two rows by their keys, and the usable rows one by one.
-use Rattle.std.proofs.Common.{◌≡◌, ◌<◌, ◌≤◌, ◌+◌, ◌++◌, ◌∷◌, ◌∙◌, inl, inr, ℕ, List, [], true, length, refl, subst}
+use Rattle.std.proofs.Common.{◌≡◌, ◌<◌, ◌≤◌, ◌+◌, ◌++◌, ◌∷◌, ◌∙◌, inl, inr, ℕ, List, [], length, refl, subst}
 use Rattle.std.proofs.Common.{arith, length-append}
 use Rattle.std.specs.Prelude.{All}
 use Rattle.std.specs.List.{Contains}
 use Rattle.std.specs.Cmp.Lexicographic.{slice_cmp}
-use Rattle.std.specs.Ordering.{nat_cmp, is_eq}
+use Rattle.std.specs.Ordering.{nat_cmp}
 use Rattle.std.specs.declared.cmp.Ordering.{Ordering}
-use Rattle.std.specs.declared.cmp.Ordering.TheVariants.{Less, Equal, Greater}
 use Rattle.std.proofs.Math.Nat.{eq-or-lt_of_le}
 use Rattle.std.proofs.lemmas.List.{get_or_default}
 use Rattle.std.proofs.lemmas.List.Elements.{All-push, Contains-append_left, Contains-append_right}
@@ -64,10 +63,10 @@ module _ (kit : Kit) (rule : Rule) (count : ℕ) (rows : List ℕ) (are : AreUsa
 module _ (kit : Kit) (rule : Rule) (rows : List ℕ) (are : AreSortedRows kit rule rows) where
   -- the rows that stand in the whole list are the usable ones
   pub IsUsable-stands : (row : ℕ) → StandsBefore rows (length rows) row → IsUsable kit rule row
-  IsUsable-stands row is = subst (IsUsable kit rule) is.2 (are.usable is.0 0 is.1)
+  IsUsable-stands row (place, within, is) = subst (IsUsable kit rule) is (are.usable place 0 within)
 
   -- and back
   pub StandsBefore-usable : (row : ℕ) → IsUsable kit rule row → StandsBefore rows (length rows) row
   StandsBefore-usable row usable =
-      let found = are.whole row usable in
-      (found.0, found.1, get_or_default rows found.0 0 row found.1 ∙ found.2)
+      let (place, within, is) = are.whole row usable in
+      (place, within, get_or_default rows place 0 row within ∙ is)

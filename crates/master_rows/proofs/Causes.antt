@@ -1,9 +1,9 @@
 -- Each refusal of a sheet has its cause.
-use Rattle.std.proofs.Common.{◌≡◌, ◌⊎◌, ◌∙◌, ℕ, zero, suc, ◌+◌, ◌<◌, ◌==◌, true, false, nat_lt, List, [], ◌∷◌}
-use Rattle.std.proofs.Common.{refl, sym, ap, subst, arith, inl, inr, Option, Some, None, Ok, Err, append_assoc}
+use Rattle.std.proofs.Common.{◌≡◌, ◌⊎◌, ◌∙◌, ℕ, suc, ◌+◌, ◌<◌, ◌==◌, nat_lt, List, [], ◌∷◌}
+use Rattle.std.proofs.Common.{refl, sym, ap, subst, arith, inl, inr, Option, Some, None, Err, append_assoc}
 use Rattle.std.proofs.Common.{◌++◌, length, length-append}
-use Rattle.std.specs.Prelude.{slice_get, IsSomeAnd}
-use Rattle.std.specs.List.{list_all, list_any}
+use Rattle.std.specs.Prelude.{slice_get}
+use Rattle.std.specs.List.{list_all}
 use Rattle.std.specs.Option.{option_or}
 use Rattle.std.specs.Str.{bytes_eq, is_utf8}
 use Rattle.std.proofs.lemmas.Bool.{cases_Bool, eq-eqb, ltb-true}

@@ -126,14 +126,15 @@ reached_front zero s s2 text rest rows apart enough h = absurd (omega arith)
 reached_front (suc fuel) s s2 text rest [] apart enough h = rw (← h.0, ← h.1)
     (record { fuel = suc fuel; enough = enough; between = apart; front = refl })
 reached_front (suc fuel) s s2 text rest (row ∷ rows) apart enough h =
-    let taken = next-taken s [] [] text h.0 h.1 in
-    let later = reached_front fuel h.0.1 s2 h.0.2 rest rows taken.between (omega (arith, taken.shorter apart)) h.3 in
+    let (read, is, same, more) = h in
+    let (fields, next, others) = read in
+    let taken = next-taken s [] [] text read is in
+    let later = reached_front fuel next s2 others rest rows taken.between (omega (arith, taken.shorter apart)) more in
     record {
       fuel = later.fuel;
       enough = later.enough;
       between = later.between;
-      front = rw (h.1, h.2)
-          (ap (λ l. h.0.0 ∷ l) later.front);
+      front = rw (is, same) (ap (λ l. fields ∷ l) later.front);
     }
 
 -- of all records of a text
@@ -173,8 +174,8 @@ records_next-some : (next : Option Read) (more : State → List ℕ → List (Li
     → ((s : State) (text : List ℕ) → All (λ row. 1 ≤ length row) (more s text))
     → All (λ row. 1 ≤ length row) (records_next more next)
 records_next-some None more here later = All-nil (λ row. 1 ≤ length row)
-records_next-some (Some taken) more here later = All-cons (λ row. 1 ≤ length row) taken.0 (more taken.1 taken.2)
-    (here taken refl) (later taken.1 taken.2)
+records_next-some (Some (fields, next, rest)) more here later = All-cons (λ row. 1 ≤ length row) fields (more next rest)
+    (here (fields, next, rest) refl) (later next rest)
 
 -- each record from a state on has a field
 records_from-some : (fuel : ℕ) (s : State) (text : List ℕ)

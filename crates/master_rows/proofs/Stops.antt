@@ -34,16 +34,17 @@ pub GoesOn-next : (old new : Reader (Bor (List ℕ))) (before turns : ℕ) (shee
     → GoesOn old before sheet taken → RowStep left_of old new turns (Some (Ok row)) → is_flexible new ≡ is_flexible old
     → GoesOn new turns sheet (taken ++ fields_of row ∷ [])
 GoesOn-next old new before turns sheet taken row goes step flexible =
-    let read = step.0 in
+    let (read, ready, some) = step in
+    let (next, checked, config, untrimmed, headers, widths) = read in
     let (rest, source, reached) = rows-more left_of old new (fields_of row) default_config st.StartRecord
     (strip_bom sheet) goes.rest taken
     goes.config goes.source goes.reached read in
     record {
-      untrimmed = read.3 ∙ goes.untrimmed;
-      ready = inl step.1;
+      untrimmed = untrimmed ∙ goes.untrimmed;
+      ready = inl ready;
       flexible = flexible ∙ goes.flexible;
-      some = step.2;
-      config = read.2 ∙ goes.config;
+      some = some;
+      config = config ∙ goes.config;
       rest = rest;
       source = source;
       reached = reached;

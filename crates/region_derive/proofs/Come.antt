@@ -38,7 +38,7 @@ module _ (grid : GridRows) (columns : List ℕ) (count : ℕ) (old new : List (L
   HaveCome-next kept texts = (
     λ is. elim (or-cases (are_same texts (texts_in grid columns count)) (old texts) (subst IsTrue (kept texts) is)) [
       | inl same ↦ (count, omega arith, sym ((are_same-is texts (texts_in grid columns count)).0 same))
-      | inr before ↦ let found = (come texts).0 before in (found.0, omega arith, found.2)
+      | inr before ↦ let (earlier, below, is) = (come texts).0 before in (earlier, omega arith, is)
     ],
     λ (earlier, below, is). subst IsTrue (sym (kept texts))
         (elim (eq-or-lt_of_le (let up_to : earlier ≤ count = omega arith in up_to)) [
@@ -64,8 +64,8 @@ module _ (grid : GridRows) (columns : List ℕ) (count : ℕ) (old new : List (L
   not_first kit attributes is_new told old_is derived =
       let there : IsTrue (old (texts_in grid columns count)) =
       is_seen (old (texts_in grid columns count)) (sym told ∙ old_is) in
-      let found = (come (texts_in grid columns count)).0 there in
-      derived.first found.0 found.1 found.2
+      let (earlier, below, is) = (come (texts_in grid columns count)).0 there in
+      derived.first earlier below is
     where
       is_seen : (come : Bool) → not come ≡ false → IsTrue come
       is_seen true is = refl

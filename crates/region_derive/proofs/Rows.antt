@@ -31,7 +31,7 @@ module _ (kit : Kit) (grid : GridRows) (attributes columns : List ℕ) (count : 
   AreDerivedBefore-passed not_derived = record {
     in_order = are.in_order;
     each = λ row texts. (
-      λ there. let it = (are.each row texts).0 there in (omega arith, it.1, it.2),
+      λ there. let (below, derived, is) = (are.each row texts).0 there in (omega arith, derived, is),
       λ (below, derived, is). elim (eq-or-lt_of_le (let up_to : row ≤ count = omega arith in up_to)) [
         | inr earlier ↦ (are.each row texts).1 (earlier, derived, is)
         | inl here ↦ absurd (not_derived (subst (IsDerived kit grid attributes columns) here derived))
@@ -49,7 +49,7 @@ module _ (kit : Kit) (grid : GridRows) (attributes columns : List ℕ) (count : 
         ((are.each pair.0 pair.1).0 (k, within, get_or_default found k pair d within)).0);
     each = λ row texts. (
       λ there. elim (Contains-append_cases found ((count, texts_in grid columns count) ∷ []) (row, texts) there) [
-        | inl earlier ↦ let it = (are.each row texts).0 earlier in (omega arith, it.1, it.2)
+        | inl earlier ↦ let (below, derived, is) = (are.each row texts).0 earlier in (omega arith, derived, is)
         | inr last ↦
             let is : (count, texts_in grid columns count) ≡ (row, texts) = only _ (row, texts) last in
             let seat : count ≡ row = ap (λ (p : ℕ × List (List ℕ)). p.0) is in (
@@ -73,7 +73,7 @@ module _ (kit : Kit) (grid : GridRows) (attributes columns : List ℕ) (count : 
   AreDerivedBefore-whole whole = record {
     in_order = are.in_order;
     each = λ row texts. (
-      λ there. let it = (are.each row texts).0 there in (it.1, it.2),
+      λ there. let (below, derived, is) = (are.each row texts).0 there in (derived, is),
       λ (derived, is). (are.each row texts).1 (let within = derived.within in omega arith, derived, is),
     );
   }

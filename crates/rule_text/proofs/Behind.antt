@@ -28,7 +28,7 @@ use Rattle.rule_text.proofs.Held.{AtRule, AtMaster, AtKey, AtColumn, AtHead, AtF
 use Rattle.rule_text.proofs.Held.{Holds, plain-column, quoted-column, name-word, hold-cond, hold-constant}
 use Rattle.rule_text.proofs.Held.{pattern-set_of, hold-line, known_attribute, below_eight}
 use Rattle.rule_text.proofs.Held.{hold-name, hold-key_column, hold-key_of, hold-head_of, hold-head_column}
-use Rattle.rule_text.proofs.Held.{hold-asked_of, hold-text}
+use Rattle.rule_text.proofs.Held.{HasAsked-kept, hold-asked_of, hold-text}
 
 -- ---- step by step
 
@@ -41,21 +41,7 @@ arrive schema to after held is at = subst (λ (expected : Expected). Holds schem
 pub hold-negated : (schema : Schema) (negated : Bool) (draft : Draft) → AtTest schema draft
     → AtTest schema (record draft { negated = negated })
 hold-negated schema negated draft at = record {
-  asked = record {
-    whole = record {
-      closed = record {
-        lines = at.asked.whole.closed.lines;
-        apart = at.asked.whole.closed.apart;
-      };
-      named = record {
-        name = at.asked.whole.named.name;
-        free = at.asked.whole.named.free;
-      };
-      line = at.asked.whole.line;
-    };
-    room = at.asked.room;
-    other = at.asked.other;
-  };
+  asked = HasAsked-kept schema draft negated draft.texts at.asked;
   no_texts = at.no_texts;
 }
 

@@ -1,5 +1,5 @@
 -- What a draft holds, by what is expected behind the tokens so far, and what each part adds.
-use Rattle.std.proofs.Common.{◌≡◌, ℕ, zero, suc, ◌<◌, ◌≤◌, ◌==◌, nat_le, true, false, List, [], ◌∷◌}
+use Rattle.std.proofs.Common.{◌≡◌, ℕ, zero, suc, ◌<◌, ◌≤◌, ◌==◌, nat_le, true, false, List, [], ◌∷◌, Bool}
 use Rattle.std.proofs.Common.{◌++◌, length, Option, Some, None, Ok, refl, subst, arith, inl}
 use Rattle.std.proofs.Common.{inr}
 use Rattle.std.specs.Prelude.{IsTrue}
@@ -105,6 +105,19 @@ pub record HasAsked (schema : Schema) (draft : Draft) : Type 0 where
   pub whole : IsWhole schema draft
   pub room : HasRoom schema draft.attribute draft.line.conds
   pub other : (draft.attribute == draft.line.head) ≡ false
+
+-- the sense of a test and its texts are no part of what is known where it is asked
+pub HasAsked-kept : (schema : Schema) (draft : Draft) (negated : Bool) (texts : List (List ℕ)) → HasAsked schema draft
+    → HasAsked schema (record draft { negated = negated; texts = texts })
+HasAsked-kept schema draft negated texts asked = record {
+  whole = record {
+    closed = record { lines = asked.whole.closed.lines; apart = asked.whole.closed.apart };
+    named = record { name = asked.whole.named.name; free = asked.whole.named.free };
+    line = asked.whole.line;
+  };
+  room = asked.room;
+  other = asked.other;
+}
 
 -- what is asked of the attribute comes next
 pub record AtTest (schema : Schema) (draft : Draft) : Type 0 where
@@ -331,21 +344,7 @@ module _ (schema : Schema) (place : Place) (draft after : Draft) where
       let below : length draft.texts < 64 = grind (arith, nat_tests) in
       subst (AtClose schema) (same-draft _ _ is) (record {
         item = record {
-          asked = record {
-            whole = record {
-              closed = record {
-                lines = at.asked.whole.closed.lines;
-                apart = at.asked.whole.closed.apart;
-              };
-              named = record {
-                name = at.asked.whole.named.name;
-                free = at.asked.whole.named.free;
-              };
-              line = at.asked.whole.line;
-            };
-            room = at.asked.room;
-            other = at.asked.other;
-          };
+          asked = HasAsked-kept schema draft draft.negated (draft.texts ++ text ∷ []) at.asked;
           fits = rw length-append (omega arith);
           plain = AllByRecursion-push IsPlain draft.texts text at.plain (plain short);
         };

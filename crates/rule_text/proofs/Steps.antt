@@ -23,7 +23,7 @@ use Rattle.rule_text.specs.Reading.{with_token, with_tokens, begins_rule}
 use Rattle.rule_text.specs.Rulebooks.{IsPlain}
 use Rattle.rule_text.specs.Printing.{doubled, string_text, column_text}
 use Rattle.rule_text.proofs.Tokens.{with_front, taken_from-gap, taken_from-token}
-use Rattle.rule_text.proofs.Led.{and_then-Ok}
+use Rattle.rule_text.proofs.Led.{and_then-Ok, same-draft}
 use Rattle.rule_text.proofs.Spelled.{Stops, piece_at-word, piece_at-string}
 
 -- from some bytes on, wherever they stand, reading goes on to the rest: by tokens that make the one draft
@@ -53,15 +53,11 @@ pub with_front-none : (others : Result (List Taken) RuleFault) → others ≡ wi
 with_front-none (Ok rest) = refl
 with_front-none (Err fault) = refl
 
--- what is read of an answer that is given is that answer
-same_ok : (draft held : Draft) → (let read : Result Draft RuleFault = Ok draft in read) ≡ Ok held → draft ≡ held
-same_ok draft held is = cc
-
 -- tokens that are taken one after another are taken together
 with_tokens-then : (schema : Schema) (first second : List Taken) (draft middle held : Draft)
     → with_tokens schema first draft ≡ Ok middle → with_tokens schema second middle ≡ Ok held
     → with_tokens schema (first ++ second) draft ≡ Ok held
-with_tokens-then schema [] second draft middle held one two = rw (same_ok draft middle one) two
+with_tokens-then schema [] second draft middle held one two = rw (same-draft draft middle one) two
 with_tokens-then schema (token ∷ first) second draft middle held one two =
     let (further, step, others) =
     and_then-Ok (with_token schema token.expected token.token token.place draft) (with_tokens schema first) middle one

@@ -4,8 +4,7 @@ use Rattle.std.proofs.Common.{Option, Some, None, inl, inr, refl, arith}
 use Rattle.std.specs.Prelude.{IfSome, if◌then◌else◌}
 use Rattle.std.proofs.lemmas.Bool.{cases_Bool, and_parts}
 use Rattle.std.proofs.lemmas.List.Sums.{prefix_len-le-length}
-use Rattle.std.proofs.lemmas.Str.{IsUtf8-from_is_utf8}
-use Rattle.std.specs.Str.{IsUtf8, is_utf8}
+use Rattle.std.specs.Str.{is_utf8}
 use Rattle.desk_base.specs.Words.{begins_with, is_word_byte, starts_word}
 use Rattle.rule_text.specs.declared.token.Piece.{Piece}
 use Rattle.rule_text.specs.declared.token.Piece.TheVariants.{Gap, Spelled, Stray}

@@ -3,11 +3,11 @@ use Rattle.std.specs.Prelude.{◌≡◌, ◌⊎◌, ℕ, ◌+◌, ◌<◌, codes
 use Rattle.std.specs.Prelude.{option_and_then, slice_get, IsSomeAnd}
 use Rattle.desk_base.specs.declared.limits.TheConstants.{MAX_ATTRIBUTES}
 use Rattle.desk_base.specs.Words.{is_name, is_word}
-use Rattle.toml.specs.Data.{Data, Members, get_member, as_str}
+use Rattle.toml.specs.Data.{Members, get_member, as_str}
 use Rattle.schema_core.specs.declared.fault.SchemaFault.{SchemaFault}
 use Rattle.schema_core.specs.declared.fault.SchemaFault.TheVariants.{NotToml, UnknownKey, MissingKey, WrongKind}
 use Rattle.schema_core.specs.declared.fault.SchemaFault.TheVariants.{BadName, BadCount, Twice, NoMemory}
-use Rattle.schema_core.specs.Reading.{document_of, keys_known, texts_of}
+use Rattle.schema_core.specs.Reading.{keys_known, texts_of}
 
 -- the key is not there: 1 is `name`, and 2 is `attributes`
 abbrev pub IsMissing : Members → ℕ → Type 0

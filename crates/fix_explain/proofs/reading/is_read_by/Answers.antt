@@ -19,5 +19,6 @@ steps-preserved g c = λ k d less read. elim (cases_eq k c.steps.step-index) [
 pub returns : goal.returns
 returns g c = (
   λ told. absurd cc,
-  λ read. absurd (let within = read.2 in c.steps.invariant read.0 read.1 (omega (arith, within)) (rw read.3 read.4)),
+  λ (place, step, within, stands, read). absurd
+      (c.steps.invariant place step (omega (arith, within)) (rw stands read)),
 )

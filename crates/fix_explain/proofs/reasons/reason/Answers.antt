@@ -25,7 +25,7 @@ places-init g c =
           (IsMarked-nil kit c.args.attribute (end_of kit c.args.state.now run) (IsWanted kit c.args.attribute [])
           c.requires.fixed (inl refl) (λ one is. elim is [
             | inl same ↦ same
-            | inr read ↦ absurd (let within = read.2 in omega (arith, within))
+            | inr (place, step, within, stands, read) ↦ absurd (omega (arith, within))
           ]));
       steps = rw c.new-marked.ensures (λ k d within. absurd (omega (arith, within)));
     }

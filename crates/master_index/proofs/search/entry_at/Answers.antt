@@ -1,18 +1,35 @@
-use Rattle.std.proofs.Common.{◌<◌, ◌≤◌, ◌+◌, ◌-◌, ◌/◌, ◌∙◌, length, sym, arith}
+use Rattle.std.proofs.Common.{ℕ, ◌<◌, ◌≤◌, ◌+◌, ◌-◌, ◌*◌, ◌/◌, ◌∙◌, length, sym, arith}
 use Rattle.std.specs.Prelude.{None}
 use Rattle.fix_model.specs.declared.book.Hit.{Hit}
 use Rattle.fix_model.specs.Application.{IsUsable}
 use Rattle.fix_model.specs.Comparison.{row_key, sought_key}
 use Rattle.fix_model.specs.Rules.{from_text, master_of, rule_at}
 use Rattle.fix_model.specs.States.{value_at}
-use Rattle.master_index.proofs.Halving.{compares-halved, halves, IsHalved-none, IsHalved-once, IsHit-entry}
+use Rattle.master_index.proofs.Halving.{IsHalved, compares-halved, halves, IsHalved-none, IsHalved-once, IsHit-entry}
 use Rattle.master_index.proofs.Halving.{IsMissed-narrowed, IsNarrowed-greater, IsNarrowed-less, IsNarrowed-whole}
 use Rattle.master_index.proofs.Halving.{RisesByDigits-halved}
+use Rattle.master_index.proofs.search.entry_at.Given.{Over}
 use Rattle.master_index.proofs.search.entry_at.Goals as goal
+use Rattle.master_index.proofs.search.entry_at.Goals.{After-compare_by_fronts}
 
 -- what is read past the last entry
 abbrev nothing : Hit
 nothing = record { first = 0; other = None }
+
+-- the place in the middle of what is left
+abbrev middle-at : (g : Over) → After-compare_by_fronts g → ℕ
+middle-at g c = c.halves.low + (c.halves.high - c.halves.low) / 2
+
+-- it is one of what is left
+middle-within : (g : Over) (c : After-compare_by_fronts g) → middle-at g c < c.halves.high
+middle-within g c = omega (arith, halves (c.halves.high - c.halves.low))
+
+-- with one comparison more no more than half is left
+halved-once : (g : Over) (c : After-compare_by_fronts g) (rest : ℕ) → 2 * rest ≤ c.halves.high - c.halves.low
+    → IsHalved (length c.args.part.now.entries) rest c.args.counts.now c.compare_by_fronts.new.counts
+halved-once g c rest few = IsHalved-once (length c.args.part.now.entries) (c.halves.high - c.halves.low) rest
+    c.args.counts.now c.halves.counts c.compare_by_fronts.new.counts c.halves.invariant.halved (omega arith) few
+    c.compare_by_fronts.ensures.compares
 
 pub halves-init : goal.halves-init
 halves-init g c =
@@ -30,20 +47,16 @@ halves-preserved-in-Less g c =
     let kit = c.args.kit.now in
     let rule = rule_at kit c.args.rule in
     let entries = c.args.part.now.entries in
-    let left = c.halves.high - c.halves.low in
-    let half = halves left in
-    let middle = c.halves.low + left / 2 in
-    let inside : middle < c.halves.high = omega (arith, half.0, half.1) in
-    let from : c.halves.low ≤ middle = omega arith in
+    let tried = (goal.at.halves-preserved-in-Less g c).After-compare_by_fronts in
+    let middle = middle-at g tried in
     let less = rw c.as_slice-entries.ensures at (sym c.compare_by_fronts.ensures.order ∙ c.in-Less.is) in
     record {
       narrowed = IsNarrowed-less (row_key kit rule) (from_text kit rule) (IsUsable kit rule)
           (length (master_of kit rule).rows) entries c.requires.part.entries
           (sought_key kit (value_at kit c.args.state.now) rule) c.halves.low c.halves.high middle nothing
-          c.halves.invariant.narrowed from inside less;
-      halved = IsHalved-once (length entries) left (c.halves.high - (middle + 1)) c.args.counts.now c.halves.counts
-          c.compare_by_fronts.new.counts c.halves.invariant.halved (omega arith) (omega (arith, half.0, half.1))
-          c.compare_by_fronts.ensures.compares;
+          c.halves.invariant.narrowed (omega arith) (middle-within g tried) less;
+      halved = halved-once g tried (c.halves.high - (middle + 1))
+          (omega (arith, halves (c.halves.high - c.halves.low)));
     }
 
 pub halves-preserved : goal.halves-preserved
@@ -51,20 +64,15 @@ halves-preserved g c =
     let kit = c.args.kit.now in
     let rule = rule_at kit c.args.rule in
     let entries = c.args.part.now.entries in
-    let left = c.halves.high - c.halves.low in
-    let half = halves left in
-    let middle = c.halves.low + left / 2 in
-    let inside : middle < c.halves.high = omega (arith, half.0, half.1) in
-    let from : c.halves.low ≤ middle = omega arith in
+    let tried = (goal.at.halves-preserved g c).After-compare_by_fronts in
+    let middle = middle-at g tried in
     let greater = rw c.as_slice-entries.ensures at (sym c.compare_by_fronts.ensures.order ∙ c.in-Greater.is) in
     record {
       narrowed = IsNarrowed-greater (row_key kit rule) (from_text kit rule) (IsUsable kit rule)
           (length (master_of kit rule).rows) entries c.requires.part.entries
           (sought_key kit (value_at kit c.args.state.now) rule) c.halves.low c.halves.high middle nothing
-          c.halves.invariant.narrowed from inside greater;
-      halved = IsHalved-once (length entries) left (middle - c.halves.low) c.args.counts.now c.halves.counts
-          c.compare_by_fronts.new.counts c.halves.invariant.halved (omega arith) (omega (arith, half.0, half.1))
-          c.compare_by_fronts.ensures.compares;
+          c.halves.invariant.narrowed (omega arith) (middle-within g tried) greater;
+      halved = halved-once g tried (middle - c.halves.low) (omega (arith, halves (c.halves.high - c.halves.low)));
     }
 
 pub returns-in-Equal : goal.returns-in-Equal
@@ -72,14 +80,11 @@ returns-in-Equal g c =
     let kit = c.args.kit.now in
     let rule = rule_at kit c.args.rule in
     let entries = c.args.part.now.entries in
-    let left = c.halves.high - c.halves.low in
-    let half = halves left in
-    let middle = c.halves.low + left / 2 in
-    let inside : middle < length entries = omega (arith, half.0, half.1, c.halves.invariant.narrowed.within) in
+    let tried = (goal.at.returns-in-Equal g c).After-compare_by_fronts in
+    let middle = middle-at g tried in
+    let inside : middle < length entries = omega (arith, middle-within g tried, c.halves.invariant.narrowed.within) in
     let same = rw c.as_slice-entries.ensures at (sym c.compare_by_fronts.ensures.order ∙ c.in-Equal.is) in
-    let halved = IsHalved-once (length entries) left (middle - c.halves.low) c.args.counts.now c.halves.counts
-    c.compare_by_fronts.new.counts c.halves.invariant.halved (omega arith) (omega (arith, half.0, half.1))
-    c.compare_by_fronts.ensures.compares in
+    let halved = halved-once g tried (middle - c.halves.low) (omega (arith, halves (c.halves.high - c.halves.low))) in
     rw c.as_slice-entries.ensures (record {
       found = IsHit-entry kit (value_at kit c.args.state.now) rule entries c.requires.part.entries middle nothing
           inside same;

@@ -4,41 +4,40 @@ use Rattle.std.specs.Cmp.Lexicographic.{slice_cmp}
 use Rattle.fix_model.proofs.Order.{slice_cmp-drop_decided, slice_cmp-drop_tied}
 use Rattle.master_index.proofs.RowOrder.{at_rows, key_order-at_rows}
 use Rattle.master_index.proofs.sorting.key_order.Goals as goal
+use Rattle.master_index.proofs.sorting.key_order.Goals.{After-text_order-order}
+
+-- the loop is at a key of the rule
+key-within : (c : After-text_order-order) → c.keys.key-index < length c.args.rule.now.keys
+key-within c = rw c.as_slice-key-items.ensures at c.keys-test.true
+
+-- the order is that of the two rows' cells at that key
+order-at_rows : (c : After-text_order-order)
+    → (let key = get_or c.args.rule.now.keys c.keys.key-index (0, 0) in
+    c.text_order-order.result ≡ at_rows c.args.kit.now c.args.rule.now c.args.row c.args.other key key)
+order-at_rows c = rw (
+  c.folds.ensures,
+  c.cell_or_blank-cell.ensures,
+  c.cell_or_blank.ensures,
+  c.master-master.ensures,
+  c.as_slice-key-items.ensures,
+) at c.text_order-order.ensures
 
 pub returns-then-is_ne : goal.returns-then-is_ne
 returns-then-is_ne c =
-    let cells = at_rows c.args.kit.now c.args.rule.now c.args.row c.args.other in
     let keys = c.args.rule.now.keys in
-    let place = c.keys.key-index in
-    let within : place < length keys = rw c.as_slice-key-items.ensures at c.keys-test.true in
-    let order : c.text_order-order.result ≡ cells (get_or keys place (0, 0)) (get_or keys place (0, 0)) =
-    rw (
-      c.folds.ensures,
-      c.cell_or_blank-cell.ensures,
-      c.cell_or_blank.ensures,
-      c.master-master.ensures,
-      c.as_slice-key-items.ensures,
-    ) at c.text_order-order.ensures in
+    let found = (goal.at.returns-then-is_ne c).After-text_order-order in
     sym (key_order-at_rows c.args.kit.now c.args.rule.now c.args.row c.args.other ∙ c.keys.invariant
-    ∙ slice_cmp-drop_decided cells keys keys place (0, 0) (0, 0) within within c.text_order-order.result order
-    (sym c.is_ne.ensures ∙ c.if-is_ne.true))
+    ∙ slice_cmp-drop_decided (at_rows c.args.kit.now c.args.rule.now c.args.row c.args.other) keys keys
+    c.keys.key-index (0, 0) (0, 0) (key-within found) (key-within found) c.text_order-order.result
+    (order-at_rows found) (sym c.is_ne.ensures ∙ c.if-is_ne.true))
 
 pub keys-preserved : goal.keys-preserved
 keys-preserved c =
-    let cells = at_rows c.args.kit.now c.args.rule.now c.args.row c.args.other in
     let keys = c.args.rule.now.keys in
-    let place = c.keys.key-index in
-    let within : place < length keys = rw c.as_slice-key-items.ensures at c.keys-test.true in
-    let order : c.text_order-order.result ≡ cells (get_or keys place (0, 0)) (get_or keys place (0, 0)) =
-    rw (
-      c.folds.ensures,
-      c.cell_or_blank-cell.ensures,
-      c.cell_or_blank.ensures,
-      c.master-master.ensures,
-      c.as_slice-key-items.ensures,
-    ) at c.text_order-order.ensures in
-    c.keys.invariant ∙ slice_cmp-drop_tied cells keys keys place (0, 0) (0, 0) within within c.text_order-order.result
-    order (sym c.is_ne.ensures ∙ c.if-is_ne.false)
+    let found = (goal.at.keys-preserved c).After-text_order-order in
+    c.keys.invariant ∙ slice_cmp-drop_tied (at_rows c.args.kit.now c.args.rule.now c.args.row c.args.other) keys keys
+    c.keys.key-index (0, 0) (0, 0) (key-within found) (key-within found) c.text_order-order.result
+    (order-at_rows found) (sym c.is_ne.ensures ∙ c.if-is_ne.false)
 
 pub returns : goal.returns
 returns c =

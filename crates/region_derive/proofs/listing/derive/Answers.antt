@@ -21,6 +21,7 @@ rows-preserved g c =
     let told = rw texts at c.in_ok-is_new.ensures.new in
     let kept = rw texts at c.in_ok-is_new.ensures.kept in
     let come = HaveCome-next grid columns row (has_come c.rows.seen) (has_come c.keep.new.self) before.seen kept in
+    let passed = AreDerivedBefore-passed kit grid attributes columns row c.rows.found before.found in
     elim c.if-is_new.branch [
       | then-is_new+in_ok-promises+then-branch+in_ok-push w ↦
           let promised = (rw (w.as_slice-then-is_new.ensures ∙ c.in_ok-texts.ensures)
@@ -53,8 +54,7 @@ rows-preserved g c =
             let none : ¬ IsDerived kit grid attributes columns row = λ derived.
             let is : IsTrue w'.in_ok-promises.field-0 = promises.1 (derived.filled, derived.certain) in cc in
             record {
-              found = subst (AreDerivedBefore kit grid attributes columns (row + 1)) (sym w.found-is)
-                  (AreDerivedBefore-passed kit grid attributes columns row c.rows.found before.found none);
+              found = subst (AreDerivedBefore kit grid attributes columns (row + 1)) (sym w.found-is) (passed none);
               seen = come;
               few = before.few;
               looks = rw (w.counts-is, w'.counts-is) (omega (arith, before.looks, w'.in_ok-promises.ensures.looks));
@@ -67,8 +67,7 @@ rows-preserved g c =
             let none : ¬ IsDerived kit grid attributes columns row = not_first grid columns row (has_come c.rows.seen)
             (has_come c.keep.new.self) before.seen kit attributes c.in_ok-is_new.is_new told w'.if-is_new.false in
             record {
-              found = subst (AreDerivedBefore kit grid attributes columns (row + 1)) (sym w.found-is)
-                  (AreDerivedBefore-passed kit grid attributes columns row c.rows.found before.found none);
+              found = subst (AreDerivedBefore kit grid attributes columns (row + 1)) (sym w.found-is) (passed none);
               seen = come;
               few = before.few;
               looks = rw (w.counts-is, w'.counts-is) (omega (arith, before.looks));

@@ -12,8 +12,9 @@ attributes-preserved g c =
     × ¬ IsCovered c.args.state.now attribute in
     let told = rw c.deref.ensures.value at c.is_needed.ensures in
     elim c.if-is_needed.branch [
-      | then-is_needed+in_ok-push w ↦ ListsBelow-yes holds c.attributes.attribute c.attributes.need c.attributes.invariant
-          c.if-is_needed.need (told.0 w.if-is_needed.true) (w.need-is ∙ w.in_ok-push.ensures.pushed)
+      | then-is_needed+in_ok-push w ↦ ListsBelow-yes holds c.attributes.attribute c.attributes.need
+          c.attributes.invariant c.if-is_needed.need
+          (told.0 w.if-is_needed.true) (w.need-is ∙ w.in_ok-push.ensures.pushed)
       | else-is_needed w ↦ subst (ListsBelow holds (c.attributes.attribute + 1)) (sym w.need-is)
           (ListsBelow-no holds c.attributes.attribute c.attributes.need c.attributes.invariant
           (λ needed. let set_there = told.1 needed in let clash = w.if-is_needed.false in cc))

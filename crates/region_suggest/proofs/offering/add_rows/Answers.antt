@@ -12,7 +12,8 @@ use Rattle.region_suggest.proofs.Pairs.{IsMatchWithin-lacks, IsMatchWithin-regio
 use Rattle.region_suggest.proofs.Pairs.{IsMatchWithin-skip, ListsExactly-push, ListsExactly-same}
 use Rattle.region_suggest.proofs.offering.add_rows.Given.{Over}
 use Rattle.region_suggest.proofs.offering.add_rows.Goals as goal
-use Rattle.region_suggest.proofs.offering.add_rows.Goals.{After-as_slice-attributes, After-as_slice-texts, then-has_values+in_ok-push, else-has_values}
+use Rattle.region_suggest.proofs.offering.add_rows.Goals.{After-as_slice-attributes, After-as_slice-texts}
+use Rattle.region_suggest.proofs.offering.add_rows.Goals.{then-has_values+in_ok-push, else-has_values}
 
 -- the attributes of the region were read
 attributes-read : (g : Over) (c : After-as_slice-attributes g)
@@ -46,7 +47,8 @@ returns-then-not-holds_confirmed-clause-behind g c = let kit = g.B.Book.kit c.ar
     let state = c.args.state.now in
     let regions = c.args.regions.now in
     let place : ℕ = c.args.place in
-    let attributes = attributes-read g (goal.at.returns-then-not-holds_confirmed-clause-behind g c).After-as_slice-attributes in
+    let attributes = attributes-read g
+    (goal.at.returns-then-not-holds_confirmed-clause-behind g c).After-as_slice-attributes in
     ListsExactly-same (IsMatchWithin kit state regions place 0) (IsMatchWithin kit state regions (place + 1) 0)
     c.args.found.now
     (IsMatchWithin-lacks kit state regions place (λ holds.

@@ -9,7 +9,8 @@ use Rattle.region_suggest.proofs.Pairs.{IsSeen, IsSeen-before, IsSeen-grows, Lis
 use Rattle.region_suggest.proofs.Pairs.{certain-only, region-read, region-valid}
 use Rattle.region_suggest.proofs.offering.certain_rows.Given.{Over}
 use Rattle.region_suggest.proofs.offering.certain_rows.Goals as goal
-use Rattle.region_suggest.proofs.offering.certain_rows.Goals.{After-as_slice-in-found, then-is_certain+in_ok-push, else-is_certain}
+use Rattle.region_suggest.proofs.offering.certain_rows.Goals.{After-as_slice-in-found, else-is_certain}
+use Rattle.region_suggest.proofs.offering.certain_rows.Goals.{then-is_certain+in_ok-push}
 
 -- the pair at which the loop is
 abbrev pair_at : (g : Over) → After-as_slice-in-found g → ℕ × ℕ
@@ -19,7 +20,8 @@ pair_at g c = get_or c.args.found.now c.found.pair-index (0, 0)
 region-at : (g : Over) (c : After-as_slice-in-found g)
     → c.index-regions-pair.result ≡ region_at c.args.regions.now ((pair_at g c).0 - 1)
 region-at g c =
-    let place : IsPlace c.args.regions.now (pair_at g c) = c.requires.places c.found.pair-index (0, 0) c.found-test.true in
+    let place : IsPlace c.args.regions.now (pair_at g c) =
+    c.requires.places c.found.pair-index (0, 0) c.found-test.true in
     let low = place.region.0 in
     let high = place.region.1 in
     region-read c.args.regions.now ((pair_at g c).0 - 1) c.index-regions-pair.result (omega (arith, low, high))
@@ -34,7 +36,8 @@ attributes-at g c = c.as_slice-in-found.ensures ∙ ap (λ (one : Region). one.a
 row-within : (g : Over) (c : After-as_slice-in-found g)
     → (pair_at g c).1 - 1 < length (region_at c.args.regions.now ((pair_at g c).0 - 1)).rows
 row-within g c =
-    let place : IsPlace c.args.regions.now (pair_at g c) = c.requires.places c.found.pair-index (0, 0) c.found-test.true in
+    let place : IsPlace c.args.regions.now (pair_at g c) =
+    c.requires.places c.found.pair-index (0, 0) c.found-test.true in
     let low = place.row.0 in
     let high = place.row.1 in
     omega (arith, low, high)
@@ -57,7 +60,8 @@ row_state-requires g c =
     let place : IsPlace c.args.regions.now pair = c.requires.places c.found.pair-index (0, 0) c.found-test.true in
     let valid = region-valid (g.B.Book.kit c.args.book.now) c.args.regions.now (pair.0 - 1) c.requires.regions
     (let low = place.region.0 in let high = place.region.1 in omega (arith, low, high)) in
-    ap length (texts-at g read) ∙ valid.rows (pair.1 - 1) [] (row-within g read) ∙ ap length (sym (attributes-at g read))
+    ap length (texts-at g read) ∙ valid.rows (pair.1 - 1) [] (row-within g read)
+    ∙ ap length (sym (attributes-at g read))
 
 pub found-preserved : goal.found-preserved
 found-preserved g c = let kit = g.B.Book.kit c.args.book.now in

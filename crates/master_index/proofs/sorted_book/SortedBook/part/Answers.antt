@@ -12,19 +12,21 @@ place-requires c =
 pub bounds-as_slice-place : goal.bounds-as_slice-place
 bounds-as_slice-place c =
     let within : c.args.rule < length c.self.inside.inside.rules = rw (← c.self.view_is) at c.requires in
-    let has = c.self.invariant.1.each c.args.rule within in
-    rw (c.place.ensures, c.as_slice.ensures) (omega (arith, has.place_within, c.self.invariant.2.size))
+    let (valid, triples, parts, shared) = c.self.invariant in
+    let has = triples.each c.args.rule within in
+    rw (c.place.ensures, c.as_slice.ensures) (omega (arith, has.place_within, parts.size))
 
 pub returns : goal.returns
 returns c =
     let kit = c.self.inside.inside in
     let triples = c.self.inside.triples in
     let within : c.args.rule < length kit.rules = rw (← c.self.view_is) at c.requires in
-    let has = c.self.invariant.1.each c.args.rule within in
+    let (valid, are_triples, parts, shared) = c.self.invariant in
+    let has = are_triples.each c.args.rule within in
     let place = get_or triples.places c.args.rule 0 in
     let part = c.index-as_slice-place.result in
     let item : part ≡ get_or c.self.inside.parts place part = rw (c.as_slice.ensures, c.place.ensures)
     at c.index-as_slice-place.is in
     let is = IsPartOf-shared kit (rule_at kit c.args.rule) (rule_at kit (owner_of triples c.args.rule))
-    (get_or c.self.inside.parts place part) has.shares (c.self.invariant.2.each place part has.place_within) in
+    (get_or c.self.inside.parts place part) has.shares (parts.each place part has.place_within) in
     rw (← c.self.view_is) (rw (← item) at is)

@@ -30,8 +30,9 @@ records-init c =
 pub records-preserved : goal.records-preserved
 records-preserved c =
     let before = c.records.invariant in
-    let steps = rw (c.in-Some.is, c.in-Ok.is) at (c.next.ensures.steps before.some before.untrimmed) in
-    rw c.in_ok-take-in-Ok.ensures.taken (GoesOn-next _ _ _ _ _ _ _ before (steps.0 before.ready) steps.3)
+    let (steps, fits, ends, flexible) = rw (c.in-Some.is, c.in-Ok.is)
+    at (c.next.ensures.steps before.some before.untrimmed) in
+    rw c.in_ok-take-in-Ok.ensures.taken (GoesOn-next _ _ _ _ _ _ _ before (steps before.ready) flexible)
 
 pub stopped-requires : goal.stopped-requires
 stopped-requires c =
@@ -43,10 +44,11 @@ stopped-requires c =
 pub returns-in_err-take-in-Ok-clause-fault : goal.returns-in_err-take-in-Ok-clause-fault
 returns-in_err-take-in-Ok-clause-fault c =
     let before = c.records.invariant in
-    let steps = rw (c.in-Some.is, c.in-Ok.is) at (c.next.ensures.steps before.some before.untrimmed) in
+    let (steps, fits, ends, flexible) = rw (c.in-Some.is, c.in-Ok.is)
+    at (c.next.ensures.steps before.some before.untrimmed) in
     let after = GoesOn-next c.records.next-iterator.rdr c.next.new.self.rdr c.records.next-iterator.left
     c.next.new.self.left
-    c.args.sheet.now c.records.draft c.in-Ok.row before (steps.0 before.ready) steps.3 in
+    c.args.sheet.now c.records.draft c.in-Ok.row before (steps before.ready) flexible in
     let fault = c.in_err-take-in-Ok.field-0.0 in
     let is : c.from_residual.result ≡ Err fault = search rules in
     rw is (λ apart. records-however read_records (Err fault) (strip_bom c.args.sheet.now) after.rest c.records.draft

@@ -33,42 +33,44 @@ records-init c =
 
 pub records-preserved : goal.records-preserved
 records-preserved c =
-    let before = c.records.invariant in
-    let steps = rw (c.in-Some.is, c.in-Ok.is) at (c.next.ensures.steps before.1.some before.1.untrimmed) in (
-      before.0 ++ fields_of c.in-Ok.row ∷ [],
-      GoesOn-next _ _ _ _ _ _ _ before.1 (steps.0 before.1.ready) steps.3,
-      c.in_ok-take-in-Ok.ensures.taken before.0 before.2,
+    let (taken, before, outlined) = c.records.invariant in
+    let (steps, fits, ends, flexible) = rw (c.in-Some.is, c.in-Ok.is)
+    at (c.next.ensures.steps before.some before.untrimmed) in (
+      taken ++ fields_of c.in-Ok.row ∷ [],
+      GoesOn-next _ _ _ _ _ _ _ before (steps before.ready) flexible,
+      c.in_ok-take-in-Ok.ensures.taken taken outlined,
     )
 
 pub stopped-requires : goal.stopped-requires
 stopped-requires c =
-    let before = c.records.invariant in
-    let steps = rw (c.in-Some.is, c.in-Err.is) at (c.next.ensures.steps before.1.some before.1.untrimmed) in
-    stops_reader-flexible left_of c.records.next-iterator.rdr c.next.new.self.rdr c.in-Err.error.kind before.1.flexible
-    (steps.0 before.1.ready)
+    let (taken, before, outlined) = c.records.invariant in
+    let steps = rw (c.in-Some.is, c.in-Err.is) at (c.next.ensures.steps before.some before.untrimmed) in
+    stops_reader-flexible left_of c.records.next-iterator.rdr c.next.new.self.rdr c.in-Err.error.kind before.flexible
+    (steps.0 before.ready)
 
 pub returns-in_err-take-in-Ok-clause-fault : goal.returns-in_err-take-in-Ok-clause-fault
 returns-in_err-take-in-Ok-clause-fault c =
-    let before = c.records.invariant in
-    let steps = rw (c.in-Some.is, c.in-Ok.is) at (c.next.ensures.steps before.1.some before.1.untrimmed) in
+    let (taken, before, outlined) = c.records.invariant in
+    let (steps, fits, ends, flexible) = rw (c.in-Some.is, c.in-Ok.is)
+    at (c.next.ensures.steps before.some before.untrimmed) in
     let after = GoesOn-next c.records.next-iterator.rdr c.next.new.self.rdr c.records.next-iterator.left
     c.next.new.self.left
-    c.args.sheet.now before.0 c.in-Ok.row before.1 (steps.0 before.1.ready) steps.3 in
+    c.args.sheet.now taken c.in-Ok.row before (steps before.ready) flexible in
     let fault = c.in_err-take-in-Ok.field-0.0 in
     let is : c.from_residual.result ≡ Err fault = search rules in
-    rw is (λ apart. records-however read_records (Err fault) (strip_bom c.args.sheet.now) after.rest before.0
+    rw is (λ apart. records-however read_records (Err fault) (strip_bom c.args.sheet.now) after.rest taken
     (fields_of c.in-Ok.row) (reader_state c.next.new.self.rdr) after.reached (λ later.
-    c.in_err-take-in-Ok.ensures.fault apart before.0 later before.2))
+    c.in_err-take-in-Ok.ensures.fault apart taken later outlined))
 
 pub returns : goal.returns
 returns c =
-    let before = c.records.invariant in
-    let step = rw c.in-None.is at ((c.next.ensures.steps before.1.some before.1.untrimmed).0 before.1.ready) in
-    let end = rows-end left_of c.records.next-iterator.rdr c.next.new.self.rdr [] default_config before.1.rest
-    before.1.config before.1.source step in
+    let (taken, before, outlined) = c.records.invariant in
+    let step = rw c.in-None.is at ((c.next.ensures.steps before.some before.untrimmed).0 before.ready) in
+    let end = rows-end left_of c.records.next-iterator.rdr c.next.new.self.rdr [] default_config before.rest
+    before.config before.source step in
     record {
       taken = subst (AreOutlined c.records.draft.columns c.records.draft.rows)
-          (records-end (strip_bom c.args.sheet.now) before.1.rest before.0
-          (reader_state c.records.next-iterator.rdr) before.1.reached end) before.2;
+          (records-end (strip_bom c.args.sheet.now) before.rest taken
+          (reader_state c.records.next-iterator.rdr) before.reached end) outlined;
       fault = tt;
     }

@@ -1,4 +1,5 @@
-use Rattle.std.proofs.Common.{◌≡◌, ◌<◌, ◌∙◌, ◌++◌, ◌∷◌, [], Bool, true, false, ap, sym, length, get_or, replicate, arith, rules}
+use Rattle.std.proofs.Common.{◌≡◌, ◌<◌, ◌∙◌, ◌++◌, ◌∷◌, [], Bool, true, false, ap, sym, length, get_or, replicate}
+use Rattle.std.proofs.Common.{arith, rules}
 use Rattle.std.proofs.lemmas.List.{with_items_is}
 use Rattle.region_suggest.specs.Closing.{TakesOff}
 use Rattle.region_suggest.specs.Dependencies.{users, uses_of}
@@ -45,15 +46,22 @@ found-preserved c =
     IsClosing-known c.args.self.now c.requires.sound c.args.given.now c.requires.whole c.found.flags.items
     c.found.missing.items c.found.found.items c.pop.new.self.items c.in-Some.attribute
     (popped (goal.at.found-preserved c).In-Some) c.found.invariant
-    (flag-of (goal.at.found-preserved c).After-index true (attribute-within (goal.at.found-preserved c).In-Some) c.if-not-index.false)
+    (flag-of (goal.at.found-preserved c).After-index true
+    (attribute-within (goal.at.found-preserved c).In-Some) c.if-not-index.false)
 
 pub index_mut-requires : goal.index_mut-requires
-index_mut-requires c =
-    omega (arith, attribute-within (goal.at.index_mut-requires c).In-Some, c.found.invariant.whole, c.from-then-not-index.ensures, c.found.flags.ok.0)
+index_mut-requires c = omega (
+  arith,
+  attribute-within (goal.at.index_mut-requires c).In-Some,
+  c.found.invariant.whole,
+  c.from-then-not-index.ensures,
+  c.found.flags.ok.0,
+)
 
 pub take_off-requires-clause-enough : goal.take_off-requires-clause-enough
 take_off-requires-clause-enough c =
-    let clear = flag-of (goal.at.take_off-requires-clause-enough c).After-index false (attribute-within (goal.at.take_off-requires-clause-enough c).In-Some) c.if-not-index.true in
+    let clear = flag-of (goal.at.take_off-requires-clause-enough c).After-index false
+    (attribute-within (goal.at.take_off-requires-clause-enough c).In-Some) c.if-not-index.true in
     rw c.deref_mut.ensures.value (IsEnough-closing c.args.self.now c.requires.sound c.args.given.now c.requires.whole
     c.found.flags.items
     c.found.missing.items c.found.found.items c.pop.new.self.items c.in-Some.attribute
@@ -61,7 +69,8 @@ take_off-requires-clause-enough c =
 
 pub found-preserved-in-Continue-branch-4 : goal.found-preserved-in-Continue-branch-4
 found-preserved-in-Continue-branch-4 c =
-    let clear = flag-of (goal.at.found-preserved-in-Continue-branch-4 c).After-index false (attribute-within (goal.at.found-preserved-in-Continue-branch-4 c).In-Some) c.if-not-index.true in
+    let clear = flag-of (goal.at.found-preserved-in-Continue-branch-4 c).After-index false
+    (attribute-within (goal.at.found-preserved-in-Continue-branch-4 c).In-Some) c.if-not-index.true in
     let taken : TakesOff c.args.self.now (users (uses_of c.args.self.now) c.in-Some.attribute) c.found.missing.items
     c.take_off.new.missing c.pop.new.self.items c.take_off.new.found.items =
     rw c.deref_mut.ensures.value at c.in_ok-take_off.ensures in
