@@ -1,6 +1,5 @@
 -- What a writer of records in memory has written.
-use Rattle.std.specs.Prelude.{◌≡◌, ℕ, List, Vec, Some, false, map, flat_map}
-use Rattle.std.specs.Borrow.{Bor}
+use Rattle.std.specs.Prelude.{◌≡◌, ℕ, List, Vec, Some, false, flat_map}
 use Rattle.std.specs.declared.alloc.Global.{Global}
 use Rattle.csv.specs.Writing.{default_writer, fields_written, has_written, row_text, text_written, writer_setup}
 use Rattle.csv.specs.declared.writer.Writer.{Writer}
