@@ -1,6 +1,6 @@
 -- The lines of changes make the lines of tables those of the changed tables.
-use Rattle.std.proofs.Common.{◌≡◌, inl, inr, ℕ, zero, suc, ◌+◌, ◌<◌, ◌≤◌, false, ◌==◌, List, [], ◌∷◌, ◌++◌, length, map}
-use Rattle.std.proofs.Common.{set, refl, sym, ap, subst, ◌∙◌, arith}
+use Rattle.std.proofs.Common.{◌≡◌, inl, inr, ℕ, zero, suc, ◌+◌, ◌<◌, false, ◌==◌, List, [], ◌∷◌, ◌++◌, length, map}
+use Rattle.std.proofs.Common.{set, refl, ap, ◌∙◌, arith}
 use Rattle.std.specs.Prelude.{IsPermutation, slice_index}
 use Rattle.std.specs.List.{AllByRecursion}
 use Rattle.std.proofs.lemmas.Bool.{cases_Bool}
@@ -12,7 +12,8 @@ use Rattle.desk_words.specs.declared.change.Change.TheVariants.{Session, Record,
 use Rattle.desk_words.specs.declared.rows.batch.BatchRow.{BatchRow}
 use Rattle.desk_words.specs.declared.rows.record.RecordRow.{RecordRow}
 use Rattle.desk_words.specs.declared.rows.session.SessionRow.{SessionRow}
-use Rattle.desk_words.proofs.Changes.{AreTables-changed, AreTables-changed_all, length-put}
+use Rattle.desk_base.proofs.Lists.{AllByRecursion-push}
+use Rattle.desk_words.proofs.Changes.{AreTables-changed, AreTables-changed_all, length-put, put-end}
 use Rattle.desk_words.specs.Changes.{FitAll, Fits, changed, changed_all, put, with_clerk, with_list}
 use Rattle.desk_words.specs.Tables.{AreTables, Rows, list_at}
 use Rattle.desk_packing.specs.Formats.{Format}
@@ -20,85 +21,11 @@ use Rattle.desk_packing.specs.Lines.{Line, put_line, put_lines}
 use Rattle.desk_packing.specs.RowFormats.{batch, clerk, committed, edition, master, region, rulebook, schema, session}
 use Rattle.desk_packing.specs.Shapes.{FitLengths, FitsFields, FitsIn, grown, grown_all, line_of_change}
 use Rattle.desk_packing.specs.Shapes.{lines_of_changes}
-use Rattle.desk_packing.specs.Shapes.{shape_of, with_empty, with_row}
-use Rattle.desk_packing.specs.Stands.{FitFields, StandIn, lines_of, list_lines, own_lines, row_line, version_line}
-use Rattle.desk_packing.proofs.Permutations.{each-append}
-use Rattle.desk_packing.proofs.Putting.{Puts, kind-free, later-free, own_lines-with_clerk, put-more}
-use Rattle.desk_packing.proofs.Putting.{puts-behind, puts-front, puts-list, puts-own, puts-permutation}
-use Rattle.desk_packing.proofs.Standing.{list_lines-kind, own_lines-kind}
-use Rattle.desk_packing.proofs.Stood.{from_batches, from_clerks, from_editions, from_masters, from_records}
-use Rattle.desk_packing.proofs.Stood.{from_regions}
-use Rattle.desk_packing.proofs.Stood.{from_rulebooks, from_schemas, from_sessions, batches-stand, editions-stand}
-use Rattle.desk_packing.proofs.Stood.{masters-stand, records-stand, regions-stand, rulebooks-stand, schemas-stand}
-use Rattle.desk_packing.proofs.Stood.{sessions-stand}
-
--- a line of a later kind is put behind the lists of earlier ones
-module _ (rows : Rows) (line : Line) where
-  past_version : (lines : List Line) → 0 < line.kind → Puts (from_clerks false rows) line lines
-      → Puts (lines_of rows) line (version_line false ∷ lines)
-  past_version lines later = puts-behind (version_line false ∷ []) (from_clerks false rows) lines line
-      (kind-free 0 line (version_line false ∷ []) (λ e. absurd (omega arith)) (refl, tt))
-
-  past_clerks : (lines : List Line) → 1 < line.kind → Puts (from_schemas false rows) line lines
-      → Puts (lines_of rows) line (version_line false ∷ (list_lines clerk 1 0 0 rows.clerks ++ lines))
-  past_clerks lines later puts = past_version (list_lines clerk 1 0 0 rows.clerks ++ lines) (omega arith)
-      (puts-behind (list_lines clerk 1 0 0 rows.clerks) (from_schemas false rows) lines line
-      (kind-free 1 line (list_lines clerk 1 0 0 rows.clerks) (λ e. absurd (omega arith))
-      (list_lines-kind clerk 1 0 0 rows.clerks)) puts)
-
-  past_schemas : (lines : List Line) → 2 < line.kind → Puts (from_masters false rows) line lines
-      → Puts (lines_of rows) line (version_line false ∷ (list_lines clerk 1 0 0 rows.clerks
-      ++ (list_lines schema 2 0 0 rows.schemas ++ lines)))
-  past_schemas lines later puts = past_clerks (list_lines schema 2 0 0 rows.schemas ++ lines) (omega arith)
-      (puts-behind (list_lines schema 2 0 0 rows.schemas) (from_masters false rows) lines line
-      (kind-free 2 line (list_lines schema 2 0 0 rows.schemas) (λ e. absurd (omega arith))
-      (list_lines-kind schema 2 0 0 rows.schemas)) puts)
-
-  past_masters : (lines : List Line) → 3 < line.kind → Puts (from_rulebooks false rows) line lines
-      → Puts (lines_of rows) line (version_line false ∷ (list_lines clerk 1 0 0 rows.clerks
-      ++ (list_lines schema 2 0 0 rows.schemas ++ (list_lines master 3 0 0 rows.masters ++ lines))))
-  past_masters lines later puts = past_schemas (list_lines master 3 0 0 rows.masters ++ lines) (omega arith)
-      (puts-behind (list_lines master 3 0 0 rows.masters) (from_rulebooks false rows) lines line
-      (kind-free 3 line (list_lines master 3 0 0 rows.masters) (λ e. absurd (omega arith))
-      (list_lines-kind master 3 0 0 rows.masters)) puts)
-
-  past_rulebooks : (lines : List Line) → 4 < line.kind → Puts (from_editions false rows) line lines
-      → Puts (lines_of rows) line (version_line false ∷ (list_lines clerk 1 0 0 rows.clerks
-      ++ (list_lines schema 2 0 0 rows.schemas ++ (list_lines master 3 0 0 rows.masters
-      ++ (list_lines rulebook 4 0 0 rows.rulebooks ++ lines)))))
-  past_rulebooks lines later puts = past_masters (list_lines rulebook 4 0 0 rows.rulebooks ++ lines) (omega arith)
-      (puts-behind (list_lines rulebook 4 0 0 rows.rulebooks) (from_editions false rows) lines line
-      (kind-free 4 line (list_lines rulebook 4 0 0 rows.rulebooks) (λ e. absurd (omega arith))
-      (list_lines-kind rulebook 4 0 0 rows.rulebooks)) puts)
-
-  past_editions : (lines : List Line) → 5 < line.kind → Puts (from_regions false rows) line lines
-      → Puts (lines_of rows) line (version_line false ∷ (list_lines clerk 1 0 0 rows.clerks
-      ++ (list_lines schema 2 0 0 rows.schemas ++ (list_lines master 3 0 0 rows.masters
-      ++ (list_lines rulebook 4 0 0 rows.rulebooks ++ (list_lines edition 5 0 0 rows.editions ++ lines))))))
-  past_editions lines later puts = past_rulebooks (list_lines edition 5 0 0 rows.editions ++ lines) (omega arith)
-      (puts-behind (list_lines edition 5 0 0 rows.editions) (from_regions false rows) lines line
-      (kind-free 5 line (list_lines edition 5 0 0 rows.editions) (λ e. absurd (omega arith))
-      (list_lines-kind edition 5 0 0 rows.editions)) puts)
-
-  past_regions : (lines : List Line) → 6 < line.kind → Puts (from_sessions false rows) line lines
-      → Puts (lines_of rows) line (version_line false ∷ (list_lines clerk 1 0 0 rows.clerks
-      ++ (list_lines schema 2 0 0 rows.schemas ++ (list_lines master 3 0 0 rows.masters
-      ++ (list_lines rulebook 4 0 0 rows.rulebooks ++ (list_lines edition 5 0 0 rows.editions
-      ++ (list_lines region 6 0 0 rows.regions ++ lines)))))))
-  past_regions lines later puts = past_editions (list_lines region 6 0 0 rows.regions ++ lines) (omega arith)
-      (puts-behind (list_lines region 6 0 0 rows.regions) (from_sessions false rows) lines line
-      (kind-free 6 line (list_lines region 6 0 0 rows.regions) (λ e. absurd (omega arith))
-      (list_lines-kind region 6 0 0 rows.regions)) puts)
-
--- a row of one of the first six tables is put behind the others
-module _ {A : Type 0} (format : Format A) (kind : ℕ) (rows : List A) (x : A) (behind : List Line)
-    (later : AllByRecursion (λ other. kind + 1 ≤ other.kind) behind) where
-  puts-last : Puts (list_lines format kind 0 0 rows ++ behind) (row_line format kind 0 (length rows) x)
-      (list_lines format kind 0 0 (rows ++ x ∷ []) ++ behind)
-  puts-last = rw (← put-more rows x) (puts-front (list_lines format kind 0 0 rows)
-      (list_lines format kind 0 0 (put rows (length rows) x)) behind (row_line format kind 0 (length rows) x)
-      (puts-list format kind 0 rows (length rows) x (omega arith))
-      (later-free (row_line format kind 0 (length rows) x) behind later))
+use Rattle.desk_packing.specs.Shapes.{shape_of, with_empty}
+use Rattle.desk_packing.specs.Stands.{FitFields, StandIn, lines_of, list_lines, own_lines, row_line}
+use Rattle.desk_packing.proofs.Joined.{joined, puts-joined}
+use Rattle.desk_packing.proofs.Putting.{Puts, own_lines-with_clerk, puts-list, puts-own, puts-permutation}
+use Rattle.desk_packing.proofs.Stood.{AreParts-parts_of, parts_of}
 
 -- the length of a clerk's list
 pub length-list_at : {A : Type 0} (lists : List (List A)) (owner : ℕ)
@@ -107,71 +34,53 @@ length-list_at [] owner = refl
 length-list_at (rows ∷ lists) zero = refl
 length-list_at (rows ∷ lists) (suc owner) = length-list_at lists owner
 
+module _ {A : Type 0} (format : Format A) (kind : ℕ) where
+  -- a row is put after the others of a list
+  puts-end : (rows : List A) (row : A) → Puts (list_lines format kind 0 0 rows)
+      (row_line format kind 0 (length rows) row) (list_lines format kind 0 0 (rows ++ row ∷ []))
+  puts-end rows row = rw (← put-end rows row) (puts-list format kind 0 rows (length rows) row (omega arith))
+
+  -- a row is put after the others of a clerk's list
+  puts-own_end : (lists : List (List A)) (owner : ℕ) (row : A) → owner < length lists
+      → Puts (own_lines format kind 0 lists) (row_line format kind owner (slice_index (map length lists) owner) row)
+      (own_lines format kind 0 (with_list lists owner (list_at lists owner ++ row ∷ [])))
+  puts-own_end lists owner row there =
+      rw (length-list_at lists owner, ← put-end (list_at lists owner) row)
+      (puts-own format kind lists owner (length (list_at lists owner)) row there (omega arith))
+
 -- the line of a change makes the lines of tables those of the changed tables
 pub puts-change : (rows : Rows) (change : Change) → AreTables rows → Fits rows change
     → Puts (lines_of rows) (line_of_change (shape_of rows) change) (lines_of (changed rows change))
-puts-change rows (Clerk place row) are fits =
-    rw (
-      own_lines-with_clerk session 7 rows.sessions place (length rows.clerks),
-      own_lines-with_clerk committed 8 rows.records place (length rows.clerks),
-      own_lines-with_clerk batch 9 rows.batches place (length rows.clerks),
-    )
-    (past_version rows (row_line clerk 1 0 place row) (list_lines clerk 1 0 0 (put rows.clerks place row)
-    ++ from_schemas false rows) (omega arith)
-    (puts-front (list_lines clerk 1 0 0 rows.clerks) (list_lines clerk 1 0 0 (put rows.clerks place row))
-    (from_schemas false rows) (row_line clerk 1 0 place row)
-    (puts-list clerk 1 0 rows.clerks place row fits.0)
-    (later-free (row_line clerk 1 0 place row) (from_schemas false rows) (schemas-stand false rows).kinds)))
-puts-change rows (Schema row) are fits =
-    past_clerks rows (row_line schema 2 0 (length rows.schemas) row) _ (omega arith)
-    (puts-last schema 2 rows.schemas row (from_masters false rows) (masters-stand false rows).kinds)
-puts-change rows (Master row) are fits =
-    past_schemas rows (row_line master 3 0 (length rows.masters) row) _ (omega arith)
-    (puts-last master 3 rows.masters row (from_rulebooks false rows) (rulebooks-stand false rows).kinds)
-puts-change rows (Rulebook row) are fits =
-    past_masters rows (row_line rulebook 4 0 (length rows.rulebooks) row) _ (omega arith)
-    (puts-last rulebook 4 rows.rulebooks row (from_editions false rows) (editions-stand false rows).kinds)
-puts-change rows (Edition row) are fits =
-    past_rulebooks rows (row_line edition 5 0 (length rows.editions) row) _ (omega arith)
-    (puts-last edition 5 rows.editions row (from_regions false rows) (regions-stand false rows).kinds)
-puts-change rows (Region row) are fits =
-    past_editions rows (row_line region 6 0 (length rows.regions) row) _ (omega arith)
-    (puts-last region 6 rows.regions row (from_sessions false rows) (sessions-stand false rows).kinds)
-puts-change rows (Session owner place row) are fits =
-    let there : owner < length rows.sessions = omega (arith, are.sessions.each, fits.0) in
-    let line = row_line session 7 owner place row in
-    past_regions rows line _ (omega arith)
-    (puts-front (own_lines session 7 0 rows.sessions) _ (from_records false rows) line
-    (puts-own session 7 rows.sessions owner place row there fits.1.0)
-    (later-free line (from_records false rows) (records-stand false rows).kinds))
-puts-change rows (Record owner row) are fits =
-    let there : owner < length rows.records = omega (arith, are.records.each, fits.0) in
-    let place = length (list_at rows.records owner) in
-    let line = row_line committed 8 owner place row in
-    subst (λ at. Puts (lines_of rows) (row_line committed 8 owner at row) (lines_of (changed rows (Record owner row))))
-    (sym (length-list_at rows.records owner)) (rw (← put-more (list_at rows.records owner) row)
-    (past_regions rows line _ (omega arith)
-    (puts-behind (own_lines session 7 0 rows.sessions) (from_records false rows) _ line
-    (kind-free 7 line (own_lines session 7 0 rows.sessions) (λ e. absurd (omega arith))
-    (own_lines-kind session 7 0 rows.sessions))
-    (puts-front (own_lines committed 8 0 rows.records) _ (from_batches false rows) line
-    (puts-own committed 8 rows.records owner place row there (omega arith))
-    (later-free line (from_batches false rows) (batches-stand false rows).kinds)))))
-puts-change rows (Batch owner row) are fits =
-    let there : owner < length rows.batches = omega (arith, are.batches.each, fits.0) in
-    let place = length (list_at rows.batches owner) in
-    let line = row_line batch 9 owner place row in
-    subst (λ at. Puts (lines_of rows) (row_line batch 9 owner at row) (lines_of (changed rows (Batch owner row))))
-    (sym (length-list_at rows.batches owner)) (rw (← put-more (list_at rows.batches owner) row)
-    (past_regions rows line _ (omega arith)
-    (puts-behind (own_lines session 7 0 rows.sessions) (from_records false rows) _ line
-    (kind-free 7 line (own_lines session 7 0 rows.sessions) (λ e. absurd (omega arith))
-    (own_lines-kind session 7 0 rows.sessions))
-    (puts-behind (own_lines committed 8 0 rows.records) (from_batches false rows) _ line
-    (kind-free 8 line (own_lines committed 8 0 rows.records) (λ e. absurd (omega arith))
-    (own_lines-kind committed 8 0 rows.records))
-    (puts-own batch 9 rows.batches owner place row there (omega arith))))))
+puts-change rows change are fits = put_over change fits
+  where
+    at_part : (kind : ℕ) (line : Line) (after : List Line) → line.kind ≡ 0 + kind → kind < 10
+        → Puts (list_at (parts_of false rows) kind) line after
+        → Puts (lines_of rows) line (joined (set (parts_of false rows) kind after))
+    at_part kind line after of there = puts-joined kind 0 (parts_of false rows) line after (AreParts-parts_of false rows)
+        of there
 
+    put_over : (change : Change) → Fits rows change
+        → Puts (lines_of rows) (line_of_change (shape_of rows) change) (lines_of (changed rows change))
+    put_over (Clerk place row) (inside, few) =
+        rw (
+          own_lines-with_clerk session 7 rows.sessions place (length rows.clerks),
+          own_lines-with_clerk committed 8 rows.records place (length rows.clerks),
+          own_lines-with_clerk batch 9 rows.batches place (length rows.clerks),
+        ) (at_part 1 (row_line clerk 1 0 place row) _ refl (omega arith)
+        (puts-list clerk 1 0 rows.clerks place row inside))
+    put_over (Schema row) fits = at_part 2 _ _ refl (omega arith) (puts-end schema 2 rows.schemas row)
+    put_over (Master row) fits = at_part 3 _ _ refl (omega arith) (puts-end master 3 rows.masters row)
+    put_over (Rulebook row) fits = at_part 4 _ _ refl (omega arith) (puts-end rulebook 4 rows.rulebooks row)
+    put_over (Edition row) fits = at_part 5 _ _ refl (omega arith) (puts-end edition 5 rows.editions row)
+    put_over (Region row) fits = at_part 6 _ _ refl (omega arith) (puts-end region 6 rows.regions row)
+    put_over (Session owner place row) (there, fits) = at_part 7 _ _ refl (omega arith)
+        (puts-own session 7 rows.sessions owner place row (omega (arith, are.sessions.each)) fits.0)
+    put_over (Record owner row) (there, fits) = at_part 8 _ _ refl (omega arith)
+        (puts-own_end committed 8 rows.records owner row (omega (arith, are.records.each)))
+    put_over (Batch owner row) (there, fits) = at_part 9 _ _ refl (omega arith)
+        (puts-own_end batch 9 rows.batches owner row (omega (arith, are.batches.each)))
+
+-- there is one length more where a clerk comes
 map-with_clerk : {A : Type 0} (lists : List (List A)) (place clerks : ℕ)
     → map length (with_clerk lists place clerks) ≡ with_empty (map length lists) place clerks
 map-with_clerk lists place clerks = elim (cases_Bool (place == clerks)) [
@@ -179,13 +88,21 @@ map-with_clerk lists place clerks = elim (cases_Bool (place == clerks)) [
   | inr there ↦ rw there refl
 ]
 
+-- one length is replaced where a clerk's list is
 map-with_list : {A : Type 0} (lists : List (List A)) (owner : ℕ) (rows : List A)
     → map length (with_list lists owner rows) ≡ set (map length lists) owner (length rows)
 map-with_list lists owner rows = map-set length lists owner rows
 
-length-put_row : {A : Type 0} (rows : List A) (place : ℕ) (x : A)
-    → length (put rows place x) ≡ with_row (length rows) place
-length-put_row rows place x = length-put rows place x
+-- a clerk's list has one row more
+map-with_list-end : {A : Type 0} (lists : List (List A)) (owner : ℕ) (row : A)
+    → map length (with_list lists owner (list_at lists owner ++ row ∷ []))
+    ≡ set (map length lists) owner (slice_index (map length lists) owner + 1)
+map-with_list-end lists owner row =
+    rw (
+      map-with_list lists owner (list_at lists owner ++ row ∷ []),
+      length_push (list_at lists owner) row,
+      length-list_at lists owner,
+    ) refl
 
 -- the lengths of the changed tables
 pub shape-changed : (rows : Rows) (change : Change) → shape_of (changed rows change) ≡ grown (shape_of rows) change
@@ -194,7 +111,7 @@ shape-changed rows (Clerk place row) =
       map-with_clerk rows.sessions place (length rows.clerks),
       map-with_clerk rows.records place (length rows.clerks),
       map-with_clerk rows.batches place (length rows.clerks),
-      length-put_row rows.clerks place row,
+      length-put rows.clerks place row,
     ) refl
 shape-changed rows (Schema row) = rw (length_push rows.schemas row) refl
 shape-changed rows (Master row) = rw (length_push rows.masters row) refl
@@ -204,22 +121,13 @@ shape-changed rows (Region row) = rw (length_push rows.regions row) refl
 shape-changed rows (Session owner place row) =
     rw (
       map-with_list rows.sessions owner (put (list_at rows.sessions owner) place row),
-      length-put_row (list_at rows.sessions owner) place row,
+      length-put (list_at rows.sessions owner) place row,
       length-list_at rows.sessions owner,
     ) refl
-shape-changed rows (Record owner row) =
-    rw (
-      map-with_list rows.records owner (list_at rows.records owner ++ row ∷ []),
-      length_push (list_at rows.records owner) row,
-      length-list_at rows.records owner,
-    ) refl
-shape-changed rows (Batch owner row) =
-    rw (
-      map-with_list rows.batches owner (list_at rows.batches owner ++ row ∷ []),
-      length_push (list_at rows.batches owner) row,
-      length-list_at rows.batches owner,
-    ) refl
+shape-changed rows (Record owner row) = rw (map-with_list-end rows.records owner row) refl
+shape-changed rows (Batch owner row) = rw (map-with_list-end rows.batches owner row) refl
 
+-- and those after all changes
 pub shape-changed_all : (rows : Rows) (changes : List Change)
     → shape_of (changed_all rows changes) ≡ grown_all (shape_of rows) changes
 shape-changed_all rows [] = refl
@@ -270,6 +178,7 @@ puts-changes lines rows (change ∷ changes) same are fit =
     rw (← shape-changed rows change)
     (puts-changes (put_line lines line) next changes put_over (AreTables-changed rows change fit.0 are) fit.1)
 
+-- what holds of each item and of the one that replaces another
 each-set : {A : Type 0} (P : A → Type 0) (rows : List A) (place : ℕ) (x : A) → AllByRecursion P rows → P x
     → AllByRecursion P (set rows place x)
 each-set P [] place x each holds = tt
@@ -280,14 +189,11 @@ each-set P (y ∷ rows) (suc place) x each holds = (each.0, each-set P rows plac
 each-put : {A : Type 0} (P : A → Type 0) (rows : List A) (place : ℕ) (x : A) → AllByRecursion P rows → P x
     → AllByRecursion P (put rows place x)
 each-put P rows place x each holds = elim (cases_Bool (place == length rows)) [
-  | inl last ↦ rw last (each-append P rows (x ∷ []) each (holds, tt))
+  | inl last ↦ rw last (AllByRecursion-push P rows x each holds)
   | inr inside ↦ rw inside (each-set P rows place x each holds)
 ]
 
-each-more : {A : Type 0} (P : A → Type 0) (rows : List A) (x : A) → AllByRecursion P rows → P x
-    → AllByRecursion P (rows ++ x ∷ [])
-each-more P rows x each holds = each-append P rows (x ∷ []) each (holds, tt)
-
+-- what holds of the rows of each clerk holds of those of one
 each-list_at : {A : Type 0} (P : A → Type 0) (lists : List (List A)) (owner : ℕ)
     → AllByRecursion (AllByRecursion P) lists
     → AllByRecursion P (list_at lists owner)
@@ -295,125 +201,50 @@ each-list_at P [] owner each = tt
 each-list_at P (rows ∷ lists) zero each = each.0
 each-list_at P (rows ∷ lists) (suc owner) each = each-list_at P lists owner each.1
 
+-- a clerk's list gets a row of which it holds too
+each-with_list-end : {A : Type 0} (P : A → Type 0) (lists : List (List A)) (owner : ℕ) (row : A)
+    → AllByRecursion (AllByRecursion P) lists → P row
+    → AllByRecursion (AllByRecursion P) (with_list lists owner (list_at lists owner ++ row ∷ []))
+each-with_list-end P lists owner row each holds = each-set (AllByRecursion P) lists owner _ each
+    (AllByRecursion-push P (list_at lists owner) row (each-list_at P lists owner each) holds)
+
+-- there is one empty list more where a clerk comes
 each-with_clerk : {A : Type 0} (P : A → Type 0) (lists : List (List A)) (place clerks : ℕ)
     → AllByRecursion (AllByRecursion P) lists → AllByRecursion (AllByRecursion P) (with_clerk lists place clerks)
 each-with_clerk P lists place clerks each = elim (cases_Bool (place == clerks)) [
-  | inl new ↦ rw new (each-more (AllByRecursion P) lists [] each tt)
+  | inl new ↦ rw new (AllByRecursion-push (AllByRecursion P) lists [] each tt)
   | inr there ↦ rw there each
 ]
 
 -- rows that fit their fields still do after a change whose row does
 FitFields-changed : (rows : Rows) (change : Change) → FitFields false rows → FitsFields change
     → FitFields false (changed rows change)
-FitFields-changed rows (Clerk place row) fit fields = record {
-  clerks = each-put clerk.Fits rows.clerks place row fit.clerks fields;
-  schemas = fit.schemas;
-  masters = fit.masters;
-  rulebooks = fit.rulebooks;
-  editions = fit.editions;
-  regions = fit.regions;
-  sessions = each-with_clerk session.Fits rows.sessions place (length rows.clerks) fit.sessions;
-  records = each-with_clerk committed.Fits rows.records place (length rows.clerks) fit.records;
-  batches = each-with_clerk batch.Fits rows.batches place (length rows.clerks) fit.batches;
-}
-FitFields-changed rows (Schema row) fit fields = record {
-  clerks = fit.clerks;
-  schemas = each-more schema.Fits rows.schemas row fit.schemas fields;
-  masters = fit.masters;
-  rulebooks = fit.rulebooks;
-  editions = fit.editions;
-  regions = fit.regions;
-  sessions = fit.sessions;
-  records = fit.records;
-  batches = fit.batches;
-}
-FitFields-changed rows (Master row) fit fields = record {
-  clerks = fit.clerks;
-  schemas = fit.schemas;
-  masters = each-more master.Fits rows.masters row fit.masters fields;
-  rulebooks = fit.rulebooks;
-  editions = fit.editions;
-  regions = fit.regions;
-  sessions = fit.sessions;
-  records = fit.records;
-  batches = fit.batches;
-}
-FitFields-changed rows (Rulebook row) fit fields = record {
-  clerks = fit.clerks;
-  schemas = fit.schemas;
-  masters = fit.masters;
-  rulebooks = each-more rulebook.Fits rows.rulebooks row fit.rulebooks fields;
-  editions = fit.editions;
-  regions = fit.regions;
-  sessions = fit.sessions;
-  records = fit.records;
-  batches = fit.batches;
-}
-FitFields-changed rows (Edition row) fit fields = record {
-  clerks = fit.clerks;
-  schemas = fit.schemas;
-  masters = fit.masters;
-  rulebooks = fit.rulebooks;
-  editions = each-more edition.Fits rows.editions row fit.editions fields;
-  regions = fit.regions;
-  sessions = fit.sessions;
-  records = fit.records;
-  batches = fit.batches;
-}
-FitFields-changed rows (Region row) fit fields = record {
-  clerks = fit.clerks;
-  schemas = fit.schemas;
-  masters = fit.masters;
-  rulebooks = fit.rulebooks;
-  editions = fit.editions;
-  regions = each-more region.Fits rows.regions row fit.regions fields;
-  sessions = fit.sessions;
-  records = fit.records;
-  batches = fit.batches;
-}
-FitFields-changed rows (Session owner place row) fit fields = record {
-  clerks = fit.clerks;
-  schemas = fit.schemas;
-  masters = fit.masters;
-  rulebooks = fit.rulebooks;
-  editions = fit.editions;
-  regions = fit.regions;
-  sessions = each-set (AllByRecursion session.Fits) rows.sessions owner
-      (put (list_at rows.sessions owner) place row) fit.sessions
-      (each-put session.Fits (list_at rows.sessions owner) place row
-      (each-list_at session.Fits rows.sessions owner fit.sessions) fields);
-  records = fit.records;
-  batches = fit.batches;
-}
-FitFields-changed rows (Record owner row) fit fields = record {
-  clerks = fit.clerks;
-  schemas = fit.schemas;
-  masters = fit.masters;
-  rulebooks = fit.rulebooks;
-  editions = fit.editions;
-  regions = fit.regions;
-  sessions = fit.sessions;
-  records = each-set (AllByRecursion committed.Fits) rows.records owner
-      (list_at rows.records owner ++ row ∷ []) fit.records
-      (each-more committed.Fits (list_at rows.records owner) row
-      (each-list_at committed.Fits rows.records owner fit.records) fields);
-  batches = fit.batches;
-}
-FitFields-changed rows (Batch owner row) fit fields = record {
-  clerks = fit.clerks;
-  schemas = fit.schemas;
-  masters = fit.masters;
-  rulebooks = fit.rulebooks;
-  editions = fit.editions;
-  regions = fit.regions;
-  sessions = fit.sessions;
-  records = fit.records;
-  batches = each-set (AllByRecursion batch.Fits) rows.batches owner
-      (list_at rows.batches owner ++ row ∷ []) fit.batches
-      (each-more batch.Fits (list_at rows.batches owner) row
-      (each-list_at batch.Fits rows.batches owner fit.batches) fields);
-}
+FitFields-changed rows (Clerk place row) fit fields = assumption (
+  each-put clerk.Fits rows.clerks place row fit.clerks fields,
+  each-with_clerk session.Fits rows.sessions place (length rows.clerks) fit.sessions,
+  each-with_clerk committed.Fits rows.records place (length rows.clerks) fit.records,
+  each-with_clerk batch.Fits rows.batches place (length rows.clerks) fit.batches,
+)
+FitFields-changed rows (Schema row) fit fields =
+    assumption (AllByRecursion-push schema.Fits rows.schemas row fit.schemas fields)
+FitFields-changed rows (Master row) fit fields =
+    assumption (AllByRecursion-push master.Fits rows.masters row fit.masters fields)
+FitFields-changed rows (Rulebook row) fit fields =
+    assumption (AllByRecursion-push rulebook.Fits rows.rulebooks row fit.rulebooks fields)
+FitFields-changed rows (Edition row) fit fields =
+    assumption (AllByRecursion-push edition.Fits rows.editions row fit.editions fields)
+FitFields-changed rows (Region row) fit fields =
+    assumption (AllByRecursion-push region.Fits rows.regions row fit.regions fields)
+FitFields-changed rows (Session owner place row) fit fields =
+    assumption (each-set (AllByRecursion session.Fits) rows.sessions owner (put (list_at rows.sessions owner) place row)
+    fit.sessions (each-put session.Fits (list_at rows.sessions owner) place row
+    (each-list_at session.Fits rows.sessions owner fit.sessions) fields))
+FitFields-changed rows (Record owner row) fit fields =
+    assumption (each-with_list-end committed.Fits rows.records owner row fit.records fields)
+FitFields-changed rows (Batch owner row) fit fields =
+    assumption (each-with_list-end batch.Fits rows.batches owner row fit.batches fields)
 
+-- and after all changes whose rows do
 FitFields-changed_all : (rows : Rows) (changes : List Change) → FitFields false rows → AllByRecursion FitsFields changes
     → FitFields false (changed_all rows changes)
 FitFields-changed_all rows [] fit fields = fit

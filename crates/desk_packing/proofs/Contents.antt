@@ -1,10 +1,11 @@
 -- Which bytes are a text.
-use Rattle.std.proofs.Common.{◌≡◌, ℕ, ◌≤◌, List, true, false, length, inl, inr}
+use Rattle.std.proofs.Common.{◌≡◌, ℕ, ◌≤◌, List, true, false, length}
 use Rattle.std.specs.Prelude.{IsUtf8, nat_le}
 use Rattle.std.specs.Str.{is_utf8}
-use Rattle.std.proofs.lemmas.Bool.{and_right, cases_Bool, le-leb}
-use Rattle.std.proofs.lemmas.Str.{IsUtf8-from_is_utf8, is_utf8-from_IsUtf8}
+use Rattle.std.proofs.lemmas.Bool.{and_right, le-leb}
+use Rattle.std.proofs.lemmas.Str.{is_utf8-from_IsUtf8}
 use Rattle.desk_base.specs.declared.limits.TheConstants.{MAX_TEXT}
+use Rattle.desk_base.proofs.Utf8.{is_utf8-other}
 use Rattle.desk_packing.specs.Formats.{is_text}
 
 -- at most 200 bytes of UTF-8 are a text
@@ -15,7 +16,4 @@ is_text-fits bytes short utf8 =
 
 -- bytes that are not UTF-8 are none
 pub is_text-other : (bytes : List ℕ) → (IsUtf8 bytes → ⊥) → is_text bytes ≡ false
-is_text-other bytes other = elim (cases_Bool (is_utf8 bytes)) [
-  | inl utf8 ↦ absurd (other (IsUtf8-from_is_utf8 bytes utf8))
-  | inr not_utf8 ↦ and_right (nat_le (length bytes) MAX_TEXT) (is_utf8 bytes) not_utf8
-]
+is_text-other bytes other = and_right (nat_le (length bytes) MAX_TEXT) (is_utf8 bytes) (is_utf8-other bytes other)

@@ -1,16 +1,17 @@
 -- Each way to make a format of formats keeps that what is written is read back, and that nothing else is read.
-use Rattle.std.proofs.Common.{◌≡◌, ℕ, zero, suc, ◌<◌, ◌^◌, ◌%◌, Bool, true, false, inl, inr}
+use Rattle.std.proofs.Common.{◌≡◌, ℕ, zero, suc, ◌<◌, ◌^◌, ◌%◌, Bool, true, false}
 use Rattle.std.proofs.Common.{List, [], ◌∷◌, ◌++◌, length, take, drop, get_or, Some, None, Option, refl, sym, ap, ap₂}
 use Rattle.std.proofs.Common.{◌∙◌}
 use Rattle.std.proofs.Common.{append_assoc, length-append, arith}
 use Rattle.std.specs.Prelude.{flat_map, option_map, IsTrue, nat_le, nat_lt, slice_get, if◌then◌else◌}
 use Rattle.std.specs.Int.{w16, w32, w64, to_be_bytes, from_be_bytes}
 use Rattle.std.specs.List.{AllByRecursion, list_all}
-use Rattle.std.proofs.lemmas.Bool.{and_from, and_parts, cases_Bool, le-leb, leb-true, lt-ltb, ltb-true}
+use Rattle.std.proofs.lemmas.Bool.{and_from, and_parts, le-leb, leb-true, lt-ltb, ltb-true}
 use Rattle.std.proofs.lemmas.List.{take_at, drop_at, take-append-drop, length-take-le}
 use Rattle.std.proofs.lemmas.Nat.{be_bytes_2, be_bytes_4, be_bytes_8}
 use Rattle.std.proofs.lemmas.Nat.{from_be_bytes-to_be_bytes_2, from_be_bytes-to_be_bytes_4, from_be_bytes-to_be_bytes_8}
-use Rattle.desk_packing.proofs.Options.{and_then-some, map-some, some-pair}
+use Rattle.desk_base.proofs.Options.{option_map-Some}
+use Rattle.desk_packing.proofs.Options.{and_then-some, if-some, pair-parts, some-pair}
 use Rattle.desk_packing.specs.Formats.{Format, IsApart, IsExact, has_bytes, split, fixed, sized, passing, coded}
 use Rattle.desk_packing.specs.Formats.{coded_in}
 use Rattle.desk_packing.specs.Formats.{items_in, counted, both, formed, none, u16, u32, u64, text, is_text, bytes, list}
@@ -47,20 +48,17 @@ module _ (count limit : ℕ) (print : ℕ → List ℕ) (read : List ℕ → ℕ
 
   number-only : (packed rest : List ℕ) (n : ℕ) → number.parse packed ≡ Some (n, rest)
       → (n < limit) × (packed ≡ print n ++ rest)
-  number-only packed rest n found = elim (cases_Bool (has_bytes count packed)) [
-    | inl there ↦
-        let parts = and_parts (nat_le count (length packed)) _ there in
-        let each = λ (i : ℕ). below-at (take count packed) i parts.1 in
-        let is = some-pair (read (take count packed)) n (drop count packed) rest (rw there at found) in
-        let number_is : n ≡ read (take count packed) = sym is.0 in
-        let rest_is : drop count packed ≡ rest = is.1 in (
-          rw number_is (fits (take count packed) each),
-          sym (take-append-drop count packed)
-              ∙ ap₂ ◌++◌ (sym (comes_back (take count packed) n
-              (length-take-le count packed (leb-true count (length packed) parts.0)) each number_is)) rest_is,
-        )
-    | inr short ↦ absurd (let e = rw short at found in cc)
-  ]
+  number-only packed rest n found =
+      let (there, is) = if-some {A = ℕ × List ℕ} (has_bytes count packed) (read (take count packed), drop count packed)
+      (n, rest) found in
+      let (enough, small_front) = and_parts (nat_le count (length packed)) _ there in
+      let (number_is, rest_is) = pair-parts (read (take count packed)) n (drop count packed) rest is in
+      let each = λ (i : ℕ). below-at (take count packed) i small_front in (
+        rw (← number_is) (fits (take count packed) each),
+        sym (take-append-drop count packed)
+            ∙ ap₂ ◌++◌ (sym (comes_back (take count packed) n
+            (length-take-le count packed (leb-true count (length packed) enough)) each (sym number_is))) rest_is,
+      )
 
   pub number-exact : IsExact number
   number-exact = record { back = number-back; only = number-only }
@@ -89,14 +87,13 @@ split-back count front rest long =
 
 split-only : (count : ℕ) (packed rest front : List ℕ) → split count packed ≡ Some (front, rest)
     → (length front ≡ count) × (packed ≡ front ++ rest)
-split-only count packed rest front found = elim (cases_Bool (nat_le count (length packed))) [
-  | inl there ↦
-      let is = some-pair (take count packed) front (drop count packed) rest (rw there at found) in (
-        ap length (sym is.0) ∙ length-take-le count packed (leb-true count (length packed) there),
-        sym (take-append-drop count packed) ∙ ap₂ ◌++◌ is.0 is.1,
-      )
-  | inr short ↦ absurd (let e = rw short at found in cc)
-]
+split-only count packed rest front found =
+    let (there, is) = if-some {A = List ℕ × List ℕ} (nat_le count (length packed)) (take count packed, drop count packed)
+    (front, rest) found in
+    let (front_is, rest_is) = pair-parts (take count packed) front (drop count packed) rest is in (
+      ap length (sym front_is) ∙ length-take-le count packed (leb-true count (length packed) there),
+      sym (take-append-drop count packed) ∙ ap₂ ◌++◌ front_is rest_is,
+    )
 
 pub fixed-exact : (count : ℕ) → IsExact (fixed count)
 fixed-exact count = record {
@@ -114,11 +111,12 @@ module _ (number : Format ℕ) (exact : IsExact number) where
   sized-only : (packed rest x : List ℕ) → (sized number).parse packed ≡ Some (x, rest)
       → number.Fits (length x) × (packed ≡ (sized number).print x ++ rest)
   sized-only packed rest x found =
-      let first = and_then-some (λ found. split found.0 found.1) (number.parse packed) (x, rest) found in
-      let count = exact.only packed first.0.1 first.0.0 first.1 in
-      let parts = split-only first.0.0 first.0.1 rest x first.2 in (
-        rw parts.0 count.0,
-        count.1 ∙ ap₂ (λ n more. number.print n ++ more) (sym parts.0) parts.1
+      let (front, front_is, split_is) = and_then-some (λ found. split found.0 found.1) (number.parse packed) (x, rest)
+      found in
+      let (fits, starts) = exact.only packed front.1 front.0 front_is in
+      let (long, follows) = split-only front.0 front.1 rest x split_is in (
+        rw long fits,
+        starts ∙ ap₂ (λ n more. number.print n ++ more) (sym long) follows
             ∙ sym (append_assoc (number.print (length x)) x rest),
       )
 
@@ -129,17 +127,11 @@ module _ {A : Type 0} (test : A → Bool) (format : Format A) (exact : IsExact f
   passing-only : (packed rest : List ℕ) (x : A) → (passing test format).parse packed ≡ Some (x, rest)
       → (format.Fits x × IsTrue (test x)) × (packed ≡ format.print x ++ rest)
   passing-only packed rest x found =
-      let first = and_then-some (λ found. if test found.0 then Some found else None) (format.parse packed) (x, rest)
-      found in
-      elim (cases_Bool (test first.0.0)) [
-        | inl passes ↦
-            let is : ◌≡◌ {A = Option (A × List ℕ)} (Some first.0) (Some (x, rest)) = rw passes at first.2 in
-            let same : first.0 ≡ (x, rest) = cc in
-            let was : format.parse packed ≡ Some (x, rest) = first.1 ∙ ap Some same in
-            let parts = exact.only packed rest x was in
-            ((parts.0, sym (ap (λ (p : A × List ℕ). test p.0) same) ∙ passes), parts.1)
-        | inr fails ↦ absurd (let e = rw fails at first.2 in cc)
-      ]
+      let (front, front_is, kept) = and_then-some (λ found. if test found.0 then Some found else None)
+      (format.parse packed) (x, rest) found in
+      let (passes, same) = if-some {A = A × List ℕ} (test front.0) front (x, rest) kept in
+      let (fits, starts) = exact.only packed rest x (front_is ∙ ap Some same) in
+      ((fits, sym (ap (λ (p : A × List ℕ). test p.0) same) ∙ passes), starts)
 
   pub passing-exact : IsExact (passing test format)
   passing-exact = record {
@@ -153,10 +145,9 @@ module _ {A : Type 0} (values : List A) (code : A → ℕ) (at_code : (x : A) �
       → Unit {0} × (packed ≡ code x ∷ rest)
   coded-only [] rest x found = absurd cc
   coded-only (byte ∷ behind) rest x found =
-      let first = map-some (λ x. (x, behind)) (slice_get values byte) (x, rest) found in
-      let same : first.0 ≡ x = ap (λ (p : A × List ℕ). p.0) first.2 in
-      let rest_is : behind ≡ rest = ap (λ (p : A × List ℕ). p.1) first.2 in
-      (tt, ap₂ ◌∷◌ (is_code byte x (first.1 ∙ ap Some same)) rest_is)
+      let (value, there, made) = option_map-Some (λ x. (x, behind)) (slice_get values byte) (x, rest) found in
+      let (same, rest_is) = pair-parts value x behind rest made in
+      (tt, ap₂ ◌∷◌ (is_code byte x (there ∙ ap Some same)) rest_is)
 
   pub coded-exact : IsExact (coded values code)
   coded-exact = record { back = λ x rest fits. rw (at_code x); only = coded-only }
@@ -176,22 +167,22 @@ module _ {A : Type 0} (number : Format ℕ) (number_exact : IsExact number) (for
   items-only : (count : ℕ) (packed rest : List ℕ) (xs : List A) → items_in format count packed ≡ Some (xs, rest)
       → (length xs ≡ count) × AllByRecursion format.Fits xs × (packed ≡ flat_map format.print xs ++ rest)
   items-only zero packed rest xs found =
-      let is = some-pair [] xs packed rest found in
-      rw (← is.0) (refl, tt, is.1)
+      let (none, rest_is) = some-pair [] xs packed rest found in
+      rw (← none) (refl, tt, rest_is)
   items-only (suc count) packed rest xs found =
-      let first = and_then-some
+      let (first, first_is, next) = and_then-some
       (λ first. option_map (λ more. (first.0 ∷ more.0, more.1)) (items_in format count first.1))
       (format.parse packed) (xs, rest) found in
-      let more = map-some (λ more. (first.0.0 ∷ more.0, more.1)) (items_in format count first.0.1) (xs, rest) first.2 in
-      let one = exact.only packed first.0.1 first.0.0 first.1 in
-      let others = items-only count first.0.1 more.0.1 more.0.0 more.1 in
-      let xs_are : xs ≡ first.0.0 ∷ more.0.0 = sym (ap (λ (p : List A × List ℕ). p.0) more.2) in
-      let rest_is : more.0.1 ≡ rest = ap (λ (p : List A × List ℕ). p.1) more.2 in
-      rw xs_are (
-        ap suc others.0,
-        (one.0, others.1),
-        one.1 ∙ ap (λ b. format.print first.0.0 ++ b) (others.2 ∙ ap (λ b. flat_map format.print more.0.0 ++ b) rest_is)
-            ∙ sym (append_assoc (format.print first.0.0) (flat_map format.print more.0.0) rest),
+      let (more, more_are, made) = option_map-Some (λ more. (first.0 ∷ more.0, more.1)) (items_in format count first.1)
+      (xs, rest) next in
+      let (xs_are, rest_is) = pair-parts (first.0 ∷ more.0) xs more.1 rest made in
+      let (fits, starts) = exact.only packed first.1 first.0 first_is in
+      let (long, fit, follow) = items-only count first.1 more.1 more.0 more_are in
+      rw (← xs_are) (
+        ap suc long,
+        (fits, fit),
+        starts ∙ ap (λ b. format.print first.0 ++ b) (follow ∙ ap (λ b. flat_map format.print more.0 ++ b) rest_is)
+            ∙ sym (append_assoc (format.print first.0) (flat_map format.print more.0) rest),
       )
 
   counted-back : (xs : List A) (rest : List ℕ) → (counted number format).Fits xs
@@ -205,11 +196,12 @@ module _ {A : Type 0} (number : Format ℕ) (number_exact : IsExact number) (for
   counted-only : (packed rest : List ℕ) (xs : List A) → (counted number format).parse packed ≡ Some (xs, rest)
       → (counted number format).Fits xs × (packed ≡ (counted number format).print xs ++ rest)
   counted-only packed rest xs found =
-      let first = and_then-some (λ found. items_in format found.0 found.1) (number.parse packed) (xs, rest) found in
-      let count = number_exact.only packed first.0.1 first.0.0 first.1 in
-      let parts = items-only first.0.0 first.0.1 rest xs first.2 in (
-        (rw parts.0 count.0, parts.1),
-        count.1 ∙ ap₂ (λ n more. number.print n ++ more) (sym parts.0) parts.2
+      let (front, front_is, items_are) = and_then-some (λ found. items_in format found.0 found.1) (number.parse packed)
+      (xs, rest) found in
+      let (fits, starts) = number_exact.only packed front.1 front.0 front_is in
+      let (long, fit, follow) = items-only front.0 front.1 rest xs items_are in (
+        (rw long fits, fit),
+        starts ∙ ap₂ (λ n more. number.print n ++ more) (sym long) follow
             ∙ sym (append_assoc (number.print (length xs)) (flat_map format.print xs) rest),
       )
 
@@ -229,17 +221,17 @@ module _ {A B : Type 0} (f : Format A) (g : Format B) (f_exact : IsExact f) (g_e
   both-only : (packed rest : List ℕ) (x : A × B) → (both f g).parse packed ≡ Some (x, rest)
       → (both f g).Fits x × (packed ≡ (both f g).print x ++ rest)
   both-only packed rest x found =
-      let first = and_then-some
+      let (first, first_is, next) = and_then-some
       (λ one. option_map (λ other. ((one.0, other.0), other.1)) (g.parse one.1)) (f.parse packed) (x, rest) found in
-      let second = map-some (λ other. ((first.0.0, other.0), other.1)) (g.parse first.0.1) (x, rest) first.2 in
-      let one = f_exact.only packed first.0.1 first.0.0 first.1 in
-      let other = g_exact.only first.0.1 second.0.1 second.0.0 second.1 in
-      let x_is : x ≡ (first.0.0, second.0.0) = sym (ap (λ (p : (A × B) × List ℕ). p.0) second.2) in
-      let rest_is : second.0.1 ≡ rest = ap (λ (p : (A × B) × List ℕ). p.1) second.2 in
-      rw x_is (
-        (one.0, other.0),
-        one.1 ∙ ap (λ b. f.print first.0.0 ++ b) (other.1 ∙ ap (λ b. g.print second.0.0 ++ b) rest_is)
-            ∙ sym (append_assoc (f.print first.0.0) (g.print second.0.0) rest),
+      let (second, second_is, made) = option_map-Some (λ other. ((first.0, other.0), other.1)) (g.parse first.1)
+      (x, rest) next in
+      let (x_is, rest_is) = pair-parts {A = A × B} (first.0, second.0) x second.1 rest made in
+      let (one_fits, starts) = f_exact.only packed first.1 first.0 first_is in
+      let (other_fits, follows) = g_exact.only first.1 second.1 second.0 second_is in
+      rw (← x_is) (
+        (one_fits, other_fits),
+        starts ∙ ap (λ b. f.print first.0 ++ b) (follows ∙ ap (λ b. g.print second.0 ++ b) rest_is)
+            ∙ sym (append_assoc (f.print first.0) (g.print second.0) rest),
       )
 
   pub both-exact : IsExact (both f g)
@@ -250,12 +242,12 @@ module _ {A B : Type 0} (format : Format A) (into : A → B) (back : B → A) (i
   formed-only : (packed rest : List ℕ) (y : B) → (formed format into back).parse packed ≡ Some (y, rest)
       → format.Fits (back y) × (packed ≡ format.print (back y) ++ rest)
   formed-only packed rest y found =
-      let first = map-some (λ found. (into found.0, found.1)) (format.parse packed) (y, rest) found in
-      let y_is : back y ≡ first.0.0
-      = ap (λ (p : B × List ℕ). back p.0) (sym first.2) ∙ back-into first.0.0 in
-      let rest_is : first.0.1 ≡ rest = ap (λ (p : B × List ℕ). p.1) first.2 in
-      let parts = exact.only packed first.0.1 first.0.0 first.1 in
-      rw y_is (parts.0, parts.1 ∙ ap (λ b. format.print first.0.0 ++ b) rest_is)
+      let (front, front_is, made) = option_map-Some (λ found. (into found.0, found.1)) (format.parse packed) (y, rest)
+      found in
+      let (into_is, rest_is) = pair-parts (into front.0) y front.1 rest made in
+      let y_is : back y ≡ front.0 = ap back (sym into_is) ∙ back-into front.0 in
+      let (fits, starts) = exact.only packed front.1 front.0 front_is in
+      rw y_is (fits, starts ∙ ap (λ b. format.print front.0 ++ b) rest_is)
 
   pub formed-exact : IsExact (formed format into back)
   formed-exact = record {
@@ -267,8 +259,8 @@ pub none-exact : {A : Type 0} → IsExact (none {A = A})
 none-exact {A} = record {
   back = λ x rest fits. rw fits;
   only = λ packed rest x found.
-      let is = some-pair [] x packed rest found in
-      (sym is.0, is.1);
+      let (none, rest_is) = some-pair [] x packed rest found in
+      (sym none, rest_is);
 }
 
 pub text-exact : IsExact text

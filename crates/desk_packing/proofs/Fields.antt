@@ -1,11 +1,12 @@
 -- What is packed as the fields of each row type is read back, and nothing else is read.
-use Rattle.std.proofs.Common.{◌≡◌, ℕ, zero, suc, List, Some, refl}
+use Rattle.std.proofs.Common.{◌≡◌, ℕ, zero, suc, Bool, List, Some, refl}
 use Rattle.std.specs.Prelude.{slice_get}
 use Rattle.desk_words.specs.declared.rows.act.Act.{Act}
 use Rattle.desk_words.specs.declared.rows.act.Act.TheVariants as act
+use Rattle.desk_words.specs.declared.rows.clerk.Digest.{Digest}
 use Rattle.desk_words.specs.declared.rows.session.Stage.{Stage}
 use Rattle.desk_words.specs.declared.rows.session.Stage.TheVariants as stage
-use Rattle.desk_packing.specs.Formats.{Format, IsExact, both, bytes, fixed, flag, list, none, text, u16, u32, u64}
+use Rattle.desk_packing.specs.Formats.{Format, IsExact, both, bytes, fixed, flag, formed, list, none, text, u16, u32, u64}
 use Rattle.desk_packing.specs.RowFormats.{act_code, act_format, acts, batch, clerk, committed, digest, edition}
 use Rattle.desk_packing.specs.RowFormats.{edition_with, master, old_edition, region, region_format, rulebook, schema}
 use Rattle.desk_packing.specs.RowFormats.{session, stage_code, stage_format, stages}
@@ -67,106 +68,117 @@ beside one other = record {
   exact = both-exact one.format other.format one.exact other.exact;
 }
 
+-- a text
 abbrev a_text : Proved (List ℕ)
 a_text = record { format = text; exact = text-exact }
 
+-- a number of four bytes
 abbrev a_u32 : Proved ℕ
 a_u32 = record { format = u32; exact = u32-exact }
 
+-- a number of eight bytes
 abbrev a_u64 : Proved ℕ
 a_u64 = record { format = u64; exact = u64-exact }
 
+-- bytes of any kind
 abbrev some_bytes : Proved (List ℕ)
 some_bytes = record { format = bytes; exact = bytes-exact }
 
+-- texts
 abbrev some_texts : Proved (List (List ℕ))
 some_texts = record { format = list text; exact = list-exact text text-exact }
 
+-- places of rows
 abbrev places : Proved (List ℕ)
 places = record { format = list u32; exact = list-exact u32 u32-exact }
 
+-- attributes
 abbrev attributes : Proved (List ℕ)
 attributes = record { format = list u16; exact = list-exact u16 u16-exact }
 
+-- digests
 digest-exact : IsExact digest
 digest-exact = formed-exact (fixed 32) (λ found. record { bytes = found }) (λ row. row.bytes) (λ row. refl)
     (λ found. refl)
     (fixed-exact 32)
 
-pub clerk-exact : IsExact clerk
-clerk-exact =
-    let fields = beside a_text (beside a_u64 (beside (record { format = digest; exact = digest-exact })
-    (beside (record { format = act_format; exact = act-exact }) a_u32))) in
-    formed-exact fields.format
-    (λ f. record { name = f.0; last = f.1.0; digest = f.1.1.0; act = f.1.1.1.0; target = f.1.1.1.1 })
-    (λ row. (row.name, (row.last, (row.digest, (row.act, row.target))))) (λ row. refl) (λ f. refl) fields.exact
+-- a digest
+abbrev a_digest : Proved Digest
+a_digest = record { format = digest; exact = digest-exact }
 
-pub schema-exact : IsExact schema
-schema-exact =
-    let fields = beside a_text (beside a_u32 some_bytes) in
-    formed-exact fields.format (λ f. record { name = f.0; version = f.1.0; body = f.1.1 })
-    (λ row. (row.name, (row.version, row.body))) (λ row. refl) (λ f. refl) fields.exact
+-- an act
+abbrev an_act : Proved Act
+an_act = record { format = act_format; exact = act-exact }
 
-pub master-exact : IsExact master
-master-exact =
-    let fields = beside a_text (beside a_u32 some_bytes) in
-    formed-exact fields.format (λ f. record { name = f.0; version = f.1.0; body = f.1.1 })
-    (λ row. (row.name, (row.version, row.body))) (λ row. refl) (λ f. refl) fields.exact
+-- a stage
+abbrev a_stage : Proved Stage
+a_stage = record { format = stage_format; exact = stage-exact }
 
-pub rulebook-exact : IsExact rulebook
-rulebook-exact =
-    let fields = beside a_text (beside a_u32 (beside a_u32 some_bytes)) in
-    formed-exact fields.format (λ f. record { name = f.0; version = f.1.0; schema = f.1.1.0; body = f.1.1.1 })
-    (λ row. (row.name, (row.version, (row.schema, row.body)))) (λ row. refl) (λ f. refl) fields.exact
+-- a flag
+abbrev a_flag : Proved Bool
+a_flag = record { format = flag; exact = flag-exact }
 
-edition_with-exact : (folded : Proved (List ℕ)) → IsExact (edition_with folded.format)
-edition_with-exact folded =
-    let fields = beside a_text (beside a_u32 (beside a_u32 (beside places folded))) in
-    formed-exact fields.format
-    (λ f. record { name = f.0; version = f.1.0; rulebook = f.1.1.0; masters = f.1.1.1.0; folded = f.1.1.1.1 })
-    (λ row. (row.name, (row.version, (row.rulebook, (row.masters, row.folded))))) (λ row. refl) (λ f. refl)
+-- flags
+abbrev some_flags : Proved (List Bool)
+some_flags = record { format = list flag; exact = list-exact flag flag-exact }
+
+-- rows of proved fields are exact
+formed_of-exact : {A B : Type 0} (fields : Proved A) (into : A → B) (back : B → A) → ((y : B) → into (back y) ≡ y)
+    → ((x : A) → back (into x) ≡ x) → IsExact (formed fields.format into back)
+formed_of-exact fields into back into-back back-into = formed-exact fields.format into back into-back back-into
     fields.exact
 
+-- clerks
+pub clerk-exact : IsExact clerk
+clerk-exact = formed_of-exact (beside a_text (beside a_u64 (beside a_digest (beside an_act a_u32)))) _ _ (λ row. refl)
+    (λ f. refl)
+
+-- schemas
+pub schema-exact : IsExact schema
+schema-exact = formed_of-exact (beside a_text (beside a_u32 some_bytes)) _ _ (λ row. refl) (λ f. refl)
+
+-- masters
+pub master-exact : IsExact master
+master-exact = formed_of-exact (beside a_text (beside a_u32 some_bytes)) _ _ (λ row. refl) (λ f. refl)
+
+-- rulebooks
+pub rulebook-exact : IsExact rulebook
+rulebook-exact = formed_of-exact (beside a_text (beside a_u32 (beside a_u32 some_bytes))) _ _ (λ row. refl) (λ f. refl)
+
+-- editions, in the version of their folded attributes
+edition_with-exact : (folded : Proved (List ℕ)) → IsExact (edition_with folded.format)
+edition_with-exact folded = formed_of-exact (beside a_text (beside a_u32 (beside a_u32 (beside places folded)))) _ _
+    (λ row. refl) (λ f. refl)
+
+-- editions of this version
 pub edition-exact : IsExact edition
 edition-exact = edition_with-exact attributes
 
+-- editions of the old one
 pub old_edition-exact : IsExact old_edition
 old_edition-exact = edition_with-exact (record { format = none; exact = none-exact })
 
+-- regions by themselves
 region_format-exact : IsExact region_format
-region_format-exact =
-    let fields = beside attributes (record {
-      format = list (list text);
-      exact = list-exact (list text)
-          some_texts.exact;
-    }) in
-    formed-exact fields.format (λ f. record { attrs = f.0; rows = f.1 }) (λ row. (row.attrs, row.rows)) (λ row. refl)
-    (λ f. refl) fields.exact
+region_format-exact = formed_of-exact (beside attributes (record {
+  format = list (list text);
+  exact = list-exact (list text) some_texts.exact;
+})) _ _ (λ row. refl) (λ f. refl)
 
+-- regions of editions
 pub region-exact : IsExact region
-region-exact =
-    let fields = beside a_u32 (record { format = region_format; exact = region_format-exact }) in
-    formed-exact fields.format (λ f. record { edition = f.0; region = f.1 }) (λ row. (row.edition, row.region))
-    (λ row. refl) (λ f. refl) fields.exact
+region-exact = formed_of-exact (beside a_u32 (record { format = region_format; exact = region_format-exact })) _ _
+    (λ row. refl) (λ f. refl)
 
+-- sessions
 pub session-exact : IsExact session
-session-exact =
-    let fields = beside a_u32 (beside some_texts (beside
-    (record { format = list flag; exact = list-exact flag flag-exact })
-    (beside (record { format = stage_format; exact = stage-exact }) a_u32))) in
-    formed-exact fields.format
-    (λ f. record { edition = f.0; typed = f.1.0; confirmed = f.1.1.0; stage = f.1.1.1.0; batch = f.1.1.1.1 })
-    (λ row. (row.edition, (row.typed, (row.confirmed, (row.stage, row.batch))))) (λ row. refl) (λ f. refl)
-    fields.exact
+session-exact = formed_of-exact (beside a_u32 (beside some_texts (beside some_flags (beside a_stage a_u32)))) _ _
+    (λ row. refl) (λ f. refl)
 
+-- records
 pub committed-exact : IsExact committed
-committed-exact =
-    let fields = beside a_u32 (beside some_texts (record { format = flag; exact = flag-exact })) in
-    formed-exact fields.format (λ f. record { session = f.0; texts = f.1.0; certain = f.1.1 })
-    (λ row. (row.session, (row.texts, row.certain))) (λ row. refl) (λ f. refl) fields.exact
+committed-exact = formed_of-exact (beside a_u32 (beside some_texts a_flag)) _ _ (λ row. refl) (λ f. refl)
 
+-- batches
 pub batch-exact : IsExact batch
-batch-exact =
-    let fields = beside a_u32 (beside a_u32 a_u32) in
-    formed-exact fields.format (λ f. record { edition = f.0; first = f.1.0; count = f.1.1 })
-    (λ row. (row.edition, (row.first, row.count))) (λ row. refl) (λ f. refl) fields.exact
+batch-exact = formed_of-exact (beside a_u32 (beside a_u32 a_u32)) _ _ (λ row. refl) (λ f. refl)

@@ -4,6 +4,7 @@ pub mod Exact
 pub mod Fields
 pub mod Found
 pub mod Items
+pub mod Joined
 pub mod Migrating
 pub mod Options
 pub mod Order

@@ -1,7 +1,8 @@
 -- The lines of the migration make the lines of the old version those of the new one.
-use Rattle.std.proofs.Common.{◌≡◌, ℕ, ◌+◌, ◌<◌, ◌≤◌, true, false, List, [], ◌∷◌, ◌++◌, refl, sym, append_assoc, arith}
+use Rattle.std.proofs.Common.{◌≡◌, ℕ, ◌+◌, ◌<◌, ◌≤◌, true, false, ◌==◌, List, [], ◌∷◌, ◌++◌, take, refl, sym, append_assoc, arith}
 use Rattle.std.specs.Prelude.{IsPermutation}
 use Rattle.std.specs.List.{AllByRecursion}
+use Rattle.std.proofs.lemmas.Bool.{and_left, ne_eqb}
 use Rattle.std.proofs.lemmas.List.Sorted.{IsPermutation-refl, IsPermutation-sym, IsPermutation-trans}
 use Rattle.desk_words.specs.declared.rows.edition.EditionRow.{EditionRow}
 use Rattle.desk_words.specs.Tables.{Rows}
@@ -10,12 +11,12 @@ use Rattle.desk_packing.specs.Lines.{Line, put_line, put_lines, same_key}
 use Rattle.desk_packing.specs.RowFormats.{clerk, edition, master, old_edition, rulebook, schema}
 use Rattle.desk_packing.specs.Shapes.{migration_lines}
 use Rattle.desk_packing.specs.Stands.{StandIn, lines_of, list_lines, old_lines_of, row_line, version_line}
-use Rattle.desk_packing.proofs.Permutations.{each-append}
-use Rattle.desk_packing.proofs.Putting.{IsFree, Puts, kind-free, later-free, list_lines-below, place-apart}
+use Rattle.desk_packing.proofs.Joined.{joined, joined-before}
+use Rattle.desk_packing.proofs.Permutations.{each-append, each-weaker}
+use Rattle.desk_packing.proofs.Putting.{IsFree, Puts, later-free, list_lines-below, place-apart}
 use Rattle.desk_packing.proofs.Putting.{put_lines-permutation}
 use Rattle.desk_packing.proofs.Putting.{kept-free, puts-behind, puts-front, same_key-own}
-use Rattle.desk_packing.proofs.Standing.{list_lines-kind}
-use Rattle.desk_packing.proofs.Stood.{clerks-stand, from_clerks, from_regions, regions-stand}
+use Rattle.desk_packing.proofs.Stood.{AreParts-parts_of, StandFrom-lines_from, lines_from, parts_of}
 
 -- the list is put anew in another format, between lines of other lists
 module _ {A : Type 0} (old new : Format A) (kind : ℕ) (behind : List Line)
@@ -59,51 +60,39 @@ module _ {A : Type 0} (old new : Format A) (kind : ℕ) (behind : List Line)
 module _ (rows : Rows) where
   -- what stands in front of the editions
   abbrev in_front : List Line
-  in_front = version_line false ∷ (list_lines clerk 1 0 0 rows.clerks ++ (list_lines schema 2 0 0 rows.schemas
-      ++ (list_lines master 3 0 0 rows.masters ++ list_lines rulebook 4 0 0 rows.rulebooks)))
+  in_front = joined (take 5 (parts_of false rows))
 
   -- no edition is among it
   no_edition : (line : Line) → line.kind ≡ 5 → IsFree line in_front
-  no_edition line is =
-      let Free : Line → Type 0 = λ other. same_key other line ≡ false in
-      let apart : (kind : ℕ) → kind < 5 → kind ≡ line.kind → ⊥ = λ kind less e. absurd (omega arith) in (
-        (kind-free 0 line (version_line false ∷ []) (apart 0 (omega arith)) (refl, tt)).0,
-        each-append Free (list_lines clerk 1 0 0 rows.clerks) _
-            (kind-free 1 line (list_lines clerk 1 0 0 rows.clerks) (apart 1 (omega arith))
-            (list_lines-kind clerk 1 0 0 rows.clerks))
-            (each-append Free (list_lines schema 2 0 0 rows.schemas) _
-            (kind-free 2 line (list_lines schema 2 0 0 rows.schemas) (apart 2 (omega arith))
-            (list_lines-kind schema 2 0 0 rows.schemas))
-            (each-append Free (list_lines master 3 0 0 rows.masters) _
-            (kind-free 3 line (list_lines master 3 0 0 rows.masters) (apart 3 (omega arith))
-            (list_lines-kind master 3 0 0 rows.masters))
-            (kind-free 4 line (list_lines rulebook 4 0 0 rows.rulebooks) (apart 4 (omega arith))
-            (list_lines-kind rulebook 4 0 0 rows.rulebooks)))),
-      )
+  no_edition line is = each-weaker (λ other. other.kind < 5) (λ other. same_key other line ≡ false)
+      (λ other before. and_left (other.kind == line.kind) _ (ne_eqb other.kind line.kind (λ e. absurd (omega arith))))
+      in_front (joined-before 5 0 (parts_of false rows) (AreParts-parts_of false rows))
 
+  -- the lines of tables before and after the editions
   split_at_editions : (lines : List Line)
       → version_line false ∷ (list_lines clerk 1 0 0 rows.clerks ++ (list_lines schema 2 0 0 rows.schemas
       ++ (list_lines master 3 0 0 rows.masters ++ (list_lines rulebook 4 0 0 rows.rulebooks ++ lines))))
       ≡ in_front ++ lines
   split_at_editions lines = simp append_assoc
 
-  new_version : Puts (old_lines_of rows) (version_line false) (version_line false ∷ from_clerks true rows)
+  -- the line of the version is replaced
+  new_version : Puts (old_lines_of rows) (version_line false) (version_line false ∷ lines_from true rows 1)
   new_version =
-      rw (kept-free (version_line false) (from_clerks true rows)
-      (later-free (version_line false) (from_clerks true rows) (clerks-stand true rows).kinds))
-      (IsPermutation-refl (version_line false ∷ from_clerks true rows))
+      rw (kept-free (version_line false) (lines_from true rows 1)
+      (later-free (version_line false) (lines_from true rows 1) (StandFrom-lines_from true rows 1).kinds))
+      (IsPermutation-refl (version_line false ∷ lines_from true rows 1))
 
   -- put over the lines of the old version, the lines of the migration are those of the new one
   pub puts-migration : IsPermutation (put_lines (old_lines_of rows) (migration_lines rows)) (lines_of rows)
   puts-migration =
       let editions = list_lines edition 5 0 0 rows.editions in
-      let old_editions = list_lines old_edition 5 0 0 rows.editions ++ from_regions true rows in
-      IsPermutation-trans _ (put_lines (version_line false ∷ from_clerks true rows) editions) _
+      let old_editions = list_lines old_edition 5 0 0 rows.editions ++ lines_from true rows 6 in
+      IsPermutation-trans _ (put_lines (version_line false ∷ lines_from true rows 1) editions) _
       (put_lines-permutation (put_line (old_lines_of rows) (version_line false))
-      (version_line false ∷ from_clerks true rows) editions new_version)
-      (rw (split_at_editions old_editions, split_at_editions (editions ++ from_regions true rows))
-      (anew old_edition edition 5 (from_regions true rows) (regions-stand true rows).kinds 0 rows.editions in_front
-      (λ line is above. no_edition line is)))
+      (version_line false ∷ lines_from true rows 1) editions new_version)
+      (rw (split_at_editions old_editions, split_at_editions (editions ++ lines_from true rows 6))
+      (anew old_edition edition 5 (lines_from true rows 6) (StandFrom-lines_from true rows 6).kinds 0 rows.editions
+      in_front (λ line is above. no_edition line is)))
 
 -- lines that stand for tables in the old version stand for them in the new one once the lines of the migration are put
 pub StandIn-migration : (lines : List Line) (rows : Rows) → StandIn true lines rows
@@ -111,17 +100,7 @@ pub StandIn-migration : (lines : List Line) (rows : Rows) → StandIn true lines
     → StandIn false (put_lines lines (migration_lines rows)) rows
 StandIn-migration lines rows stand fit = record {
   tables = stand.tables;
-  fit = record {
-    clerks = stand.fit.clerks;
-    schemas = stand.fit.schemas;
-    masters = stand.fit.masters;
-    rulebooks = stand.fit.rulebooks;
-    editions = fit;
-    regions = stand.fit.regions;
-    sessions = stand.fit.sessions;
-    records = stand.fit.records;
-    batches = stand.fit.batches;
-  };
+  fit = assumption (fit, stand.fit);
   same = IsPermutation-trans (lines_of rows) (put_lines (old_lines_of rows) (migration_lines rows)) _
       (IsPermutation-sym _ (lines_of rows) (puts-migration rows))
       (put_lines-permutation (old_lines_of rows) lines (migration_lines rows) stand.same);
@@ -131,7 +110,6 @@ StandIn-migration lines rows stand fit = record {
 pub old_editions-fit : (editions : List EditionRow) → AllByRecursion old_edition.Fits editions
     → AllByRecursion edition.Fits editions
 old_editions-fit [] fit = tt
-old_editions-fit (row ∷ editions) fit =
-    let none : row.folded ≡ [] = fit.0.1.1.1.1 in
+old_editions-fit (row ∷ editions) ((name, (version, (rulebook, (masters, none)))), fit) =
     let few : (list u16).Fits row.folded = rw none (omega arith, tt) in
-    ((fit.0.0, (fit.0.1.0, (fit.0.1.1.0, (fit.0.1.1.1.0, few)))), old_editions-fit editions fit.1)
+    ((name, (version, (rulebook, (masters, few)))), old_editions-fit editions fit)

@@ -8,7 +8,7 @@ use Rattle.std.proofs.lemmas.Bool.Decides.{nat_tests}
 use Rattle.std.proofs.lemmas.List.Sorted.{IsPermutation-cons, IsPermutation-refl, IsPermutation-trans}
 use Rattle.desk_packing.specs.Lines.{AreByKey, Line, comes_before, same_key}
 use Rattle.desk_packing.specs.Reading.{by_key, insert_line}
-use Rattle.desk_packing.proofs.Permutations.{along, each-append, each-weaker, turn}
+use Rattle.desk_packing.proofs.Permutations.{along, each-append, each-turned, each-weaker, turn}
 
 -- a key below another
 abbrev below : ℕ → ℕ → ℕ → ℕ → ℕ → ℕ → Bool
@@ -130,10 +130,10 @@ stay-under x xs ys before apart =
     }
 
 stay-turned : (x y : Line) (xs : List Line) → AreApart (x ∷ y ∷ xs) → StaySo (x ∷ y ∷ xs) (y ∷ x ∷ xs)
-stay-turned x y xs apart = record {
-  apart = ((same_key-turned y x ∙ apart.0.0, apart.1.0), (apart.0.1, apart.1.1));
-  order = insert-either x y (by_key xs) apart.0.0;
-  keys = λ line each. (each.1.0, (each.0, each.1.1));
+stay-turned x y xs ((heads, first), (next, others)) = record {
+  apart = ((same_key-turned y x ∙ heads, next), (first, others));
+  order = insert-either x y (by_key xs) heads;
+  keys = λ line. each-turned (λ other. same_key line other ≡ false) x y xs;
 }
 
 pub by_key-permutation : (xs ys : List Line) → IsPermutation xs ys → AreApart xs → StaySo xs ys

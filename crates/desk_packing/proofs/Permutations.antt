@@ -72,13 +72,18 @@ module _ {X : Type 0} where
         (λ xs. IsPermutation-refl (filter p xs)) filter-under filter-turned
         (λ xs ys zs. IsPermutation-trans (filter p xs) (filter p ys) (filter p zs))
 
+  -- what holds of each item holds of each with the first two in the other order
+  pub each-turned : (P : X → Type 0) (x y : X) (xs : List X) → AllByRecursion P (x ∷ y ∷ xs)
+      → AllByRecursion P (y ∷ x ∷ xs)
+  each-turned P x y xs (first, (next, each)) = (next, (first, each))
+
   -- what holds of each item holds of each in another order
   pub each-permutation : (P : X → Type 0) (xs ys : List X) → IsPermutation xs ys → AllByRecursion P xs
       → AllByRecursion P ys
   each-permutation P = along (λ xs ys. AllByRecursion P xs → AllByRecursion P ys)
       (λ xs each. each)
       (λ x xs ys before each. (each.0, before each.1))
-      (λ x y xs each. (each.1.0, (each.0, each.1.1)))
+      (each-turned P)
       (λ xs ys zs first then each. then (first each))
 
   pub each-append : (P : X → Type 0) (xs ys : List X) → AllByRecursion P xs → AllByRecursion P ys

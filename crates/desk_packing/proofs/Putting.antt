@@ -226,7 +226,3 @@ module _ {A : Type 0} (format : Format A) (kind : ℕ) where
     | inl new ↦ rw new (own_lines-empty 0 lists)
     | inr there ↦ rw there refl
   ]
-
--- behind the others is at the place that is their number
-pub put-more : {A : Type 0} (rows : List A) (x : A) → put rows (length rows) x ≡ rows ++ x ∷ []
-put-more rows x = rw (eq-eqb (length rows) (length rows) refl) refl

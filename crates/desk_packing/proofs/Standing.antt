@@ -1,6 +1,6 @@
 -- The lines of tables are read back as the tables, and nothing else is read.
 use Rattle.std.proofs.Common.{◌≡◌, inl, inr, ℕ, zero, suc, ◌+◌, ◌<◌, ◌≤◌, ◌^◌, true, false, ◌&&◌, ◌==◌, List, [], ◌∷◌}
-use Rattle.std.proofs.Common.{◌++◌, length, Some, None, Option, All, refl, sym, ap, ap₂, ◌∙◌, append_assoc}
+use Rattle.std.proofs.Common.{◌++◌, length, Some, None, All, refl, sym, ap, ap₂, ◌∙◌, append_assoc}
 use Rattle.std.proofs.Common.{append-nil, arith}
 use Rattle.std.specs.Prelude.{nat_le, nat_lt, if◌then◌else◌, option_map}
 use Rattle.std.specs.List.{AllByRecursion}
@@ -13,7 +13,8 @@ use Rattle.desk_packing.specs.Formats.{Format, IsExact, whole}
 use Rattle.desk_packing.specs.Lines.{Line}
 use Rattle.desk_packing.specs.Reading.{is_of, list_in, lists_in, row_at}
 use Rattle.desk_packing.specs.Stands.{list_lines, own_lines, row_line}
-use Rattle.desk_packing.proofs.Options.{and_then-some, map-some}
+use Rattle.desk_base.proofs.Options.{option_map-Some}
+use Rattle.desk_packing.proofs.Options.{and_then-some, if-found, if-some, pair-parts, some-pair}
 use Rattle.desk_packing.proofs.Permutations.{each-append, each-weaker}
 
 -- of no line is the list of this kind and owner
@@ -67,6 +68,20 @@ module _ {A : Type 0} (format : Format A) where
       (ne_eqb line.owner owner (λ e. absurd (omega arith))))
       (own_lines format kind (owner + 1) lists) (own_lines-owner kind owner (owner + 1) lists (omega arith))
 
+-- the rows stand in front of the lines, from a place on, and nothing but the rest comes after them
+pub record IsListIn {A : Type 0} (format : Format A) (kind owner place : ℕ) (rows : List A) (lines rest : List Line)
+    : Type 0 where
+  pub fit : AllByRecursion format.Fits rows
+  pub lines_are : lines ≡ list_lines format kind owner place rows ++ rest
+  pub few : place + length rows < 2 ^ 31
+
+-- so do the lists of so many clerks
+pub record AreListsIn {A : Type 0} (format : Format A) (kind owner clerks : ℕ) (lists : List (List A))
+    (lines rest : List Line) : Type 0 where
+  pub fit : AllByRecursion (AllByRecursion format.Fits) lists
+  pub lines_are : lines ≡ own_lines format kind owner lists ++ rest
+  pub are : AreListsOf clerks lists
+
 module _ {A : Type 0} (format : Format A) (exact : IsExact format) where
   whole-back : (x : A) → format.Fits x → whole format (format.print x) ≡ Some x
   whole-back x fits =
@@ -75,21 +90,16 @@ module _ {A : Type 0} (format : Format A) (exact : IsExact format) where
 
   whole-only : (packed : List ℕ) (x : A) → whole format packed ≡ Some x → format.Fits x × (packed ≡ format.print x)
   whole-only packed x found =
-      let first = and_then-some (λ found. if nat_le (length found.1) 0 then Some found.0 else None)
+      let (front, front_is, made) = and_then-some (λ found. if nat_le (length found.1) 0 then Some found.0 else None)
       (format.parse packed) x found in
-      let parts = exact.only packed first.0.1 first.0.0 first.1 in
-      elim (cases_Bool (nat_le (length first.0.1) 0)) [
-        | inl none ↦
-            let less : length first.0.1 ≤ 0 = leb-true (length first.0.1) 0 none in
-            let empty : first.0.1 ≡ [] = nil_from_length first.0.1 (omega arith) in
-            let same : ◌≡◌ {A = Option A} (Some first.0.0) (Some x) = rw none at first.2 in
-            let is : first.0.0 ≡ x = cc in (
-              rw (← is) parts.0,
-              parts.1 ∙ ap (λ rest. format.print first.0.0 ++ rest) empty ∙ append-nil (format.print first.0.0)
-                  ∙ ap format.print is,
-            )
-        | inr some ↦ absurd (let e = rw some at first.2 in cc)
-      ]
+      let (none, is) = if-some (nat_le (length front.1) 0) front.0 x made in
+      let less : length front.1 ≤ 0 = leb-true (length front.1) 0 none in
+      let empty : front.1 ≡ [] = nil_from_length front.1 (omega arith) in
+      let (fits, starts) = exact.only packed front.1 front.0 front_is in (
+        rw (← is) fits,
+        starts ∙ ap (λ rest. format.print front.0 ++ rest) empty ∙ append-nil (format.print front.0)
+            ∙ ap format.print is,
+      )
 
   row_at-back : (kind owner place : ℕ) (x : A) → format.Fits x → place + 1 < 2 ^ 31
       → row_at format place (row_line format kind owner place x) ≡ Some x
@@ -99,19 +109,17 @@ module _ {A : Type 0} (format : Format A) (exact : IsExact format) where
   row_at-only : (kind owner place : ℕ) (line : Line) (x : A) → is_of kind owner line ≡ true
       → row_at format place line ≡ Some x
       → format.Fits x × (line ≡ row_line format kind owner place x) × (place + 1 < 2 ^ 31)
-  row_at-only kind owner place line x is found = elim
-      (cases_Bool ((line.place == place) && nat_lt (place + 1) (2 ^ 31))) [
-        | inl there ↦
-            let keys = and_parts (line.kind == kind) (line.owner == owner) is in
-            let at = and_parts (line.place == place) (nat_lt (place + 1) (2 ^ 31)) there in
-            let parts = whole-only line.body x (rw there at found) in (
-              parts.0,
-              line-is line kind owner place (format.print x) (eqb-true line.kind kind keys.0)
-                  (eqb-true line.owner owner keys.1) (eqb-true line.place place at.0) parts.1,
-              ltb-true (place + 1) (2 ^ 31) at.1,
-            )
-        | inr elsewhere ↦ absurd (let e = rw elsewhere at found in cc)
-      ]
+  row_at-only kind owner place line x is found =
+      let (there, whole_is) = if-found ((line.place == place) && nat_lt (place + 1) (2 ^ 31)) (whole format line.body) x
+      found in
+      let (same_kind, same_owner) = and_parts (line.kind == kind) (line.owner == owner) is in
+      let (same_place, short) = and_parts (line.place == place) (nat_lt (place + 1) (2 ^ 31)) there in
+      let (fits, body) = whole-only line.body x whole_is in (
+        fits,
+        line-is line kind owner place (format.print x) (eqb-true line.kind kind same_kind)
+            (eqb-true line.owner owner same_owner) (eqb-true line.place place same_place) body,
+        ltb-true (place + 1) (2 ^ 31) short,
+      )
 
   list_in-none_of : (kind owner place : ℕ) (rest : List Line) → AreOthers kind owner rest
       → list_in format kind owner place rest ≡ Some ([], rest)
@@ -129,37 +137,29 @@ module _ {A : Type 0} (format : Format A) (exact : IsExact format) where
 
   pub list_in-only : (kind owner place : ℕ) (lines rest : List Line) (rows : List A) → place < 2 ^ 31
       → list_in format kind owner place lines ≡ Some (rows, rest)
-      → AllByRecursion format.Fits rows × (lines ≡ list_lines format kind owner place rows ++ rest)
-      × (place + length rows < 2 ^ 31)
+      → IsListIn format kind owner place rows lines rest
   list_in-only kind owner place [] rest rows short found =
-      let same : ◌≡◌ {A = List A × List Line} ([], []) (rows, rest) = cc in
-      let rows_are : rows ≡ [] = ap (λ (p : List A × List Line). p.0) (sym same) in
-      let rest_is : [] ≡ rest = ap (λ (p : List A × List Line). p.1) same in
-      rw rows_are (tt, rest_is, omega arith)
+      let (none, rest_is) = some-pair [] rows [] rest found in
+      rw (← none) (record { fit = tt; lines_are = rest_is; few = omega arith })
   list_in-only kind owner place (line ∷ lines) rest rows short found = elim (cases_Bool (is_of kind owner line)) [
     | inl is ↦
-        let first = and_then-some
+        let (row, row_is, next) = and_then-some
         (λ row. option_map (λ more. (row ∷ more.0, more.1)) (list_in format kind owner (place + 1) lines))
         (row_at format place line) (rows, rest) (rw is at found) in
-        let more = map-some (λ more. (first.0 ∷ more.0, more.1)) (list_in format kind owner (place + 1) lines)
-        (rows, rest)
-        first.2 in
-        let one = row_at-only kind owner place line first.0 is first.1 in
-        let others = list_in-only kind owner (place + 1) lines more.0.1 more.0.0 one.2 more.1 in
-        let rows_are : rows ≡ first.0 ∷ more.0.0 = sym (ap (λ (p : List A × List Line). p.0) more.2) in
-        let rest_is : more.0.1 ≡ rest = ap (λ (p : List A × List Line). p.1) more.2 in
-        rw rows_are (
-          (one.0, others.0),
-          ap₂ ◌∷◌ one.1 (others.1 ∙ ap (λ b. list_lines format kind owner (place + 1) more.0.0 ++ b) rest_is),
-          omega (arith, others.2),
-        )
+        let (more, more_are, made) = option_map-Some (λ more. (row ∷ more.0, more.1))
+        (list_in format kind owner (place + 1) lines) (rows, rest) next in
+        let (rows_are, rest_is) = pair-parts (row ∷ more.0) rows more.1 rest made in
+        let (fits, starts, below) = row_at-only kind owner place line row is row_is in
+        let others = list_in-only kind owner (place + 1) lines more.1 more.0 below more_are in
+        rw (← rows_are) (record {
+          fit = (fits, others.fit);
+          lines_are = ap₂ ◌∷◌ starts
+              (others.lines_are ∙ ap (λ b. list_lines format kind owner (place + 1) more.0 ++ b) rest_is);
+          few = omega (arith, others.few);
+        })
     | inr other ↦
-        let same : ◌≡◌ {A = Option (List A × List Line)} (Some ([], line ∷ lines)) (Some (rows, rest))
-        = rw other at found in
-        let pairs : ◌≡◌ {A = List A × List Line} ([], line ∷ lines) (rows, rest) = cc in
-        let rows_are : rows ≡ [] = ap (λ (p : List A × List Line). p.0) (sym pairs) in
-        let rest_is : line ∷ lines ≡ rest = ap (λ (p : List A × List Line). p.1) pairs in
-        rw rows_are (tt, rest_is, omega arith)
+        let (none, rest_is) = some-pair [] rows (line ∷ lines) rest (rw other at found) in
+        rw (← none) (record { fit = tt; lines_are = rest_is; few = omega arith })
   ]
 
   pub lists_in-back : (kind owner : ℕ) (lists : List (List A)) (rest : List Line)
@@ -178,31 +178,26 @@ module _ {A : Type 0} (format : Format A) (exact : IsExact format) where
 
   pub lists_in-only : (kind owner clerks : ℕ) (lines rest : List Line) (lists : List (List A))
       → lists_in format kind owner clerks lines ≡ Some (lists, rest)
-      → AllByRecursion (AllByRecursion format.Fits) lists × (lines ≡ own_lines format kind owner lists ++ rest)
-      × AreListsOf clerks lists
+      → AreListsIn format kind owner clerks lists lines rest
   lists_in-only kind owner zero lines rest lists found =
-      let same : ◌≡◌ {A = List (List A) × List Line} ([], lines) (lists, rest) = cc in
-      let lists_are : lists ≡ [] = ap (λ (p : List (List A) × List Line). p.0) (sym same) in
-      let rest_is : lines ≡ rest = ap (λ (p : List (List A) × List Line). p.1) same in
-      rw lists_are (tt, rest_is, record { each = refl; short = All-nil IsShort })
+      let (none, rest_is) = some-pair [] lists lines rest found in
+      rw (← none) (record { fit = tt; lines_are = rest_is; are = record { each = refl; short = All-nil IsShort } })
   lists_in-only kind owner (suc clerks) lines rest lists found =
-      let first = and_then-some
+      let (rows, rows_are, next) = and_then-some
       (λ rows. option_map (λ more. (rows.0 ∷ more.0, more.1)) (lists_in format kind (owner + 1) clerks rows.1))
       (list_in format kind owner 0 lines) (lists, rest) found in
-      let more = map-some (λ more. (first.0.0 ∷ more.0, more.1)) (lists_in format kind (owner + 1) clerks first.0.1)
-      (lists, rest) first.2 in
-      let one = list_in-only kind owner 0 lines first.0.1 first.0.0 (omega arith) first.1 in
-      let others = lists_in-only kind (owner + 1) clerks first.0.1 more.0.1 more.0.0 more.1 in
-      let lists_are : lists ≡ first.0.0 ∷ more.0.0 = sym (ap (λ (p : List (List A) × List Line). p.0) more.2) in
-      let rest_is : more.0.1 ≡ rest = ap (λ (p : List (List A) × List Line). p.1) more.2 in
-      rw lists_are (
-        (one.0, others.0),
-        one.1 ∙ ap (λ b. list_lines format kind owner 0 first.0.0 ++ b)
-            (others.1 ∙ ap (λ b. own_lines format kind (owner + 1) more.0.0 ++ b) rest_is)
-            ∙ sym (append_assoc (list_lines format kind owner 0 first.0.0)
-            (own_lines format kind (owner + 1) more.0.0) rest),
-        record {
-          each = ap suc others.2.each;
-          short = All-cons IsShort first.0.0 more.0.0 (omega (arith, one.2)) others.2.short;
-        },
-      )
+      let (more, more_are, made) = option_map-Some (λ more. (rows.0 ∷ more.0, more.1))
+      (lists_in format kind (owner + 1) clerks rows.1) (lists, rest) next in
+      let (lists_are, rest_is) = pair-parts (rows.0 ∷ more.0) lists more.1 rest made in
+      let one = list_in-only kind owner 0 lines rows.1 rows.0 (omega arith) rows_are in
+      let others = lists_in-only kind (owner + 1) clerks rows.1 more.1 more.0 more_are in
+      rw (← lists_are) (record {
+        fit = (one.fit, others.fit);
+        lines_are = one.lines_are ∙ ap (λ b. list_lines format kind owner 0 rows.0 ++ b)
+            (others.lines_are ∙ ap (λ b. own_lines format kind (owner + 1) more.0 ++ b) rest_is)
+            ∙ sym (append_assoc (list_lines format kind owner 0 rows.0) (own_lines format kind (owner + 1) more.0) rest);
+        are = record {
+          each = ap suc others.are.each;
+          short = All-cons IsShort rows.0 more.0 (omega (arith, one.few)) others.are.short;
+        };
+      })

@@ -1,5 +1,5 @@
 -- How each row type is packed: its fields in their order, one behind another.
-use Rattle.std.specs.Prelude.{ℕ, List, [], ◌∷◌}
+use Rattle.std.specs.Prelude.{ℕ, Bool, List, [], ◌∷◌}
 use Rattle.desk_words.specs.declared.rows.act.Act.{Act}
 use Rattle.desk_words.specs.declared.rows.act.Act.TheVariants as act
 use Rattle.desk_words.specs.declared.rows.batch.BatchRow.{BatchRow}
@@ -58,34 +58,54 @@ stage_format = coded stages stage_code
 abbrev pub digest : Format Digest
 digest = formed (fixed 32) (λ found. record { bytes = found }) (λ row. row.bytes)
 
+-- a clerk from its fields in their order
+abbrev pub clerk_from : List ℕ × (ℕ × (Digest × (Act × ℕ))) → ClerkRow
+clerk_from (name, (last, (sent, (deed, target)))) = record { name = name; last = last; digest = sent; act = deed; target = target }
+
 -- a clerk: the name, and the number, digest, act and target of the last request
 abbrev pub clerk : Format ClerkRow
 clerk = formed (both text (both u64 (both digest (both act_format u32))))
-    (λ f. record { name = f.0; last = f.1.0; digest = f.1.1.0; act = f.1.1.1.0; target = f.1.1.1.1 })
+    clerk_from
     (λ row. (row.name, (row.last, (row.digest, (row.act, row.target)))))
+
+-- a schema from its fields in their order
+abbrev pub schema_from : List ℕ × (ℕ × List ℕ) → SchemaRow
+schema_from (name, (version, body)) = record { name = name; version = version; body = body }
 
 -- a schema: name, version and text
 abbrev pub schema : Format SchemaRow
 schema = formed (both text (both u32 bytes))
-    (λ f. record { name = f.0; version = f.1.0; body = f.1.1 })
+    schema_from
     (λ row. (row.name, (row.version, row.body)))
+
+-- a master from its fields in their order
+abbrev pub master_from : List ℕ × (ℕ × List ℕ) → MasterRow
+master_from (name, (version, body)) = record { name = name; version = version; body = body }
 
 -- a master: name, version and sheet
 abbrev pub master : Format MasterRow
 master = formed (both text (both u32 bytes))
-    (λ f. record { name = f.0; version = f.1.0; body = f.1.1 })
+    master_from
     (λ row. (row.name, (row.version, row.body)))
+
+-- a rulebook from its fields in their order
+abbrev pub rulebook_from : List ℕ × (ℕ × (ℕ × List ℕ)) → RulebookRow
+rulebook_from (name, (version, (schema_at, body))) = record { name = name; version = version; schema = schema_at; body = body }
 
 -- a rulebook: name, version, the place of its schema, and text
 abbrev pub rulebook : Format RulebookRow
 rulebook = formed (both text (both u32 (both u32 bytes)))
-    (λ f. record { name = f.0; version = f.1.0; schema = f.1.1.0; body = f.1.1.1 })
+    rulebook_from
     (λ row. (row.name, (row.version, (row.schema, row.body))))
+
+-- an edition from its fields in their order
+abbrev pub edition_from : List ℕ × (ℕ × (ℕ × (List ℕ × List ℕ))) → EditionRow
+edition_from (name, (version, (rulebook_at, (masters_at, folded)))) = record { name = name; version = version; rulebook = rulebook_at; masters = masters_at; folded = folded }
 
 -- an edition: name, version, the places of its rulebook and masters, and the folded attributes in the format given
 abbrev pub edition_with : Format (List ℕ) → Format EditionRow
 edition_with folded = formed (both text (both u32 (both u32 (both (list u32) folded))))
-    (λ f. record { name = f.0; version = f.1.0; rulebook = f.1.1.0; masters = f.1.1.1.0; folded = f.1.1.1.1 })
+    edition_from
     (λ row. (row.name, (row.version, (row.rulebook, (row.masters, row.folded)))))
 
 -- an edition of this version
@@ -108,20 +128,32 @@ region = formed (both u32 region_format)
     (λ f. record { edition = f.0; region = f.1 })
     (λ row. (row.edition, row.region))
 
+-- a session from its fields in their order
+abbrev pub session_from : ℕ × (List (List ℕ) × (List Bool × (Stage × ℕ))) → SessionRow
+session_from (edition_at, (typed, (confirmed, (reached, batch_at)))) = record { edition = edition_at; typed = typed; confirmed = confirmed; stage = reached; batch = batch_at }
+
 -- a session: the place of its edition, the typed texts, the flags of what is confirmed, the stage and the batch
 abbrev pub session : Format SessionRow
 session = formed (both u32 (both (list text) (both (list flag) (both stage_format u32))))
-    (λ f. record { edition = f.0; typed = f.1.0; confirmed = f.1.1.0; stage = f.1.1.1.0; batch = f.1.1.1.1 })
+    session_from
     (λ row. (row.edition, (row.typed, (row.confirmed, (row.stage, row.batch)))))
+
+-- a record from its fields in their order
+abbrev pub committed_from : ℕ × (List (List ℕ) × Bool) → RecordRow
+committed_from (session_at, (texts, certain)) = record { session = session_at; texts = texts; certain = certain }
 
 -- a record: the place of its session, the texts, and whether they are certain
 abbrev pub committed : Format RecordRow
 committed = formed (both u32 (both (list text) flag))
-    (λ f. record { session = f.0; texts = f.1.0; certain = f.1.1 })
+    committed_from
     (λ row. (row.session, (row.texts, row.certain)))
+
+-- a batch from its fields in their order
+abbrev pub batch_from : ℕ × (ℕ × ℕ) → BatchRow
+batch_from (edition_at, (first, count)) = record { edition = edition_at; first = first; count = count }
 
 -- a batch: the place of its edition, the place of its first session, and how many they are
 abbrev pub batch : Format BatchRow
 batch = formed (both u32 (both u32 u32))
-    (λ f. record { edition = f.0; first = f.1.0; count = f.1.1 })
+    batch_from
     (λ row. (row.edition, (row.first, row.count)))

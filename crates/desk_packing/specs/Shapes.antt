@@ -25,47 +25,39 @@ pub record Lengths : Type 0 where
   pub records : List ℕ
   pub batches : List ℕ
 
--- it is stored as the pairs of its fields
+-- the fields in pairs
+abbrev pub LengthPairs : Type 0
+LengthPairs = ℕ × (ℕ × (ℕ × (ℕ × (ℕ × (ℕ × (List ℕ × (List ℕ × List ℕ)))))))
+
+-- the lengths in pairs
+abbrev pub length_pairs : Lengths → LengthPairs
+length_pairs s = (
+  s.clerks,
+  (s.schemas, (s.masters, (s.rulebooks, (s.editions, (s.regions, (s.sessions, (s.records, s.batches))))))),
+)
+
+-- the lengths from pairs
+abbrev pub lengths_from : LengthPairs → Lengths
+lengths_from (clerks, (schemas, (masters, (rulebooks, (editions, (regions, (sessions, (records, batches)))))))) =
+    record {
+      clerks = clerks;
+      schemas = schemas;
+      masters = masters;
+      rulebooks = rulebooks;
+      editions = editions;
+      regions = regions;
+      sessions = sessions;
+      records = records;
+      batches = batches;
+    }
+
+-- they are stored in pairs
 abbrev pub lengths_code : Coded Lengths
-lengths_code = code_by (ℕ × (ℕ × (ℕ × (ℕ × (ℕ × (ℕ × (List ℕ × (List ℕ × List ℕ))))))))
+lengths_code = code_by LengthPairs
     (coded× coded_ℕ (coded× coded_ℕ (coded× coded_ℕ (coded× coded_ℕ (coded× coded_ℕ (coded× coded_ℕ
     (coded× (coded_list coded_ℕ) (coded× (coded_list coded_ℕ) (coded_list coded_ℕ)))))))))
-    (λ s. (
-      s.clerks,
-      (
-        s.schemas,
-        (
-          s.masters,
-          (
-            s.rulebooks,
-            (
-              s.editions,
-              (
-                s.regions,
-                (
-                  s.sessions,
-                  (
-                    s.records,
-                    s.batches,
-                  ),
-                ),
-              ),
-            ),
-          ),
-        ),
-      ),
-    ))
-    (λ p. record {
-      clerks = p.0;
-      schemas = p.1.0;
-      masters = p.1.1.0;
-      rulebooks = p.1.1.1.0;
-      editions = p.1.1.1.1.0;
-      regions = p.1.1.1.1.1.0;
-      sessions = p.1.1.1.1.1.1.0;
-      records = p.1.1.1.1.1.1.1.0;
-      batches = p.1.1.1.1.1.1.1.1;
-    })
+    length_pairs
+    lengths_from
     (λ _. refl)
 
 -- how long the lists of the tables are

@@ -2,10 +2,9 @@ use Rattle.std.proofs.Common.{◌≡◌, ℕ, ◌≤◌, ◌∙◌, ◌==◌, tr
 use Rattle.std.specs.Prelude.{nat_le}
 use Rattle.std.proofs.lemmas.Bool.{eqb-false, eqb-true, le-leb, lt-leb}
 use Rattle.std.proofs.lemmas.List.{length-map}
-use Rattle.desk_words.specs.Tables.{Rows, lists_of}
 use Rattle.desk_packing.specs.declared.line.PackedRow.{PackedRow}
 use Rattle.desk_packing.specs.Lines.{line_of}
-use Rattle.desk_packing.proofs.Stood.{AreRead, tables_in-AreRead}
+use Rattle.desk_packing.proofs.Stood.{tables_in-read}
 use Rattle.desk_packing.proofs.unpacking.unpack_tables.Goals as goal
 
 -- a number that is not 0 is at least 1
@@ -28,74 +27,20 @@ some_left rows some =
 
 pub returns-then-is_whole-clause-read : goal.returns-then-is_whole-clause-read
 returns-then-is_whole-clause-read c =
-    let tables : Rows = record {
-      clerks = c.in_ok-clerks.clerks.items;
-      schemas = c.in_ok-schemas.schemas.items;
-      masters = c.in_ok-masters.masters.items;
-      rulebooks = c.in_ok-rulebooks.rulebooks.items;
-      editions = c.in_ok-editions.editions.items;
-      regions = c.in_ok-regions.regions.items;
-      sessions = lists_of c.in_ok-sessions.sessions;
-      records = lists_of c.in_ok-records.records;
-      batches = lists_of c.in_ok-batches.batches;
-    } in
-    let read : AreRead c.args.is_old (map line_of c.args.rows.now) tables = record {
-      behind_clerks = map line_of c.in_ok-clerks.rest.now;
-      behind_schemas = map line_of c.in_ok-schemas.rest.now;
-      behind_masters = map line_of c.in_ok-masters.rest.now;
-      behind_rulebooks = map line_of c.in_ok-rulebooks.rest.now;
-      behind_editions = map line_of c.in_ok-editions.rest.now;
-      behind_regions = map line_of c.in_ok-regions.rest.now;
-      behind_sessions = map line_of c.in_ok-sessions.rest.now;
-      behind_records = map line_of c.in_ok-records.rest.now;
-      behind_batches = map line_of c.in_ok-batches.rest.now;
-      clerks = c.in_ok-clerks.ensures.read;
-      schemas = c.in_ok-schemas.ensures.read;
-      masters = c.in_ok-masters.ensures.read;
-      rulebooks = c.in_ok-rulebooks.ensures.read;
-      editions = c.in_ok-editions.ensures.read;
-      regions = c.in_ok-regions.ensures.read;
-      sessions = rw c.len.ensures at c.in_ok-sessions.ensures.read;
-      records = rw c.len-2.ensures at c.in_ok-records.ensures.read;
-      batches = rw c.len-3.ensures at c.in_ok-batches.ensures.read;
-    } in
     let steward = some (length c.in_ok-clerks.clerks.items) (sym c.is_empty-no_clerk.ensures ∙ c.if-no_clerk.false) in
     let all = none_left c.in_ok-batches.rest.now (sym c.is_empty-is_whole.ensures ∙ c.if-is_whole.true) in
-    tables_in-AreRead c.args.is_old (map line_of c.args.rows.now) tables read ∙ rw (steward, all) refl
+    tables_in-read c.args.is_old (map line_of c.args.rows.now) c.in_ok-clerks.ensures.read c.in_ok-schemas.ensures.read
+    c.in_ok-masters.ensures.read c.in_ok-rulebooks.ensures.read c.in_ok-editions.ensures.read
+    c.in_ok-regions.ensures.read (rw c.len.ensures at c.in_ok-sessions.ensures.read)
+    (rw c.len-2.ensures at c.in_ok-records.ensures.read) (rw c.len-3.ensures at c.in_ok-batches.ensures.read)
+    ∙ rw (steward, all) refl
 
 pub returns-clause-damaged : goal.returns-clause-damaged
 returns-clause-damaged c damaged =
-    let tables : Rows = record {
-      clerks = c.in_ok-clerks.clerks.items;
-      schemas = c.in_ok-schemas.schemas.items;
-      masters = c.in_ok-masters.masters.items;
-      rulebooks = c.in_ok-rulebooks.rulebooks.items;
-      editions = c.in_ok-editions.editions.items;
-      regions = c.in_ok-regions.regions.items;
-      sessions = lists_of c.in_ok-sessions.sessions;
-      records = lists_of c.in_ok-records.records;
-      batches = lists_of c.in_ok-batches.batches;
-    } in
-    let read : AreRead c.args.is_old (map line_of c.args.rows.now) tables = record {
-      behind_clerks = map line_of c.in_ok-clerks.rest.now;
-      behind_schemas = map line_of c.in_ok-schemas.rest.now;
-      behind_masters = map line_of c.in_ok-masters.rest.now;
-      behind_rulebooks = map line_of c.in_ok-rulebooks.rest.now;
-      behind_editions = map line_of c.in_ok-editions.rest.now;
-      behind_regions = map line_of c.in_ok-regions.rest.now;
-      behind_sessions = map line_of c.in_ok-sessions.rest.now;
-      behind_records = map line_of c.in_ok-records.rest.now;
-      behind_batches = map line_of c.in_ok-batches.rest.now;
-      clerks = c.in_ok-clerks.ensures.read;
-      schemas = c.in_ok-schemas.ensures.read;
-      masters = c.in_ok-masters.ensures.read;
-      rulebooks = c.in_ok-rulebooks.ensures.read;
-      editions = c.in_ok-editions.ensures.read;
-      regions = c.in_ok-regions.ensures.read;
-      sessions = rw c.len.ensures at c.in_ok-sessions.ensures.read;
-      records = rw c.len-2.ensures at c.in_ok-records.ensures.read;
-      batches = rw c.len-3.ensures at c.in_ok-batches.ensures.read;
-    } in
     let steward = some (length c.in_ok-clerks.clerks.items) (sym c.is_empty-no_clerk.ensures ∙ c.if-no_clerk.false) in
     let more = some_left c.in_ok-batches.rest.now (sym c.is_empty-is_whole.ensures ∙ c.if-is_whole.false) in
-    tables_in-AreRead c.args.is_old (map line_of c.args.rows.now) tables read ∙ rw (steward, more) refl
+    tables_in-read c.args.is_old (map line_of c.args.rows.now) c.in_ok-clerks.ensures.read c.in_ok-schemas.ensures.read
+    c.in_ok-masters.ensures.read c.in_ok-rulebooks.ensures.read c.in_ok-editions.ensures.read
+    c.in_ok-regions.ensures.read (rw c.len.ensures at c.in_ok-sessions.ensures.read)
+    (rw c.len-2.ensures at c.in_ok-records.ensures.read) (rw c.len-3.ensures at c.in_ok-batches.ensures.read)
+    ∙ rw (steward, more) refl
