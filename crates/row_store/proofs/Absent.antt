@@ -180,11 +180,11 @@ module _ (schema : Schema) (absent : IsAbsent schema) where
 
   off_it : (i : Index) → Has schema.indexes i → (i.table == new_tree) ≡ false
   off_it i has =
-      let owner =
+      let (owner, listed, owns) =
       some_has (λ (t : Table). t.tree == i.table) schema.tables
       (test_has (test.is_owned schema.tables) schema.indexes i absent.owned has) in
-      let is : owner.0.tree ≡ i.table = (Decides-eqb owner.0.tree i.table).0 owner.2 in
-      subst (λ tree. (tree == new_tree) ≡ false) is (another owner.0 owner.1)
+      let is : owner.tree ≡ i.table = (Decides-eqb owner.tree i.table).0 owns in
+      subst (λ tree. (tree == new_tree) ≡ false) is (another owner listed)
 
   first_own : find (test.is_on new_tree) made.indexes ≡ Some (desk_index new_tree (new_tree + 1))
   first_own = first_on new_tree schema.indexes (desk_index new_tree (new_tree + 1)) off_it (same_tree new_tree)
@@ -224,8 +224,8 @@ placed_in : {T : Type 0} (p : T → Bool) (xs : List T) (x : T) (from : ℕ) →
 placed_in p [] x from h = absurd (true≢false (sym h))
 placed_in p (y ∷ xs) x from h = elim (cases_Bool (p y)) [
   | inl here ↦ (0, rw here (ap Some (omega arith)), refl)
-  | inr miss ↦ let later = placed_in p xs x (from + 1) (rw miss at h) in
-      (suc later.0, rw miss (later.1 ∙ ap Some (omega arith)), later.2)
+  | inr miss ↦ let (place, found, there) = placed_in p xs x (from + 1) (rw miss at h) in
+      (suc place, rw miss (found ∙ ap Some (omega arith)), there)
 ]
 
 uncounted_last : (tables : List Table) (tree : ℕ) → list_any (λ t. t.is_counted) tables ≡ false
@@ -248,12 +248,12 @@ counted_created schema counts =
     ∙ elim (or_cases (not (list_any (λ t. t.is_counted) schema.tables)) _ counts) [
       | inl none ↦ rw (uncounted_last schema.tables (next_tree schema) (not-true _ none)) refl
       | inr kept ↦
-          let at =
+          let (place, found, there) =
           placed_in (λ t. same_name t.name (codes "sqlite_sequence")) schema.tables (desk_table
           (next_tree schema)) 0 kept in
-          let first : 0 + at.0 ≡ at.0 = omega arith in
-          let named = at.1 ∙ ap Some first in
-          let kept_there : is_some (sequence (with_table schema)) ≡ true = rw named at.2 in
+          let first : 0 + place ≡ place = omega arith in
+          let named = found ∙ ap Some first in
+          let kept_there : is_some (sequence (with_table schema)) ≡ true = rw named there in
           false_from_ne_true _ (λ lacks.
           let none = (and_parts (list_any (λ t. t.is_counted) (with_table schema).tables) _ lacks).1 in
           true≢false (sym none ∙ ap not kept_there))

@@ -33,7 +33,7 @@ use Rattle.sqlite.specs.Term.{Term}
 use Rattle.sqlite_value.specs.declared.keys.Collation.{Collation}
 use Rattle.sqlite_value.specs.declared.keys.Order.{Order}
 use Rattle.row_store.specs.Table as test
-use Rattle.row_store.proofs.Texts.{desk_table, desk_index, desk_key, is_here, IsDesk}
+use Rattle.row_store.proofs.Texts.{desk_table, desk_index, desk_key, is_here, IsDesk, plain_column}
 use Rattle.row_store.proofs.Referred.{key_is, key_places_are, named_alike, own_guards}
 
 -- the list has no item
@@ -80,11 +80,6 @@ binary_of : (collation : Collation) → IsTrue (test.is_binary collation) → co
 binary_of Binary h = refl
 binary_of NoCase h = absurd (true≢false (sym h))
 binary_of RTrim h = absurd (true≢false (sym h))
-
--- a column of this name and kind
-abbrev plain_column : List ℕ → Kind → Column
-plain_column name kind =
-    record { name = name; kind = kind; is_strict = false; not_null = true; default = Null; collation = Binary }
 
 column_is : (name named : List ℕ) (kind kinded : Kind) (strict full : Bool) (default : Value) (collation : Collation)
     → named ≡ name → kinded ≡ kind → strict ≡ false → full ≡ true → default ≡ Null → collation ≡ Binary
@@ -255,8 +250,8 @@ place_of p [] from x h = absurd cc
 place_of p (y ∷ xs) from x h = elim (cases_Bool (p y)) [
   | inl hit ↦ let is : y ≡ x = let e : Some y ≡ Some x = rw hit at h in cc in
       (0, rw hit (ap Some (omega arith)), ap Some is)
-  | inr miss ↦ let later = place_of p xs (from + 1) x (rw miss at h) in
-      (suc later.0, rw miss (later.1 ∙ ap Some (omega arith)), later.2)
+  | inr miss ↦ let (place, position, there) = place_of p xs (from + 1) x (rw miss at h) in
+      (suc place, rw miss (position ∙ ap Some (omega arith)), there)
 ]
 
 -- the first item with a tree is the one item that has it
@@ -323,7 +318,7 @@ module _ (schema : Schema) (table : Table) (called : test.called schema ≡ Some
   own_index = some_of (test.is_desk_index table.tree) (find (test.is_on table.tree) schema.indexes) keys.0
 
   first_index : find (test.is_on table.tree) schema.indexes ≡ Some (desk_index table.tree own_index.0.tree)
-  first_index = own_index.1 ∙ ap Some (index_of table.tree own_index.0 own_index.2)
+  first_index = let (index, first, is) = own_index in first ∙ ap Some (index_of table.tree index is)
 
   found_place : (place : ℕ) × (position_from test.is_called 0 schema.tables ≡ Some (0 + place))
       × (slice_get schema.tables place ≡ Some table)
@@ -390,11 +385,11 @@ module _ (schema : Schema) (table : Table) (called : test.called schema ≡ Some
       ∙ unique
 
   is_desk_at : IsDesk schema table.tree
-  is_desk_at = record {
-    place = found_place.0;
+  is_desk_at = let (place, position, there) = found_place in record {
+    place = place;
     own = own_index.0.tree;
-    named = found_place.1 ∙ ap Some (omega arith);
-    at = found_place.2 ∙ ap Some is_it;
+    named = position ∙ ap Some (omega arith);
+    at = there ∙ ap Some is_it;
     known =
         only_found table.tree (desk_table table.tree) ((Decides-eqb table.tree table.tree).1 refl) schema.tables
         (λ t listed same. elim (each_apart t listed) [
@@ -452,24 +447,23 @@ pub record IsFound (schema : Schema) : Type 0 where
 
 pub found_of : (schema : Schema) → IsTrue (test.is_desk schema) → IsFound schema
 found_of schema h =
-    let found = some_of (test.stands_in schema) (test.called schema) h in
-    let table = found.0 in
-    let own = own_index schema table found.1 found.2 in
+    let (table, called, stands) = some_of (test.stands_in schema) (test.called schema) h in
+    let (index, first, own) = own_index schema table called stands in
     record {
       table = table;
-      named = found.1;
-      it = (tests schema table found.1 found.2).0;
-      low = lt-ltb table.tree 65536 (low_tree schema table found.1 found.2);
-      apart = (besides schema table found.1 found.2).0;
-      index = own.0;
-      first = own.1;
-      own = own.2;
-      sole = (keys schema table found.1 found.2).1;
+      named = called;
+      it = (tests schema table called stands).0;
+      low = lt-ltb table.tree 65536 (low_tree schema table called stands);
+      apart = (besides schema table called stands).0;
+      index = index;
+      first = first;
+      own = own;
+      sole = (keys schema table called stands).1;
     }
 
 -- where the test of a schema holds the table stands in it
 pub desk_of : (schema : Schema) → IsTrue (test.is_desk schema) → IsDesk schema (test.tree_of schema)
 desk_of schema h =
-    let found = some_of (test.stands_in schema) (test.called schema) h in
-    subst (IsDesk schema) (sym (ap (λ o. unwrap_or (option_map (λ (t : Table). t.tree) o) 0) found.1))
-    (is_desk_at schema found.0 found.1 found.2)
+    let (table, called, stands) = some_of (test.stands_in schema) (test.called schema) h in
+    subst (IsDesk schema) (sym (ap (λ o. unwrap_or (option_map (λ (t : Table). t.tree) o) 0) called))
+    (is_desk_at schema table called stands)

@@ -44,11 +44,12 @@ use Rattle.sqlite_sql.specs.Ops.{fits_i64}
 use Rattle.sqlite_value.specs.Keys.{plain}
 use Rattle.sqlite_value.specs.Order.{value_cmp}
 use Rattle.sqlite_value.proofs.OrderLemmas.{value_cmp_total}
+use Rattle.desk_base.proofs.Bools.{is_eq-true}
 use Rattle.desk_packing.specs.Lines.{Line}
 use Rattle.row_store.specs.Numbers.{AreNumbered, LacksNumbers}
 use Rattle.row_store.specs.Refusals.{IsHuge, IsHugeOn, LacksRoom}
 use Rattle.row_store.specs.Table.{tree_of}
-use Rattle.row_store.proofs.Found.{answer_is, differ_ids, doing, edit_is, has_it, hits_are, read, tied}
+use Rattle.row_store.proofs.Found.{answer_is, differ_ids, doing, edit_is, has_it, hits_are, read}
 use Rattle.row_store.proofs.Desk.{desk_of}
 use Rattle.row_store.proofs.Refused.{Refuses, tested_at_once}
 use Rattle.row_store.proofs.Texts.{IsDesk, clauses, desk_table, given_row, upsert, upsert_text}
@@ -58,14 +59,14 @@ use Rattle.row_store.proofs.Puts.{inserted, added_edit, conflict_is, key_stays, 
 use Rattle.row_store.specs.Stored.{HasId, Holds, Stands, shown_line}
 use Rattle.row_store.proofs.Lines.{has_key, row_of}
 use Rattle.row_store.proofs.Kept.{refers_still, stored_once, unique_with}
-use Rattle.row_store.proofs.Numbers.{none_left}
+use Rattle.row_store.proofs.Numbers.{added_row, none_left}
 use Rattle.row_store.proofs.Room.{edit, edit_refused}
 
 -- two rows of one number compare so
 ties : (id : ℤ) (a b : Row) → has_rowid id a ≡ true → has_rowid id b ≡ true → value_cmp (rowid a) (rowid b) ≡ Equal
 ties id a b ha hb =
-    value_cmp_total.congr (rowid a) (Int id) (rowid b) (tied _ ha)
-    ∙ tied_back value_cmp_total (rowid b) (Int id) (tied _ hb)
+    value_cmp_total.congr (rowid a) (Int id) (rowid b) (is_eq-true _ ha)
+    ∙ tied_back value_cmp_total (rowid b) (Int id) (is_eq-true _ hb)
 
 -- no row behind it has its number
 none_hit : (x : Row) (rows : List Row) (id : ℤ) → AllByRecursion (λ b. value_cmp (rowid x) (rowid b) ≡ Less) rows
@@ -105,12 +106,9 @@ module _ (whole : Schema) (tree : ℕ) (desk : IsDesk whole tree)
   abbrev task : Task
   task = desk_task whole tree None Enforced (shown_line l)
 
-  abbrev added_row : Row
-  added_row = row_of (next_rowid (db tree)) l
-
   -- a row is added but for want of a number
   add_refused : (stop : Option Error) → ((x : Row) → Has (db tree) x → has_key l x ≡ true → ⊥)
-      → Puts task added_row db (Err stop)
+      → Puts task (added_row l (db tree)) db (Err stop)
       → Lacks (db tree) tree whole.indexes l
   add_refused stop none (inl (why, refused, is)) = elim (cases_Bool (fits_i64 (next_rowid (db tree)))) [
     | inr full ↦ inl (none_left (db tree) numbered full)
@@ -122,14 +120,14 @@ module _ (whole : Schema) (tree : ℕ) (desk : IsDesk whole tree)
         inr (edit_refused (next_rowid (db tree)) l whole tree Enforced db [] (rw free refl) fits
         (unique_with whole tree desk db lines holds keeps (next_rowid (db tree)) l (db tree)
         (λ x there. there) none)
-        refl (none_act whole tree Enforced [] (added_row ∷ []) refl desk) refused.0 writes)
+        refl (none_act whole tree Enforced [] ((added_row l (db tree)) ∷ []) refl desk) refused.0 writes)
   ]
   add_refused stop none (inr (next, done, gives)) = absurd (let e = gives in cc)
 
   -- the row that has the key is found
   asks : (id : ℤ) (why : Option Error)
       → Queried None (record { schema = whole; trees = db }) (doing tree) (shown_line l ++ Int id ∷ shown
-      (desk_table tree) added_row)
+      (desk_table tree) (added_row l (db tree)))
       (Err why) → ⊥
   unfolding everything
   asks id None none = none
@@ -140,7 +138,7 @@ module _ (whole : Schema) (tree : ℕ) (desk : IsDesk whole tree)
 
   -- a row that has the key is given the new body
   change_refused : (r : Row) (stop : Option Error) → Has (db tree) r → has_key l r ≡ true
-      → Updates task (doing tree) (shown_line l ++ rowid r ∷ shown (desk_table tree) added_row) db (Err stop)
+      → Updates task (doing tree) (shown_line l ++ rowid r ∷ shown (desk_table tree) (added_row l (db tree))) db (Err stop)
       → IsHuge l ⊎ IsHugeOn tree whole.indexes l
   change_refused r stop there key (inl (why, queried, is)) =
       let its = all_has HasId (db tree) r holds.keyed there in
@@ -149,12 +147,12 @@ module _ (whole : Schema) (tree : ℕ) (desk : IsDesk whole tree)
       (subst
       (λ v.
       Queried None (record { schema = whole; trees = db }) (doing tree) (shown_line l ++ v ∷ shown
-      (desk_table tree) added_row)
+      (desk_table tree) (added_row l (db tree)))
       (Err why)) its.1 queried))
   change_refused r stop there key (inr (qs, answers, inl (why, refused, is))) =
       let its = all_has HasId (db tree) r holds.keyed there in
       let id = its.0 in
-      let given : Row = shown_line l ++ rowid r ∷ shown (desk_table tree) added_row in
+      let given : Row = shown_line l ++ rowid r ∷ shown (desk_table tree) (added_row l (db tree)) in
       let asked : column given 4 ≡ Int id = its.1 in
       let hits = one_hit (db tree) id r numbered.rising there
       (has_it tree db id r given holds.keyed there its.1 asked) in
@@ -180,8 +178,8 @@ module _ (whole : Schema) (tree : ℕ) (desk : IsDesk whole tree)
       (agree_chain plain (1 ∷ 2 ∷ 3 ∷ []) (1 ∷ 2 ∷ 3 ∷ []) (1 ∷ 2 ∷ 3 ∷ []) x (Null ∷ shown_line l) r also
       (agree_back plain (1 ∷ 2 ∷ 3 ∷ []) (1 ∷ 2 ∷ 3 ∷ []) r (Null ∷ shown_line l) key)) (differs x kept) in
       let taken = λ (h : is_taken (without_rowid id (db tree)) (row_of id l) ≡ true).
-      let x = some_has (λ y. is_eq (value_cmp (rowid y) (Int id))) (without_rowid id (db tree)) h in
-      true≢false (sym x.2 ∙ other x.0 x.1) in
+      let (x, kept, same) = some_has (λ y. is_eq (value_cmp (rowid y) (Int id))) (without_rowid id (db tree)) h in
+      true≢false (sym same ∙ other x kept) in
       let free : is_taken (without_rowid id (db tree)) (row_of id l) ≡ false = false_from_ne_true _ taken in
       let fits =
       subst (λ v. fits_i64 (id_in v) ≡ true) its.1
@@ -195,7 +193,7 @@ module _ (whole : Schema) (tree : ℕ) (desk : IsDesk whole tree)
   change_refused r stop there key (inr (qs, answers, inr (next, done, gives))) = absurd (let e = gives in cc)
 
   -- the row obeys each rule
-  never_judged : (why : Refusal) → IsJudged (desk_table tree) added_row (Some why) → ⊥
+  never_judged : (why : Refusal) → IsJudged (desk_table tree) (added_row l (db tree)) (Some why) → ⊥
   never_judged Mismatch judged = true≢false judged
   never_judged NoRowid judged = judged
   never_judged BadReference judged = judged
@@ -208,21 +206,21 @@ module _ (whole : Schema) (tree : ℕ) (desk : IsDesk whole tree)
   never_judged (Violates ForeignKey) judged = judged
 
   -- the row is put, beside the others or in place of one
-  put_or_change : (stop : Option Error) → Upserts task Abort added_row db (clauses tree) (Err stop)
+  put_or_change : (stop : Option Error) → Upserts task Abort (added_row l (db tree)) db (clauses tree) (Err stop)
       → Lacks (db tree) tree whole.indexes l
   put_or_change stop ([], are, ([], are_none, h)) = add_refused stop
       (λ x there key. conflict_is whole tree desk None Enforced l db lines holds [] x are there key) h
   put_or_change stop ([], are, (x ∷ rest, are_none, h)) = add_refused stop
       (λ x there key. conflict_is whole tree desk None Enforced l db lines holds [] x are there key) h
   put_or_change stop (there ∷ rest, are, h) =
-      let r = are.sound there (inl refl) in
-      let key = sound_key whole tree desk None Enforced l db lines holds r.0 r.1 r.2 in
-      inr (change_refused r.0 stop r.1 key
-      (subst (λ t. Updates task (doing tree) (shown_line l ++ rowid t ∷ shown (desk_table tree) added_row) db
-      (Err stop)) r.3 h))
+      let (r, stored, conflicting, is) = are.sound there (inl refl) in
+      let key = sound_key whole tree desk None Enforced l db lines holds r stored conflicting in
+      inr (change_refused r stop stored key
+      (subst (λ t. Updates task (doing tree) (shown_line l ++ rowid t ∷ shown (desk_table tree) (added_row l (db tree))) db
+      (Err stop)) is h))
 
   -- it is tried
-  tried_one : (stop : Option Error) → Tries task Abort (clauses tree) added_row db (Err stop)
+  tried_one : (stop : Option Error) → Tries task Abort (clauses tree) (added_row l (db tree)) db (Err stop)
       → Lacks (db tree) tree whole.indexes l
   tried_one stop (inl (full, is)) = inl (none_left (db tree) numbered full)
   tried_one stop (inr (None, judged, h)) = put_or_change stop h
@@ -269,8 +267,8 @@ module _ (whole : Schema) (tree : ℕ) (desk : IsDesk whole tree)
       (Err stop)
       → ⊥
   no_orphan refers w stop done (inl (why, tested, is)) =
-      let written = inserted whole tree desk None Enforced l db lines holds w done in
-      tested.0 (refers_still whole tree desk db w.trees written.1 written.2 refers)
+      let (holds_after, others, keys_stay, put) = inserted whole tree desk None Enforced l db lines holds w done in
+      tested.0 (refers_still whole tree desk db w.trees others keys_stay refers)
   no_orphan refers w stop done (inr (doubt, tested, inl (why, shown, is))) = absurd (let e = shown in cc)
   no_orphan refers w stop done (inr (doubt, tested, inr (rows, shown, gives))) = absurd (let e = gives in cc)
 

@@ -41,6 +41,7 @@ use Rattle.sqlite_rules.proofs.ListLemmas.{contains_had, test_has}
 use Rattle.sqlite_trees.proofs.ListLemmas.{filter_same}
 use Rattle.sqlite_trees.proofs.TreeLemmas.{not_true}
 use Rattle.row_store.proofs.Texts.{IsDesk, desk_index, desk_table, new_body}
+use Rattle.desk_base.proofs.Bools.{is_eq-true}
 use Rattle.desk_packing.specs.Lines.{Line, same_key, put_line}
 use Rattle.row_store.specs.Stored.{shown_row, shown_line, HasId, Holds}
 use Rattle.row_store.proofs.Lines.{and_true, has_key, holds_put, put_beside, row_of, shows_key, shows_line, true_of}
@@ -126,11 +127,6 @@ casts_id : (tree : ℕ) (id : ℤ) (a : Row) → column (drop 1 a) 0 ≡ Int id
     → rowid (cast_row (desk_table tree) (drop 1 a)) ≡ Int id
 casts_id tree id a e = rw e (cast_int id)
 
-pub tied : (o : Ordering) → is_eq o ≡ true → o ≡ Equal
-tied Less h = absurd (true≢false (sym h))
-tied Equal h = refl
-tied Greater h = absurd (true≢false (sym h))
-
 abbrev HasIdRead : ℤ → Row → Type 0
 HasIdRead id a = column (drop 1 a) 0 ≡ Int id
 
@@ -139,7 +135,7 @@ unfolding binary
 hit_is id n x e = rw (e, true_of (is_eq (value_cmp (Int n) (Int id)))) (and_true _)
 
 has_rowid_is : (id n : ℤ) (x : Row) → rowid x ≡ Int n → has_rowid id x ≡ true → n ≡ id
-has_rowid_is id n x e h = let level = tied _ (rw e at h) in int_ranked n id Equal (sym level ∙ value_cmp-Int n id)
+has_rowid_is id n x e h = let level = is_eq-true _ (rw e at h) in int_ranked n id Equal (sym level ∙ value_cmp-Int n id)
 
 has_map : {A B : Type 0} (f : A → B) (xs : List A) (x : A) → Has xs x → Has (map f xs) (f x)
 has_map f [] x h = absurd h
@@ -149,18 +145,18 @@ has_map f (y ∷ xs) x (inr h) = inr (has_map f xs x h)
 has_mapped : {A B : Type 0} (f : A → B) (xs : List A) (y : B) → Has (map f xs) y → (x : A) × Has xs x × (y ≡ f x)
 has_mapped f [] y h = absurd h
 has_mapped f (x ∷ xs) y (inl e) = (x, inl refl, e)
-has_mapped f (x ∷ xs) y (inr h) = let found = has_mapped f xs y h in (found.0, inr found.1, found.2)
+has_mapped f (x ∷ xs) y (inr h) = let (made_of, has, is) = has_mapped f xs y h in (made_of, inr has, is)
 
 -- a stored row shows a line
 pub shown_of : (rows : List Row) (lines : List Line) → Holds rows lines → (r : Row) → Has rows r
     → (x : Line) × (shown_row r ≡ shown_line x)
 shown_of rows lines holds r there =
-    let x =
+    let (x, has, is) =
     has_mapped shown_line lines (shown_row r)
     (has_contained (map shown_line lines) (shown_row r)
     (Contains-permutation (map shown_row rows) (map shown_line lines) (shown_row r) holds.same
     (contains_had (map shown_row rows) (shown_row r) (has_map shown_row rows r there)))) in
-    (x.0, x.2)
+    (x, is)
 
 not_level : (o : Ordering) → is_eq o ≡ false → is_ne o ≡ true
 not_level Less h = refl
@@ -253,9 +249,10 @@ module _ (tree : ℕ) (db : Trees) (id : ℤ) (r : Row) (given : Row) (keyed : A
     reads_as : read given r ≡ Int id ∷ Int id ∷ shown_line l
     reads_as =
         let shown = shown_as.1 in
-        let k : column r 1 ≡ Int (pos l.kind) = ap (λ s. column s 0) shown ∙ ap (λ n. Int (pos n)) key_is.0 in
-        let o : column r 2 ≡ Int (pos l.owner) = ap (λ s. column s 1) shown ∙ ap (λ n. Int (pos n)) key_is.1 in
-        let p : column r 3 ≡ Int (pos l.place) = ap (λ s. column s 2) shown ∙ ap (λ n. Int (pos n)) key_is.2 in
+        let (kind, owner, place) = key_is in
+        let k : column r 1 ≡ Int (pos l.kind) = ap (λ s. column s 0) shown ∙ ap (λ n. Int (pos n)) kind in
+        let o : column r 2 ≡ Int (pos l.owner) = ap (λ s. column s 1) shown ∙ ap (λ n. Int (pos n)) owner in
+        let p : column r 3 ≡ Int (pos l.place) = ap (λ s. column s 2) shown ∙ ap (λ n. Int (pos n)) place in
         rw (its, k, o, p, body) refl
 
     pub edit_is : edit_of db (desk_table tree) (ids_of (read given r ∷ [])) Given 1 (read given r ∷ [])

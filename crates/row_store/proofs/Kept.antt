@@ -89,12 +89,12 @@ module _ (schema : Schema) (tree : ℕ) (desk : IsDesk schema tree) (db : Trees)
     -- so none clashes, whatever the order of the index
     not_twice : (o : Order) (x : Row) → Has news x → clashes o (1 ∷ 2 ∷ 3 ∷ []) news x ≡ true → ⊥
     not_twice o x there clash =
-        let other =
+        let (other, other_there, clashing) =
         some_has (λ y. agree o (1 ∷ 2 ∷ 3 ∷ []) y (1 ∷ 2 ∷ 3 ∷ []) x && differ (rowid y) (rowid x)) news clash in
-        let parts =
-        and_parts (agree o (1 ∷ 2 ∷ 3 ∷ []) other.0 (1 ∷ 2 ∷ 3 ∷ []) x) (differ (rowid other.0) (rowid x)) other.2 in
-        twice x other.0 there other.1
-        (sym (agree_any o other.0 x (all_keyed other.0 other.1) (all_keyed x there)) ∙ parts.0) parts.1
+        let (same, apart) =
+        and_parts (agree o (1 ∷ 2 ∷ 3 ∷ []) other (1 ∷ 2 ∷ 3 ∷ []) x) (differ (rowid other) (rowid x)) clashing in
+        twice x other there other_there
+        (sym (agree_any o other x (all_keyed other other_there) (all_keyed x there)) ∙ same) apart
 
     abbrev next : Trees
     next = with_tree db tree news
@@ -148,24 +148,23 @@ module _ (schema : Schema) (tree : ℕ) (desk : IsDesk schema tree) (old new : T
   held_elsewhere : (ref : Reference) (x : Row) (key : Option ParentKey) → parent_key schema.tables ref ≡ key
       → is_here tree key ≡ false → is_held new ref.columns x key ≡ is_held old ref.columns x key
   held_elsewhere ref x None is there = refl
-  held_elsewhere ref x (Some key) is there =
-      let parent = parent_is_table schema.tables ref key is in
+  held_elsewhere ref x (Some (at, places, order)) is there =
+      let (parent, listed, parent_is) = parent_is_table schema.tables ref (at, places, order) is in
       let other =
-      λ (none : parent.0.tree ≡ tree). true≢false (sym ((Decides-eqb key.0 tree).1 (sym parent.2 ∙ none)) ∙ there) in
-      let same : new key.0 ≡ old key.0 =
-      subst (λ at. new at ≡ old at) parent.2 (same_tree parent.0 parent.1 other) in
-      ap (λ rows. list_any (λ one. agree key.2 key.1 one ref.columns x) rows) same
+      λ (none : parent.tree ≡ tree). true≢false (sym ((Decides-eqb at tree).1 (sym parent_is ∙ none)) ∙ there) in
+      let same : new at ≡ old at = subst (λ at. new at ≡ old at) parent_is (same_tree parent listed other) in
+      ap (λ rows. list_any (λ one. agree order places one ref.columns x) rows) same
 
   -- one in the table has its key still
   held_here : (ref : Reference) (x : Row) → is_held old ref.columns x (Some (desk_key tree)) ≡ true
       → is_held new ref.columns x (Some (desk_key tree)) ≡ true
   held_here ref x held =
-      let parent =
+      let (parent, stored, alike) =
       some_has (λ one. agree plain (1 ∷ 2 ∷ 3 ∷ []) one ref.columns x) (old tree) held in
-      let still = keys parent.0 parent.1 in
-      some_from (λ one. agree plain (1 ∷ 2 ∷ 3 ∷ []) one ref.columns x) (new tree) still.0 still.1
-      (agree_chain plain (1 ∷ 2 ∷ 3 ∷ []) (1 ∷ 2 ∷ 3 ∷ []) ref.columns still.0 parent.0 x
-      (agree_back plain (1 ∷ 2 ∷ 3 ∷ []) (1 ∷ 2 ∷ 3 ∷ []) parent.0 still.0 still.2) parent.2)
+      let (still, there, same) = keys parent stored in
+      some_from (λ one. agree plain (1 ∷ 2 ∷ 3 ∷ []) one ref.columns x) (new tree) still there
+      (agree_chain plain (1 ∷ 2 ∷ 3 ∷ []) (1 ∷ 2 ∷ 3 ∷ []) ref.columns still parent x
+      (agree_back plain (1 ∷ 2 ∷ 3 ∷ []) (1 ∷ 2 ∷ 3 ∷ []) parent still same) alike)
 
   -- so a parent is there still
   held_still : (ref : Reference) (x : Row) → IsKeyBeside tree (parent_key schema.tables ref)

@@ -127,18 +127,17 @@ creates old new (Ok count) absent h =
     subst (λ t. Writes old new None CreateTable t [] count) is.1
     (runs_as create_text [] old new schema refl CreateTable is.0
     (create_plain schema names.table names.index names.view) count h.0) in
-    let all = went w.changed in
-    let first = went all.1 in
-    let made = first.1 in
+    let (tally, making, all_gives) = went w.changed in
+    let (next, made, gives) = went making in
     let same : made.table ≡ desk_table 0 = table_is made.table made.defined in
-    let after : first.0.schema ≡ created schema (desk_table 0) = made.is ∙ ap (created schema) same in
-    let plain : lacks_sequence first.0.schema ≡ false = ap lacks_sequence after ∙ counted_created schema has.counts in
-    let now : new.now ≡ first.0 =
-    ap (λ (p : Tally × Database). p.1) (same_value all.2) ∙ same_value (rw plain at first.2) in
+    let after : next.schema ≡ created schema (desk_table 0) = made.is ∙ ap (created schema) same in
+    let plain : lacks_sequence next.schema ≡ false = ap lacks_sequence after ∙ counted_created schema has.counts in
+    let now : new.now ≡ next =
+    ap (λ (p : Tally × Database). p.1) (same_value all_gives) ∙ same_value (rw plain at gives) in
     let final : new.now.schema ≡ created schema (desk_table 0) = ap (λ (d : Database). d.schema) now ∙ after in
     let empty : new.now.trees (test.tree_of new.now.schema) ≡ [] =
     ap (λ (d : Database). d.trees (test.tree_of new.now.schema)) now
-    ∙ ap first.0.trees (ap test.tree_of final ∙ tree_created schema has) ∙ made.empty in
+    ∙ ap next.trees (ap test.tree_of final ∙ tree_created schema has) ∙ made.empty in
     record {
       adds = record {
         table = made.table;

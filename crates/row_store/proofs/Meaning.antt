@@ -32,7 +32,8 @@ Agrees o = (column o.1 1 ≡ column o.0 0) × (column o.1 2 ≡ column o.0 1) ×
 
 -- two outputs compare as the rows that they show
 compares : (tree : ℕ) (x y : Output) → Agrees x → Agrees y → by_key x.1 y.1 ≡ output_cmp (all_rows tree) x y
-compares tree x y h k = rw (h.0, h.1, h.2, k.0, k.1, k.2) refl
+compares tree x y (kind, owner, place) (next_kind, next_owner, next_place) =
+    rw (kind, owner, place, next_kind, next_owner, next_place) refl
 
 sorted_shown : (tree : ℕ) (os : List Output) → All Agrees os → IsSorted (output_cmp (all_rows tree)) os
     → IsSorted by_key (map (λ (o : Output). o.1) os)
@@ -88,10 +89,10 @@ selects tree old new rows desk h =
 pub unchanged : (tree : ℕ) (old new : State) (rows : List Row) → IsDesk old.now.schema tree
     → Shown select_text [] old new rows → IsUnchanged old new
 unfolding Shown
-unchanged tree old new rows desk h =
-    let known = sym h.1.is in
-    let bare = subst IsPlain (sym known) (select_plain old.now.schema tree desk) in
-    (rw bare.0 at h.2).3
+unchanged tree old new rows desk (c, it, shown) =
+    let bare = subst IsPlain it.is (select_plain old.now.schema tree desk) in
+    let (db, source, reading, same) = rw bare.0 at shown in
+    same
 
 -- it changes nothing, and shows the rows that are stored
 pub shows : (old new : State) (rows : List Row) → IsTrue (is_desk old.now.schema) → Shown select_text [] old new rows
@@ -113,15 +114,14 @@ pub fails : (old new : State) (e : Error) → IsTrue (is_desk old.now.schema)
     → (IsTrue old.is_open → old.now ≡ old.committed) → FailsToQuery select_text [] old new e
     → IsTrue new.is_open → IsTrue old.is_open × (new.now ≡ old.now)
 unfolding FailsToQuery IsNotRun
-fails old new e stands settled (inl (inl not_run)) opened = (not_run.1.0.was_open, not_run.1.0.now_is)
-fails old new e stands settled (inl (inr failed)) opened =
-    let back = failed.3 in
+fails old new e stands settled (inl (inl (none, (same, counts, marks)))) opened = (same.was_open, same.now_is)
+fails old new e stands settled (inl (inr (cause, is, caused, back, told))) opened =
     let was = back.was_open opened in
     (was, (back.undone opened).0 ∙ sym (settled was))
 fails old new e stands settled (inr (c, it, shown)) opened =
     let desk = desk_of old.now.schema stands in
     let bare = subst IsPlain it.is (select_plain old.now.schema (tree_of old.now.schema) desk) in
-    let same = (rw bare.0 at shown).3 in
+    let (db, source, refused, same) = rw bare.0 at shown in
     (same.0.was_open, same.0.now_is)
 
 same_shown : (rows : List Row) (lines : List Line) → AllZip IsLineRow rows lines
@@ -129,13 +129,13 @@ same_shown : (rows : List Row) (lines : List Line) → AllZip IsLineRow rows lin
 same_shown [] [] h = refl
 same_shown [] (l ∷ lines) h = absurd h
 same_shown (r ∷ rows) [] h = absurd h
-same_shown (r ∷ rows) (l ∷ lines) h = rw (h.0.1, same_shown rows lines h.1) refl
+same_shown (r ∷ rows) (l ∷ lines) ((id, is), all) = rw (is, same_shown rows lines all) refl
 
 ids_of : (rows : List Row) (lines : List Line) → AllZip IsLineRow rows lines → AllByRecursion HasId rows
 ids_of [] [] h = tt
 ids_of [] (l ∷ lines) h = absurd h
 ids_of (r ∷ rows) [] h = absurd h
-ids_of (r ∷ rows) (l ∷ lines) h = (h.0.0, ids_of rows lines h.1)
+ids_of (r ∷ rows) (l ∷ lines) ((id, is), all) = (id, ids_of rows lines all)
 
 shown_whole : (rows : List Row) → map shown_row (map whole_row rows) ≡ map shown_row rows
 shown_whole [] = refl
@@ -165,7 +165,7 @@ sorted_as : (rows : List Row) (lines : List Line) → AllZip IsLineRow rows line
 sorted_as [] [] h = refl
 sorted_as [] (l ∷ lines) h = absurd h
 sorted_as (r ∷ rows) [] h = absurd h
-sorted_as (r ∷ rows) (l ∷ lines) h = rw (h.0.1, sorted_as rows lines h.1) refl
+sorted_as (r ∷ rows) (l ∷ lines) ((id, is), all) = rw (is, sorted_as rows lines all) refl
 
 ordered : (rows : List Row) (lines : List Line) → IsSorted by_key rows → AllZip IsLineRow rows lines
     → AreInKeyOrder lines

@@ -60,10 +60,11 @@ below_next : (first : ℤ) (rows : List Row) → IsTable rows → AllByRecursion
     → AllByRecursion (λ row. number_of row <ℤ fold behind first rows) rows
 below_next first [] up keyed = tt
 below_next first (x ∷ []) up keyed = (omega (arith, ints), tt)
-below_next first (x ∷ y ∷ rows) up keyed =
-    let later = below_next (behind first x) (y ∷ rows) up.1 keyed.1 in
+below_next first (x ∷ y ∷ rows) ((before, all_before), up) ((n, x_is), keyed) =
+    let later = below_next (behind first x) (y ∷ rows) up keyed in
+    let (m, y_is) = keyed.0 in
     let lower : int_cmp (number_of x) (number_of y) ≡ Less =
-    rw (keyed.0.1, keyed.1.0.1) (sym (value_cmp-Int keyed.0.0 keyed.1.0.0) ∙ (rw (keyed.0.1, keyed.1.0.1) at up.0.0)) in
+    rw (x_is, y_is) (sym (value_cmp-Int n m) ∙ (rw (x_is, y_is) at before)) in
     (lower_than (number_of x) (number_of y) _ lower later.0, later)
 
 -- it is at most what is above each row
@@ -124,6 +125,10 @@ none_left rows numbered full =
     (λ high. omega (arith, ints, high))
 
 -- ---- one put
+
+-- the row of the line, under the next number
+abbrev pub added_row : Line → List Row → Row
+added_row l rows = row_of (next_rowid rows) l
 
 -- the row of the line stands beside the others, under the next number, or in place of one of them, under its number
 abbrev pub IsPut : Line → List Row → List Row → Type 0

@@ -157,12 +157,12 @@ module _ {D : Type 0} {g : Ghosts D} (L : Type 0) (image : Image) (old : Held (F
 pub copied_named : {T L : Type 0} (r : Result T (OpenFault × Option L)) → IfErr r IsUncopied
     → IfErr r (λ refused. IsNamed refused.0)
 copied_named (Ok now) h = tt
-copied_named (Err refused) h = rw h.1.1 tt
+copied_named (Err refused) (none, (e, is)) = rw is tt
 
 pub copied_unreached : {T L : Type 0} (r : Result T (OpenFault × Option L)) → IfErr r IsUncopied
     → IfErr r (λ refused. refused.1 ≡ None → IsUnreached refused.0)
 copied_unreached (Ok now) h = tt
-copied_unreached (Err refused) h = λ _. rw h.1.1 tt
+copied_unreached (Err refused) (none, (e, is)) = λ _. rw is tt
 
 pub copied_refused : {T L : Type 0} (P : L → OpenFault → Type 0) (r : Result T (OpenFault × Option L))
     → IfErr r IsUncopied → IfErr r (λ refused. IfSome refused.1 (λ left. P left refused.0))

@@ -40,7 +40,7 @@ use Rattle.row_store.specs.Stored.{shown_line, HasId, Holds, Stands, OthersStay,
 use Rattle.row_store.specs.Table.{is_desk, tree_of}
 use Rattle.row_store.proofs.Desk.{desk_of}
 use Rattle.row_store.proofs.Lines.{has_key, holds_put, row_of}
-use Rattle.row_store.proofs.Numbers.{IsPut}
+use Rattle.row_store.proofs.Numbers.{IsPut, added_row}
 use Rattle.row_store.proofs.Found.{doing, answer_is, single, edit_is, guards_own, updated}
 use Rattle.row_store.proofs.UpsertText.{upsert_is, upsert_plain}
 use Rattle.row_store.proofs.Keyed.{HasKeyOf, KeysStay, agree_any, agree_itself, keyed_of, keyed_row}
@@ -113,9 +113,9 @@ key_stays id l r rows one key =
 -- a write that succeeds applies its edit before what that sets off
 applied_first : (schema : Schema) (keys : Keys) (db next : Trees) (edit : Edit) → Writes schema keys db edit (Ok next)
     → (mid : Trees) × Applies schema keys db edit mid
-applied_first schema keys db next edit (inl refused) = absurd (let e = refused.2 in cc)
-applied_first schema keys db next edit (inr (inl big)) = absurd (let e = big.3 in cc)
-applied_first schema keys db next edit (inr (inr went)) = (went.0, went.1)
+applied_first schema keys db next edit (inl (why, refused, is)) = absurd cc
+applied_first schema keys db next edit (inr (inl (big, has, over, is))) = absurd cc
+applied_first schema keys db next edit (inr (inr (mid, applied, settles))) = (mid, applied)
 
 -- the own index tells of a row with the key
 pub own_shares : (tree own : ℕ) (l : Line) (x new : Row)
@@ -133,27 +133,29 @@ module _ (schema : Schema) (tree : ℕ) (desk : IsDesk schema tree)
 
   -- the row that is to be added
   abbrev pub new : Row
-  new = row_of (next_rowid (db tree)) l
+  new = added_row l (db tree)
 
+  -- an added row is put by the edit that adds it
   put : (one : Written) → Puts (desk_task schema tree limit keys params) new db (Ok one)
       → (next : Trees) × Applies schema keys db (edit_of db (desk_table tree) [] Given 0 (new ∷ [])) next ×
       (one.trees ≡ next)
   put one h =
-      let w = went h in
+      let (next, writes, gives) = went h in
       let edit = edit_of db (desk_table tree) [] Given 0 (new ∷ []) in (
-        w.0,
-        one_step schema keys db w.0 edit (none_act schema tree keys (taken_by db edit) edit.news refl desk) w.1,
-        ap (λ (it : Written). it.trees) (same_value w.2),
+        next,
+        one_step schema keys db next edit (none_act schema tree keys (taken_by db edit) edit.news refl desk) writes,
+        ap (λ (it : Written). it.trees) (same_value gives),
       )
 
+  -- what is updated was asked for, and written
   update : (given : Row) (one : Written)
       → Updates (desk_task schema tree limit keys params) (doing tree) given db (Ok one)
       → (qs : List Row) × Answers (record { schema = schema; trees = db }) (doing tree) given qs × (next : Trees)
       × Writes schema keys db (edit_of db (desk_table tree) (ids_of qs) Given 1 qs) (Ok next) × (one.trees ≡ next)
   update given one h =
-      let rows = went h in
-      let w = went rows.2 in
-      (rows.0, rows.1, w.0, w.1, ap (λ (it : Written). it.trees) (same_value w.2))
+      let (rows, answers, written) = went h in
+      let (next, writes, gives) = went written in
+      (rows, answers, next, writes, ap (λ (it : Written). it.trees) (same_value gives))
 
   pub added_edit : edit_of db (desk_table tree) [] Given 0 (new ∷ [])
       ≡ record { table = desk_table tree; gone = []; news = new ∷ [] }
@@ -207,34 +209,35 @@ module _ (schema : Schema) (tree : ℕ) (desk : IsDesk schema tree)
       (desk_table tree) new) db (Ok one)
       → Written_as one.trees
   changed r one there key h =
-      let its = all_has HasId (db tree) r holds.keyed there in
+      let (id, its) = all_has HasId (db tree) r holds.keyed there in
       let given : Row = params ++ rowid r ∷ shown (desk_table tree) new in
-      let u = update given one h in
-      let asked : column given 4 ≡ Int its.0 = its.1 in
-      let first = applied_first schema keys db u.2 (edit_of db (desk_table tree) (ids_of u.0) Given 1 u.0) u.3 in
-      let one_row =
-      single tree db its.0 r given holds.keyed there its.1 asked schema keys first.0 u.0
-      (answer_is tree db given u.0 (u.1.answer Null)) first.1 in
-      let edit : Edit = record { table = desk_table tree; gone = its.0 ∷ []; news = row_of its.0 l ∷ [] } in
+      let (found, answers, next, written, trees_are) = update given one h in
+      let asked : column given 4 ≡ Int id = its in
+      let first = applied_first schema keys db next (edit_of db (desk_table tree) (ids_of found) Given 1 found)
+      written in
+      let (hits, found_are) =
+      single tree db id r given holds.keyed there its asked schema keys first.0 found
+      (answer_is tree db given found (answers.answer Null)) first.1 in
+      let edit : Edit = record { table = desk_table tree; gone = id ∷ []; news = row_of id l ∷ [] } in
       let writes =
-      subst (λ e. Writes schema keys db e (Ok u.2))
-      (ap (λ qs. edit_of db (desk_table tree) (ids_of qs) Given 1 qs) one_row.1
-      ∙ edit_is tree db its.0 r given holds.keyed there its.1 asked l lines holds key refl) u.3 in
+      subst (λ e. Writes schema keys db e (Ok next))
+      (ap (λ qs. edit_of db (desk_table tree) (ids_of qs) Given 1 qs) found_are
+      ∙ edit_is tree db id r given holds.keyed there its asked l lines holds key refl) written in
       let applied =
-      one_step schema keys db u.2 edit
-      (none_act schema tree keys (taken_by db edit) edit.news (key_stays its.0 l r (db tree) one_row.0 key) desk)
+      one_step schema keys db next edit
+      (none_act schema tree keys (taken_by db edit) edit.news (key_stays id l r (db tree) hits key) desk)
       writes in
-      subst Written_as (sym u.4) (
-        updated tree db its.0 r given holds.keyed there its.1 asked l lines holds key refl schema desk keys u.2
-            applied one_row.0,
+      subst Written_as (sym trees_are) (
+        updated tree db id r given holds.keyed there its asked l lines holds key refl schema desk keys next
+            applied hits,
         record { tables = applied.tables; others = applied.others },
-        λ x has. elim (cases_Bool (has_rowid its.0 x)) [
-          | inl hit ↦ put_for r u.2 its.0 applied key x
-              (only_one (subst (λ rows. Has rows x) one_row.0 (has_kept (has_rowid its.0) (db tree) x has hit)))
-          | inr other ↦ left_stays edit u.2 x refl applied has
-              (has_kept (λ y. not (has_rowid its.0 y)) (db tree) x has (ap not other))
+        λ x has. elim (cases_Bool (has_rowid id x)) [
+          | inl hit ↦ put_for r next id applied key x
+              (only_one (subst (λ rows. Has rows x) hits (has_kept (has_rowid id) (db tree) x has hit)))
+          | inr other ↦ left_stays edit next x refl applied has
+              (has_kept (λ y. not (has_rowid id y)) (db tree) x has (ap not other))
         ],
-        inr (r, there, its.0, its.1, applied.rows),
+        inr (r, there, id, its, applied.rows),
       )
     where
       only_one : {x : Row} → Has (r ∷ []) x → x ≡ r
@@ -252,24 +255,24 @@ module _ (schema : Schema) (tree : ℕ) (desk : IsDesk schema tree)
   add_row : (one : Written) → AreConflicts (Some (1 ∷ 2 ∷ 3 ∷ [])) schema.indexes (desk_table tree) (db tree) new []
       → Puts (desk_task schema tree limit keys params) new db (Ok one) → Written_as one.trees
   add_row one are h =
-      let p = put one h in
-      let applied = subst (λ e. Applies schema keys db e p.0) added_edit p.1 in
-      subst Written_as (sym p.2) (
-        added p.0 (λ x there key. conflict_is [] x are there key) applied,
+      let (next, done, trees_are) = put one h in
+      let applied = subst (λ e. Applies schema keys db e next) added_edit done in
+      subst Written_as (sym trees_are) (
+        added next (λ x there key. conflict_is [] x are there key) applied,
         record { tables = applied.tables; others = applied.others },
-        λ x has. left_stays (record { table = desk_table tree; gone = []; news = new ∷ [] }) p.0 x refl applied has has,
+        λ x has. left_stays (record { table = desk_table tree; gone = []; news = new ∷ [] }) next x refl applied has has,
         inl applied.rows,
       )
 
   pub sound_key : (x : Row) → Has (db tree) x
       → conflicts (Some (1 ∷ 2 ∷ 3 ∷ [])) schema.indexes (desk_table tree) new x ≡ true → has_key l x ≡ true
   sound_key x there h =
-      let found = some_has (shares (Some (1 ∷ 2 ∷ 3 ∷ [])) (desk_table tree) new x) schema.indexes h in
-      let i = found.0 in
-      let parts = and_parts (guards i (desk_table tree) && aims (Some (1 ∷ 2 ∷ 3 ∷ [])) i.columns) _ found.2 in
-      let guard = (and_parts (guards i (desk_table tree)) (aims (Some (1 ∷ 2 ∷ 3 ∷ [])) i.columns) parts.0).0 in
+      let (i, listed, shared) = some_has (shares (Some (1 ∷ 2 ∷ 3 ∷ [])) (desk_table tree) new x) schema.indexes h in
+      let (meant, agreeing) = and_parts (guards i (desk_table tree) && aims (Some (1 ∷ 2 ∷ 3 ∷ [])) i.columns) _
+      shared in
+      let guard = (and_parts (guards i (desk_table tree)) (aims (Some (1 ∷ 2 ∷ 3 ∷ [])) i.columns) meant).0 in
       sym (agree_any i.order x new (keyed_of (db tree) lines holds x there) (keyed_row new_id l))
-      ∙ subst (λ at. agree i.order at x at new ≡ true) (desk.sole i found.1 guard) parts.1
+      ∙ subst (λ at. agree i.order at x at new ≡ true) (desk.sole i listed guard) agreeing
 
   pub tries : (one : Written) → Tries (desk_task schema tree limit keys params) Abort (clauses tree) new db (Ok one)
       → Written_as one.trees
@@ -279,37 +282,38 @@ module _ (schema : Schema) (tree : ℕ) (desk : IsDesk schema tree)
       go ([], are, ([], are_none, h)) = add_row one are h
       go ([], are, (x ∷ more, are_none, h)) = add_row one are h
       go (there ∷ rest, are, h) =
-          let r = are.sound there (inl refl) in
-          let key = sound_key r.0 r.1 r.2 in
-          changed r.0 one r.1 key
+          let (r, stored, conflicting, is) = are.sound there (inl refl) in
+          let key = sound_key r stored conflicting in
+          changed r one stored key
           (subst
           (λ t.
           Updates (desk_task schema tree limit keys params) (doing tree) (params ++ rowid t ∷ shown
           (desk_table tree) new) db (Ok one))
-          r.3 h)
+          is h)
 
   -- the statement was done
   pub inserted : (w : Written)
       → InsertsOr (desk_task schema tree limit keys params) Abort (clauses tree) (Values given_row 5) db (Ok w)
       → Written_as w.trees
   inserted w h =
-      let given = went h in
-      let counter = went given.2 in
-      let tried = went counter.2 in
-      let counted = went tried.2 in
+      let (rows, given, counting) = went h in
+      let (count, counter, trying) = went counting in
+      let (done, tried, ending) = went trying in
+      let (last, counts, gives) = went ending in
       let source : Row = Null ∷ params in
-      let each_one = from_rows schema tree limit keys params db source given.0 _ tried.0 given.1.1 tried.1 in
+      let (each, each_tried, each_trees) = from_rows schema tree limit keys params db source rows _ done given.1 tried in
       let plain : cast_row (desk_table tree) source ≡ source = cast_source tree (pos l.kind) (pos l.owner)
       (pos l.place) l.body in
       let one =
       subst
       (λ r. Tries (desk_task schema tree limit keys params) Abort (clauses tree) (with_rowid Chosen (db tree) r) db
-      (Ok each_one.0))
-      plain each_one.1 in
-      let trees : w.trees ≡ each_one.0.trees =
-      ap (λ (it : Written). it.trees) (same_value counted.2) ∙ same_value counted.1 ∙ each_one.2 in
-      subst Written_as (sym trees) (tries each_one.0 one)
+      (Ok each))
+      plain each_tried in
+      let trees : w.trees ≡ each.trees =
+      ap (λ (it : Written). it.trees) (same_value gives) ∙ same_value counts ∙ each_trees in
+      subst Written_as (sym trees) (tries each one)
 
+-- the upsert puts the line, and leaves all else
 pub puts_line : (old new : State) (l : Line) (lines : List Line) (count : ℕ) → IsTrue (is_desk old.now.schema)
     → Holds (stored_rows old.now) lines → Executes upsert_text (shown_line l) old new (Ok count)
     → Stands new.now (put_line lines l) × LeavesOthers old.now new.now
@@ -324,17 +328,19 @@ puts_line old new l lines count stands holds h =
     let w =
     runs_as upsert_text params old new schema refl (upsert desk.place tree) (upsert_is schema tree desk)
     (upsert_plain schema tree desk) count h in
-    let task = went (rw desk.at at w.changed) in
-    let now = ap (λ (t : Tally × Database). t.1) (same_value (went (went task.2).2).2) in
-    let trees : new.now.trees ≡ task.0.trees = ap (λ (d : Database). d.trees) now in
+    let (written, done, concluding) = went (rw desk.at at w.changed) in
+    let (doubt, tested, showing) = went concluding in
+    let (tally, shows, gives) = went showing in
+    let now = ap (λ (t : Tally × Database). t.1) (same_value gives) in
+    let trees : new.now.trees ≡ written.trees = ap (λ (d : Database). d.trees) now in
     let same : new.now.schema ≡ old.now.schema = ap (λ (d : Database). d.schema) now in
-    let all =
+    let (holds_after, others, keys_stay, is_put) =
     subst (Written_as schema tree desk old.step_limit keys l db lines holds) (sym trees)
-    (inserted schema tree desk old.step_limit keys l db lines holds task.0 task.1) in (
+    (inserted schema tree desk old.step_limit keys l db lines holds written done) in (
       (
         subst (λ s. IsTrue (is_desk s)) (sym same) stands,
-        subst (λ s. Holds (new.now.trees (tree_of s)) (put_line lines l)) (sym same) all.0,
+        subst (λ s. Holds (new.now.trees (tree_of s)) (put_line lines l)) (sym same) holds_after,
       ),
-      record { schema = same; rows = all.1; obeys = λ _. w.sound },
-      subst (λ s. IsPut l (stored_rows old.now) (new.now.trees (tree_of s))) (sym same) all.3,
+      record { schema = same; rows = others; obeys = λ _. w.sound },
+      subst (λ s. IsPut l (stored_rows old.now) (new.now.trees (tree_of s))) (sym same) is_put,
     )

@@ -164,8 +164,8 @@ module _ (sql : List ℕ) (params : Row) (old new : State) (schema : Schema) (ha
         → IsStopped old new ⊎ Refuses sql params old.now
     unfolding EndsScope
     refused_inside e other (inl (runs, ended)) = ran e other runs
-    refused_inside e other (inr (ends, is_error, same)) =
-        absurd (escapes old ends.0.command (ap is_work (command_is ends.0 ends.1.is) ∙ works) ends.2)
+    refused_inside e other (inr ((c, it, escaped), is_error, same)) =
+        absurd (escapes old c.command (ap is_work (command_is c it.is) ∙ works) escaped)
 
 -- an open transaction is not committed only where that is stopped
 pub uncommitted : (old new : State) (e : Error) → e ≢ no_memory → IsTrue old.in_transaction → FailsToCommit old new e

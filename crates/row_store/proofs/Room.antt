@@ -177,7 +177,7 @@ module _ (id : ℤ) (l : Line) where
         -- nothing is set off by it
         settled : (n : ℕ) (next : Trees) (why : Option Refusal) → Leads schema keys n next [] (Err why) → ⊥
         settled zero next why h = let e = h.1 in cc
-        settled (suc n) next why h = omega (arith, ap length h.2, length-append h.0 (h.1 ∷ []))
+        settled (suc n) next why (below, work, is, acts) = omega (arith, ap length is, length-append below (work ∷ []))
 
         -- so it is refused only for its size
         pub edit_refused : (why : Option Refusal) → Writes schema keys db edit (Err why)

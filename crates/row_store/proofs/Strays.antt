@@ -23,8 +23,8 @@ all_shown (line ∷ lines) short = ((line, short.0, refl), all_shown lines short
 all_rows_are : (stored : List Row) → AllByRecursion HasId stored → AllByRecursion IsShown (map shown_row stored)
     → AllByRecursion IsRow (map whole_row stored)
 all_rows_are [] ids shown = tt
-all_rows_are (row ∷ rows) ids shown =
-    ((shown.0.0, shown.0.1, (ids.0, shown.0.2)), all_rows_are rows ids.1 shown.1)
+all_rows_are (row ∷ rows) (id, ids) ((line, short, is), shown) =
+    ((line, short, (id, is)), all_rows_are rows ids shown)
 
 -- no row of the answer is another
 pub no_stray : (stored rows : List Row) (lines : List Line) → IsPermutation (map whole_row stored) rows
@@ -35,5 +35,5 @@ no_stray stored rows lines same holds short (at, row, low, here, none) =
     (All-from_recursion _ _ (all_shown lines short)) in
     let all = all_rows_are stored holds.keyed (recursion_from_All _ _ shown) in
     let each : All IsRow rows = All-permutation IsRow _ _ same (All-from_recursion _ _ all) in
-    let it = subst IsRow here (each at row low) in
-    none it.0 it.1 it.2
+    let (line, short, is) = subst IsRow here (each at row low) in
+    none line short is

@@ -17,7 +17,9 @@ use Rattle.sqlite.specs.Term.{Term, lit, col, op2}
 use Rattle.sqlite.specs.Query.{Query, inner, end}
 use Rattle.sqlite_value.specs.Keys.{plain}
 use Rattle.row_store.specs.Table.{ascending}
+use Rattle.sqlite_schema.specs.declared.schema.Column.{Column}
 use Rattle.sqlite_schema.specs.declared.schema.Index.{Index}
+use Rattle.sqlite_schema.specs.declared.schema.Kind.{Kind}
 use Rattle.sqlite_schema.specs.declared.schema.Reference.{Reference}
 use Rattle.sqlite.specs.Source.TheVariants.{Values}
 use Rattle.sqlite.specs.Command.{Command}
@@ -36,33 +38,19 @@ upsert_text =
     codes "INSERT INTO desk_rows (kind, owner, place, body) VALUES (?1, ?2, ?3, ?4) "
     ++ codes "ON CONFLICT (kind, owner, place) DO UPDATE SET body = ?4"
 
+-- a column of this name and kind
+abbrev pub plain_column : List ℕ → Kind → Column
+plain_column name kind =
+    record { name = name; kind = kind; is_strict = false; not_null = true; default = Null; collation = Binary }
+
 -- the table as its text makes it, with its rows in this tree
 abbrev pub desk_table : ℕ → Table
 desk_table tree = record {
   name = codes "desk_rows";
   tree = tree;
   columns =
-      (record
-      { name = codes "kind"; kind = Integer; is_strict = false; not_null = true; default = Null; collation = Binary })
-      ∷ (record {
-        name = codes "owner";
-        kind = Integer;
-        is_strict = false;
-        not_null = true;
-        default = Null;
-        collation = Binary;
-      })
-      ∷ (record {
-        name = codes "place";
-        kind = Integer;
-        is_strict = false;
-        not_null = true;
-        default = Null;
-        collation = Binary;
-      })
-      ∷ (record
-      { name = codes "body"; kind = Any; is_strict = false; not_null = true; default = Null; collation = Binary })
-      ∷ [];
+      plain_column (codes "kind") Integer ∷ plain_column (codes "owner") Integer ∷ plain_column (codes "place") Integer
+      ∷ plain_column (codes "body") Any ∷ [];
   key = None;
   primary = 1 ∷ 2 ∷ 3 ∷ [];
   uniques = (1 ∷ 2 ∷ 3 ∷ []) ∷ [];

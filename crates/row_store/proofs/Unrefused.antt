@@ -155,8 +155,8 @@ asked old new e other stands (inr (c, it, shown)) =
     let desk = desk_of schema stands in
     let known = sym it.is in
     let bare = subst IsPlain (sym known) (select_plain schema tree desk) in
-    let fails = rw (bare.0, bare.1) at shown in
-    let db : fails.0 ≡ old.now = subst (λ b. IsSourceOf b old.now fails.0) (select_reads schema tree desk) fails.1 in
+    let (read, source, refused, same) = rw (bare.0, bare.1) at shown in
+    let db : read ≡ old.now = subst (λ b. IsSourceOf b old.now read) (select_reads schema tree desk) source in
     let refuses = subst₂ (λ k d. RefusesToRead old.step_limit k d [] e)
-    (ap command_of known ∙ select_is schema tree desk) db fails.2 in
+    (ap command_of known ∙ select_is schema tree desk) db refused in
     inr (inr (query_refused schema tree desk old.step_limit old.now.trees e refuses))

@@ -18,7 +18,7 @@ use Rattle.row_store.proofs.Texts.{clauses, desk_table}
 
 -- a part that gave a value did not stop on the way
 pub went : {B E R : Type 0} {b : B} {Stops : E → Type 0} → ((stop : E) × Stops stop × (Ok b ≡ Err stop)) ⊎ R → R
-went (inl stopped) = absurd (let e = stopped.2 in cc)
+went (inl (stop, stops, gives)) = absurd cc
 went (inr on) = on
 
 pub same_value : {B E : Type 0} {a b : B} → ◌≡◌ {A = Result B E} (Ok a) (Ok b) → a ≡ b
@@ -55,8 +55,8 @@ module _ (schema : Schema) (tree : ℕ) (limit : Option ℕ) (keys : Keys) (para
       × Tries (desk_task schema tree limit keys params) Abort (clauses tree)
       (with_rowid Chosen (db tree) (cast_row (desk_table tree) source)) db (Ok one) × (done.0.trees ≡ one.trees)
   each source top done h =
-      let first = went h in
-      (first.0, first.1, ap (λ (d : Written × ℤ). d.0.trees) (same_value first.2))
+      let (one, tried, gives) = went h in
+      (one, tried, ap (λ (d : Written × ℤ). d.0.trees) (same_value gives))
 
   pub from_rows : (source : Row) (rows : List Row) (top : ℤ) (done : Written × ℤ) → rows ≡ source ∷ []
       → TriesEach (desk_task schema tree limit keys params) Abort (clauses tree) rows top (nothing db) (Ok done)

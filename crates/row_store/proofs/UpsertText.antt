@@ -66,26 +66,47 @@ abbrev first_of : List written.Upsert → Option written.Upsert
 first_of [] = None
 first_of (u ∷ us) = Some u
 
--- it has one clause, with a target and with something to set
-clause_is : (u : written.Upsert) × (clauses ≡ u ∷ []) × ((length u.target == 0) ≡ false) × ((length u.sets == 0)
-    ≡ false)
+-- one clause, with a target and with something to set
+record IsOneClause : Type 0 where
+  clause : written.Upsert
+  is : clauses ≡ clause ∷ []
+  targeted : (length clause.target == 0) ≡ false
+  setting : (length clause.sets == 0) ≡ false
+
+-- it has such a one
+clause_is : IsOneClause
 unfolding everything clauses
-clause_is = (_, refl, refl, refl)
+clause_is = record { clause = _; is = refl; targeted = refl; setting = refl }
 
 -- that clause
 abbrev clause : written.Upsert
-clause = clause_is.0
+clause = clause_is.clause
 
 -- its target is the key
 places_are : (tree : ℕ) → places (desk_table tree) clause.target ≡ Ok (1 ∷ 2 ∷ 3 ∷ [])
 unfolding everything clauses clause_is
 places_are tree = refl
 
--- what the text is read as
-insert : (p : Parsed) × IsRead upsert_text 4 p
-    × (p.statement ≡ statement.Insert conflict.Abort (codes "desk_rows") columns rows clauses [])
+-- the text read as an insertion
+record IsInsertion : Type 0 where
+  parsed : Parsed
+  read : IsRead upsert_text 4 parsed
+  statement_is : parsed.statement ≡ statement.Insert conflict.Abort (codes "desk_rows") columns rows clauses []
+
+-- it is one
+insert : IsInsertion
 unfolding everything columns rows clauses
-insert = (_, record { is = refl; untimed = refl; counted = refl; whole = refl; named = refl }, refl)
+insert = record {
+  parsed = _;
+  read = record { is = refl; untimed = refl; counted = refl; whole = refl; named = refl };
+  statement_is = refl;
+}
+
+-- what the clause writes on the table at a place
+record IsDrafted (schema : Schema) (tree place : ℕ) : Type 0 where
+  draft : Draft
+  is : do_update schema place (desk_table tree) 4 clause ≡ Ok draft
+  body : query_of draft ≡ new_body tree
 
 module _ (schema : Schema) (tree : ℕ) (desk : IsDesk schema tree) where
   -- the given row is made of the parameters
@@ -107,58 +128,57 @@ module _ (schema : Schema) (tree : ℕ) (desk : IsDesk schema tree) where
   on_it f = rw desk.named (rw desk.at refl)
 
   -- what the clause writes
-  draft_is : (d : Draft) × (do_update schema desk.place (desk_table tree) 4 clause ≡ Ok d) × (query_of d
-      ≡ new_body tree)
+  draft_is : IsDrafted schema tree desk.place
   unfolding everything clauses clause_is
-  draft_is = (_, refl, refl)
+  draft_is = record { draft = _; is = refl; body = refl }
 
   -- as a program
-  program_is : program schema [] draft_is.0 ≡ Ok (record { lets = []; body = new_body tree })
+  program_is : program schema [] draft_is.draft ≡ Ok (record { lets = []; body = new_body tree })
   unfolding program
-  program_is = rw draft_is.2 (rw accepted refl)
+  program_is = rw draft_is.body (rw accepted refl)
 
   -- so it is what the clause updates by
   update_is : update schema desk.place (desk_table tree) 4 clause ≡ Ok (Some
       (record { lets = []; body = new_body tree }))
   unfolding update
-  update_is = rw clause_is.3 (rw draft_is.1 (rw program_is refl))
+  update_is = rw clause_is.setting (rw draft_is.is (rw program_is refl))
 
   -- the target that is meant
   key_meant_is : key_meant schema (desk_table tree) clause.target ≡ Ok (Some (1 ∷ 2 ∷ 3 ∷ []))
   unfolding key_meant
-  key_meant_is = rw clause_is.2 (rw places_are (rw key_is refl))
+  key_meant_is = rw clause_is.targeted (rw places_are (rw key_is refl))
 
   -- the clauses as they are run
   upserts_are : upserts schema desk.place (desk_table tree) 4 clauses ≡ Ok (it.clauses tree)
   unfolding upserts upsert
-  upserts_are = rw clause_is.1 (rw clause_is.2 (rw key_meant_is (rw update_is refl)))
+  upserts_are = rw clause_is.is (rw clause_is.targeted (rw key_meant_is (rw update_is refl)))
 
   -- the command
   insert_is : insert_or_abort schema 4 (codes "desk_rows") columns rows clauses ≡ Ok (it.upsert desk.place tree)
   unfolding insert_or_abort insert_or
-  insert_is = rw clause_is.1 (on_it _ ∙ rw new_rows_are (rw (← clause_is.1) (rw upserts_are refl)))
+  insert_is = rw clause_is.is (on_it _ ∙ rw new_rows_are (rw (← clause_is.is) (rw upserts_are refl)))
 
   -- no default of the table reads the time
   formats_are : formats_of schema (codes "desk_rows") ≡ []
   formats_are = rw desk.named (rw desk.at refl)
 
   -- what its statement means
-  meant : IsMeant schema 4 insert.0 (it.upsert desk.place tree)
+  meant : IsMeant schema 4 insert.parsed (it.upsert desk.place tree)
   unfolding timed returning shows command
   meant = record {
-    untimed = rw insert.2 (rw insert.1.untimed (rw formats_are refl));
-    unshown = rw insert.2 refl;
-    commands = rw insert.2 insert_is;
+    untimed = rw insert.statement_is (rw insert.read.untimed (rw formats_are refl));
+    unshown = rw insert.statement_is refl;
+    commands = rw insert.statement_is insert_is;
   }
 
   -- the command that the text means
   pub upsert_is : command_of (understood schema upsert_text) ≡ it.upsert desk.place tree
-  upsert_is = command_is insert.1 meant
+  upsert_is = command_is insert.read meant
 
   -- it shows no row, and reads no time
   pub upsert_plain : IsPlain (understood schema upsert_text)
-  upsert_plain = is_plain insert.1 meant
+  upsert_plain = is_plain insert.read meant
 
   -- it is one statement with four parameters
   pub upsert_whole : IsWhole upsert_text 4 (understood schema upsert_text)
-  upsert_whole = is_whole insert.1 meant
+  upsert_whole = is_whole insert.read meant

@@ -61,10 +61,14 @@ pub fn open<S: Start>(rt: &HostRuntime, path: &str, start: S) -> Opening<S>
     ensures refused { IfErr result (λ refused. IfSome refused.1 (λ left. (files : _) × IsFresh true files.log
         × IsFresh false files.db × Refuses files left refused.0)) }
 {
-    match looked(rt, path) {
-        Ok(Some(before)) => open_files(rt, path, start, before),
-        Ok(None) => Err((OpenFault::Foreign, None)),
-        Err(error) => Err((OpenFault::Refused(unlooked(error)), None)),
+    let before = match looked(rt, path) {
+        Ok(Some(before)) => before,
+        Ok(None) => return Err((OpenFault::Foreign, None)),
+        Err(error) => return Err((OpenFault::Refused(unlooked(error)), None)),
+    };
+    match Connection::open_from(rt, path, true, start) {
+        Ok(conn) => without_log(rt, conn, before),
+        Err((error, left)) => Err(refused(rt, path, before, error, left)),
     }
 }
 
@@ -85,29 +89,6 @@ fn unlooked(error: io::Error) -> Error
     match error.kind() {
         ErrorKind::OutOfMemory => Error::SqliteFailure(ErrorCode::OutOfMemory),
         _ => Error::SqliteFailure(ErrorCode::CannotOpen),
-    }
-}
-
-/// Opens files that were so long before.
-fn open_files<S: Start>(rt: &HostRuntime, path: &str, start: S, before: Lengths) -> Opening<S>
-    ensures opened { IfOk result (λ conn. HasCleanDisk (file_state conn) → IsTrue (file_state conn).is_open) }
-    ensures found { IfOk result (λ conn. HasCleanDisk (file_state conn) → (db : Database)
-        → HeldDatabase (image_at S.Start) db → (file_state conn).now ≡ db) }
-    ensures nothing { IfOk result (λ conn. HasCleanDisk (file_state conn) → HeldNothing (image_at S.Start)
-        → (file_state conn).now.schema ≡ no_schema) }
-    ensures sums { IfOk result (λ conn. HasCleanDisk (file_state conn) → HeldNothing (image_at S.Start)
-        → (view conn.store).has_sums ≡ true) }
-    ensures shielded { IfOk result (λ conn. HasCleanDisk (file_state conn) → (file_state conn).IsShielded) }
-    ensures autocommit { IfOk result (λ conn. conn.in_transaction ≡ false) }
-    ensures unlimited { IfOk result (λ conn. conn.step_limit ≡ None) }
-    ensures named { IfErr result (λ refused. IsNamed refused.0) }
-    ensures unreached { IfErr result (λ refused. refused.1 ≡ None → IsUnreached refused.0) }
-    ensures refused { IfErr result (λ refused. IfSome refused.1 (λ left. (files : _) × IsFresh true files.log
-        × IsFresh false files.db × Refuses files left refused.0)) }
-{
-    match Connection::open_from(rt, path, true, start) {
-        Ok(conn) => without_log(rt, conn, before),
-        Err((error, left)) => Err(refused(rt, path, before, error, left)),
     }
 }
 

@@ -16,41 +16,29 @@ Crash g old end = Survives (state g old) (state g end) (MakesTableIn (state g ol
 abbrev Made : {S : Type 0} → Ghosts S → Held S → Held S → Type 0
 Made g end old = HasCleanDisk (state g end) → MakesTable (state g old).now (state g end).now
 
-after_crash : {S : Type 0} (g : Ghosts S) (old last end : Held S)
-    → Survives (state g (record old { in_transaction = true })) (state g last) (λ _. ⊥)
-    → (HasCleanDisk (state g last) → MakesTable (state g old).now (state g last).now)
-    → Survives (state g last) (state g end) (λ trees. trees ≡ (state g last).now.trees) → Crash g old end
-after_crash g old last end before made last_step =
-    survives_then (state g old) (state g last) (state g end) _ _ (MakesTableIn (state g old).now)
+after_crash : {S : Type 0} (g : Ghosts S) (old begun last end given : Held S)
+    → begun ≡ record old { in_transaction = true } → Survives (state g begun) (state g last) (λ _. ⊥)
+    → Made g last begun → Survives (state g last) (state g end) (λ trees. trees ≡ (state g last).now.trees)
+    → end ≡ given → Crash g old given
+after_crash g old begun last end given is before_begun made_begun last_step same =
+    let before = subst (λ h. Survives (state g h) (state g last) (λ _. ⊥)) is before_begun in
+    let made = subst (Made g last) is made_begun in
+    subst (Crash g old) same (survives_then (state g old) (state g last) (state g end) _ _ (MakesTableIn (state g old).now)
     (λ _ db none. absurd none)
     (λ clean db is. ((state g last).now, made (omega (arith, last_step.clean)), is))
-    (survives_begin g old (state g last) _ before) last_step
+    (survives_begin g old (state g last) _ before) last_step)
 
 pub returns-clause-survives : goal.returns-clause-survives
 returns-clause-survives g c =
-    let begun =
-    subst (λ h. Survives (state g.S.Store h) (state g.S.Store c.make_in.new.tx.conn.now) (λ _. ⊥))
-    c.transaction-tx.ensures.begun c.make_in.ensures.survives in
-    let made =
-    subst (Made g.S.Store c.make_in.new.tx.conn.now) c.transaction-tx.ensures.begun c.in_ok-make_in.ensures.made in
-    let crash =
-    after_crash g.S.Store c.args.conn.now c.make_in.new.tx.conn.now c.commit.new.self.0 begun made
-    c.commit.ensures.survives in
-    let same : c.commit.new.self.0 ≡ c.conn-2-1.given.0 = search rules in
-    subst (Crash g.S.Store c.args.conn.now) same crash
+    after_crash g.S.Store c.args.conn.now _ c.make_in.new.tx.conn.now c.commit.new.self.0 c.conn-2-1.given.0
+    c.transaction-tx.ensures.begun c.make_in.ensures.survives c.in_ok-make_in.ensures.made c.commit.ensures.survives
+    (search rules)
 
 pub returns-in_err-commit-clause-survives : goal.returns-in_err-commit-clause-survives
 returns-in_err-commit-clause-survives g c =
-    let begun =
-    subst (λ h. Survives (state g.S.Store h) (state g.S.Store c.make_in.new.tx.conn.now) (λ _. ⊥))
-    c.transaction-tx.ensures.begun c.make_in.ensures.survives in
-    let made =
-    subst (Made g.S.Store c.make_in.new.tx.conn.now) c.transaction-tx.ensures.begun c.in_ok-make_in.ensures.made in
-    let crash =
-    after_crash g.S.Store c.args.conn.now c.make_in.new.tx.conn.now c.commit.new.self.0 begun made
-    c.commit.ensures.survives in
-    let same : c.commit.new.self.0 ≡ c.conn-2-1.given.0 = search rules in
-    subst (Crash g.S.Store c.args.conn.now) same crash
+    after_crash g.S.Store c.args.conn.now _ c.make_in.new.tx.conn.now c.commit.new.self.0 c.conn-2-1.given.0
+    c.transaction-tx.ensures.begun c.make_in.ensures.survives c.in_ok-make_in.ensures.made c.commit.ensures.survives
+    (search rules)
 
 -- what stops a statement or the end of the transaction stops the call
 abbrev IsStoppedOver : {S : Type 0} → Ghosts S → Held S → Held S → Type 0

@@ -5,17 +5,16 @@ use Rattle.row_store.proofs.Halted.{halts}
 use Rattle.row_store.proofs.Rests.{leaves, same_database, goes_on, stays_on}
 use Rattle.row_store.proofs.making.make_table.Goals as goal
 
-pub returns-in_err-at_rest-clause-crash : goal.returns-in_err-at_rest-clause-crash
-returns-in_err-at_rest-clause-crash g c alone =
-    absurd (true≢false (sym (c.in_err-at_rest.ensures.under_way.0 refl) ∙ alone))
-
 pub returns-clause-crash : goal.returns-clause-crash
 returns-clause-crash g c =
     leaves MakesTable (MakesTableIn (state g.S.Store c.args.conn.now).now) (state g.S.Store c.args.conn.now)
     (state g.S.Store c.make_alone.new.conn)
     (λ trees opened left. g.met.S.Store.settled c.args.conn.now.store trees opened left) c.in_ok-at_rest.ensures.rests
     c.make_alone.ensures.survives
-    (λ opened clean db found obeys. let same = same_database db found.0 found.2 obeys found.1.sound in rw same found.1)
+    (λ opened clean db found obeys.
+    let (now, made, is) = found in
+    let same = same_database db now is obeys made.sound in
+    rw same made)
 
 pub returns-clause-goes_on : goal.returns-clause-goes_on
 returns-clause-goes_on g c =
@@ -28,3 +27,7 @@ pub returns-clause-cause : goal.returns-clause-cause
 returns-clause-cause g c =
     halts c.make_alone.result _ _ (state g.S.Store c.args.conn.now) (state g.S.Store c.make_alone.new.conn)
     c.make_alone.ensures.cause
+
+pub returns-in_err-at_rest-clause-crash : goal.returns-in_err-at_rest-clause-crash
+returns-in_err-at_rest-clause-crash g c alone =
+    absurd (true≢false (sym (c.in_err-at_rest.ensures.under_way.0 refl) ∙ alone))

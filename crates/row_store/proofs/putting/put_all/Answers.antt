@@ -1,4 +1,4 @@
-use Rattle.std.proofs.Common.{◌≡◌, ◌≢◌, ◌∙◌, ◌++◌, ◌∷◌, [], List, ◌+◌, fold, map, refl, sym, ap, subst, arith, rules}
+use Rattle.std.proofs.Common.{◌≤◌, ◌≡◌, ◌≢◌, ◌∙◌, ◌++◌, ◌∷◌, [], List, ◌+◌, fold, map, refl, sym, ap, subst, arith, rules}
 use Rattle.std.proofs.Common.{take}
 use Rattle.std.proofs.Common.{true, add-one, ◌⊎◌, ◌<◌, ℕ, inl, inr, length, slice_get, slice_index_or, Some, option_map}
 use Rattle.std.proofs.Math.Seq.{take-suc}
@@ -57,9 +57,9 @@ leaves_then a b c p q = record {
 after_more : (more : List Line) (l : Line) (a b c : Database) → Puts more a b → Puts (l ∷ []) b c
     → Puts (more ++ l ∷ []) a c
 after_more more l a b c first next lines stands =
-    let before = first lines stands in
-    let there = next _ before.0 in
-    ((there.0.0, rw (fold-more _ lines more l) there.0.1), leaves_then a b c before.1 there.1)
+    let (stood, left) = first lines stands in
+    let (stand, left_then) = next _ stood in
+    ((stand.0, rw (fold-more _ lines more l) stand.1), leaves_then a b c left left_then)
 
 kept_then : (a b c : State) → KeepsCommit a b → KeepsCommit b c → KeepsCommit a c
 kept_then a b c p q =
@@ -129,37 +129,30 @@ rows-preserved g c =
 abbrev Crash : {S : Type 0} → Ghosts S → List PackedRow → Held S → Held S → Type 0
 Crash g rows old end = Survives (state g old) (state g end) (PutsIn (map line_of rows) (state g old).now)
 
-after_crash : {S : Type 0} (g : Ghosts S) (rows : List PackedRow) (old last end : Held S)
+after_crash : {S : Type 0} (g : Ghosts S) (rows : List PackedRow) (count : ℕ) (old last end given : Held S)
+    → length rows ≤ count
     → Survives (state g (record old { in_transaction = true })) (state g last) (λ _. ⊥)
-    → (HasCleanDisk (state g last) → Puts (map line_of rows) (state g old).now (state g last).now)
-    → Survives (state g last) (state g end) (λ trees. trees ≡ (state g last).now.trees) → Crash g rows old end
-after_crash g rows old last end before put last_step =
-    survives_then (state g old) (state g last) (state g end) _ _ (PutsIn (map line_of rows) (state g old).now)
+    → (HasCleanDisk (state g last) → Puts (map line_of (take count rows)) (state g old).now (state g last).now)
+    → Survives (state g last) (state g end) (λ trees. trees ≡ (state g last).now.trees) → end ≡ given
+    → Crash g rows old given
+after_crash g rows count old last end given all before some last_step same =
+    let put = rw (take_all count rows all) at some in
+    subst (Crash g rows old) same (survives_then (state g old) (state g last) (state g end) _ _ (PutsIn (map line_of rows) (state g old).now)
     (λ _ db none. absurd none)
     (λ clean db is. ((state g last).now, put (omega (arith, last_step.clean)), is))
-    (survives_begin g old (state g last) _ before) last_step
+    (survives_begin g old (state g last) _ before) last_step)
 
 pub returns-clause-survives : goal.returns-clause-survives
 returns-clause-survives g c =
-    let whole : take c.rows.row-index c.args.rows.now ≡ c.args.rows.now =
-    take_all c.rows.row-index c.args.rows.now c.rows-test.false in
-    let end = c.commit.new.self.0 in
-    let crash =
-    after_crash g.S.Store c.args.rows.now c.args.conn.now c.rows.tx.conn.now end c.rows.invariant.survives
-    (rw whole at c.rows.invariant.put) c.commit.ensures.survives in
-    let same : end ≡ c.conn-2-1.given.0 = search rules in
-    subst (Crash g.S.Store c.args.rows.now c.args.conn.now) same crash
+    after_crash g.S.Store c.args.rows.now c.rows.row-index c.args.conn.now c.rows.tx.conn.now c.commit.new.self.0
+    c.conn-2-1.given.0 c.rows-test.false c.rows.invariant.survives c.rows.invariant.put c.commit.ensures.survives
+    (search rules)
 
 pub returns-in_err-commit-clause-survives : goal.returns-in_err-commit-clause-survives
 returns-in_err-commit-clause-survives g c =
-    let whole : take c.rows.row-index c.args.rows.now ≡ c.args.rows.now =
-    take_all c.rows.row-index c.args.rows.now c.rows-test.false in
-    let end = c.commit.new.self.0 in
-    let crash =
-    after_crash g.S.Store c.args.rows.now c.args.conn.now c.rows.tx.conn.now end c.rows.invariant.survives
-    (rw whole at c.rows.invariant.put) c.commit.ensures.survives in
-    let same : end ≡ c.conn-2-1.given.0 = search rules in
-    subst (Crash g.S.Store c.args.rows.now c.args.conn.now) same crash
+    after_crash g.S.Store c.args.rows.now c.rows.row-index c.args.conn.now c.rows.tx.conn.now c.commit.new.self.0
+    c.conn-2-1.given.0 c.rows-test.false c.rows.invariant.survives c.rows.invariant.put c.commit.ensures.survives
+    (search rules)
 
 abbrev Done : {S : Type 0} → Ghosts S → List PackedRow → Held S → Held S → Type 0
 Done g rows old end = Puts (map line_of rows) (state g old).now (state g end).now
@@ -205,19 +198,19 @@ returns-in_err-put_row-clause-cause g c =
     let early : HasCleanDisk last = omega (arith, c.put_row.ensures.survives.clean) in
     let before = c.rows.invariant.survives in
     let put = c.rows.invariant.put early in
-    let placed = put lines stands in
+    let (stood, left) = put lines stands in
     subst (IsCaused g.S.Store rows c.args.conn.now) same (elim (cases_Bool old.is_open) [
       | inr shut ↦ inl (inr (inl shut))
-      | inl opened ↦ elim (c.in_err-put_row.ensures.cause other failed (c.rows.invariant.inside early) _ placed.0
-          (placed.1.obeys (c.requires.obeys opened))) [
+      | inl opened ↦ elim (c.in_err-put_row.ensures.cause other failed (c.rows.invariant.inside early) _ stood
+          (left.obeys (c.requires.obeys opened))) [
             | inl stop ↦ inl (stopped_within old last late (state g.S.Store end) before.counts before.limit
                 (before.closes early) c.put_row.ensures.survives.counts c.drop-tx.ensures.survives.counts stop)
             | inr lacks ↦ inr (record {
               before = index;
               line = line_of c.row-item.result;
               next = next_line rows (length rows) index c.row-item.result refl c.rows-test.true c.row-item.is;
-              lacks = lacks_before index (line_of c.row-item.result) lines old.now last.now stands placed.0.1.keyed
-                  placed.1 (c.rows.invariant.numbers early) lacks;
+              lacks = lacks_before index (line_of c.row-item.result) lines old.now last.now stands stood.1.keyed
+                  left (c.rows.invariant.numbers early) lacks;
             })
           ]
     ]))

@@ -22,13 +22,14 @@ module _ (old new : State) (l : Line) where
   puts_inside : (r : Result ℕ Error) → ExecutesInside 0 upsert_text (shown_line l) old new r
       → OnOk r (Puts (l ∷ []) old.now new.now)
   puts_inside (Ok count) h = λ lines stands.
-      let done = puts_line old new l lines count stands.0 stands.1 h.0 in (done.0, done.1)
+      let (stand, left, put) = puts_line old new l lines count stands.0 stands.1 h.0 in (stand, left)
   puts_inside (Err e) h = tt
 
   takes_inside : (r : Result ℕ Error) → ExecutesInside 0 upsert_text (shown_line l) old new r
       → OnOk r (TakesNumbers 1 old.now new.now)
   takes_inside (Ok count) h =
-      takes_one l old.now new.now (λ lines stands. (puts_line old new l lines count stands.0 stands.1 h.0).2)
+      takes_one l old.now new.now (λ lines stands.
+      let (stand, left, put) = puts_line old new l lines count stands.0 stands.1 h.0 in put)
   takes_inside (Err e) h = tt
 
 pub returns-clause-puts : goal.returns-clause-puts

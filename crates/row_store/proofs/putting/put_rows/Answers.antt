@@ -22,8 +22,9 @@ returns-clause-crash g c =
     (λ trees opened left. g.met.S.Store.settled c.args.conn.now.store trees opened left) c.in_ok-at_rest.ensures.rests
     c.put_all.ensures.survives
     (λ opened clean db found obeys lines stands.
-    let put = found.1 lines stands in
-    let same = same_database db found.0 found.2 obeys (put.1.obeys (c.in_ok-at_rest.ensures.rests.obeys opened)) in
+    let (now, puts, is) = found in
+    let put = puts lines stands in
+    let same = same_database db now is obeys (put.1.obeys (c.in_ok-at_rest.ensures.rests.obeys opened)) in
     rw same put)
 
 pub returns-in_err-at_rest-clause-lasts : goal.returns-in_err-at_rest-clause-lasts
@@ -41,8 +42,8 @@ last_put more old new (Ok done) store obeys put ends refused lines stands up =
     lasts new store (λ clean. (ends clean).settled)
     (λ clean. (put clean lines stands).1.obeys (obeys (ends clean).was_open)) up
 last_put more old new (Err e) store obeys put ends refused lines stands up =
-    let back = refused up.0 up.1 in
-    lasts new store (λ clean. back.1 ∙ sym back.2) (λ clean. subst IsDatabase (sym back.1) (obeys back.0)) up
+    let (was_open, now_is, committed_is) = refused up.0 up.1 in
+    lasts new store (λ clean. now_is ∙ sym committed_is) (λ clean. subst IsDatabase (sym now_is) (obeys was_open)) up
 
 pub returns-clause-lasts : goal.returns-clause-lasts
 returns-clause-lasts g c alone =

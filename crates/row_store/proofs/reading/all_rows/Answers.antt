@@ -11,12 +11,12 @@ use Rattle.row_store.proofs.Strays.{no_stray}
 
 pub returns-clause-read : goal.returns-clause-read
 returns-clause-read g c clean =
-    let shown = c.in_ok-rows.ensures.shown clean in
+    let (was_clean, was_open, shows) = c.in_ok-rows.ensures.shown clean in
     let read = rw c.deref.ensures.value at c.in_ok-lines_in.ensures.lines in (
-      shown.0,
-      shown.1,
+      was_clean,
+      was_open,
       rw c.from_vec.ensures
-          (reads _ _ c.in_ok-rows.rows.items (map line_of c.in_ok-lines_in.field-0.items) shown.2 read),
+          (reads _ _ c.in_ok-rows.rows.items (map line_of c.in_ok-lines_in.field-0.items) shows read),
     )
 
 pub returns-in_err-rows-clause-cause : goal.returns-in_err-rows-clause-cause
@@ -30,7 +30,7 @@ pub returns-in_err-lines_in-clause-cause : goal.returns-in_err-lines_in-clause-c
 returns-in_err-lines_in-clause-cause g c =
     passed_on c.from_residual-in_err-lines_in.result _ _ c.from_residual-in_err-lines_in.ensures.1
     (λ other alone unlimited clean lines short stand.
-    let shown = (c.in_ok-rows.ensures.shown clean).2 in
+    let (was_clean, was_open, shown) = c.in_ok-rows.ensures.shown clean in
     let stray = rw c.deref.ensures.value at (c.in_err-lines_in.ensures.cause other) in
     absurd
     (no_stray _ c.in_ok-rows.rows.items lines

@@ -1,7 +1,7 @@
 use Rattle.sqlite.specs.WalFiles.{image_at}
 use Rattle.row_store.proofs.Opened.{copied_found, copied_named, copied_nothing, copied_open, copied_refused}
 use Rattle.row_store.proofs.Opened.{blank_file, copied_shielded, copied_sums, copied_unreached}
-use Rattle.row_store.proofs.opening.open_files.Goals as goal
+use Rattle.row_store.proofs.opening.open.Goals as goal
 
 pub returns-in-Ok-clause-opened : goal.returns-in-Ok-clause-opened
 returns-in-Ok-clause-opened g c =
@@ -38,11 +38,11 @@ returns-in-Ok-clause-unreached g c = copied_unreached c.without_log.result c.wit
 pub returns-in-Ok-clause-refused : goal.returns-in-Ok-clause-refused
 returns-in-Ok-clause-refused g c = copied_refused _ c.without_log.result c.without_log.ensures.uncopied
 
-pub returns-in-Err-clause-named : goal.returns-in-Err-clause-named
-returns-in-Err-clause-named g c = rw c.refused.ensures c.in-Err.ensures.named
+pub returns-in-Err-open_from-clause-named : goal.returns-in-Err-open_from-clause-named
+returns-in-Err-open_from-clause-named g c = rw c.refused.ensures c.in-Err-open_from.ensures.named
 
-pub returns-in-Err-clause-unreached : goal.returns-in-Err-clause-unreached
-returns-in-Err-clause-unreached g c = rw c.refused.ensures c.in-Err.ensures.unopened
+pub returns-in-Err-open_from-clause-unreached : goal.returns-in-Err-open_from-clause-unreached
+returns-in-Err-open_from-clause-unreached g c = rw c.refused.ensures c.in-Err-open_from.ensures.unopened
 
-pub returns-in-Err-clause-refused : goal.returns-in-Err-clause-refused
-returns-in-Err-clause-refused g c = rw c.refused.ensures c.in-Err.ensures.cause
+pub returns-in-Err-open_from-clause-refused : goal.returns-in-Err-open_from-clause-refused
+returns-in-Err-open_from-clause-refused g c = rw c.refused.ensures c.in-Err-open_from.ensures.cause
