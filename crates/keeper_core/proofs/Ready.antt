@@ -5,13 +5,14 @@ use Rattle.std.specs.Prelude.{slice_get}
 use Rattle.std.proofs.lemmas.List.{reverse-append}
 use Rattle.std.proofs.lemmas.List.Folds.{list_any_more}
 use Rattle.desk_base.specs.Roomy.{Roomy}
+use Rattle.desk_base.proofs.Bools.{or-second}
 use Rattle.desk_words.specs.declared.change.Change.{Change}
 use Rattle.desk_words.specs.declared.rows.batch.BatchRow.{BatchRow}
 use Rattle.desk_words.specs.declared.rows.record.RecordRow.{RecordRow}
 use Rattle.desk_words.specs.declared.rows.session.SessionRow.{SessionRow}
 use Rattle.desk_words.specs.declared.tables.Tables.{Tables}
 use Rattle.desk_words.proofs.Changes.{AreTables-changed}
-use Rattle.desk_words.specs.Changes.{FitAll, changed}
+use Rattle.desk_words.specs.Changes.{FitAll, changed, changed_all}
 use Rattle.desk_words.specs.Tables.{AreTables, rows_of}
 use Rattle.keeper_core.specs.declared.room.Fresh.{Fresh}
 use Rattle.keeper_core.proofs.Rooms.{HavePlaces-fewer, IfSome-weaker}
@@ -27,11 +28,6 @@ or-first false other is = absurd cc
 or-none : (one : Bool) → IsTrue (one || false) → IsTrue one
 or-none true is = refl
 or-none false is = absurd cc
-
--- one of two is true where the second is
-or-second : (one other : Bool) → IsTrue other → IsTrue (one || other)
-or-second true other is = refl
-or-second false other is = is
 
 -- places for more, of more clerks, are places for fewer
 pub HasPlaces-fewer : {T : Type 0} (rooms : Roomy (Roomy T)) (some all : ℕ → Bool) (fewer count : ℕ)
@@ -128,17 +124,13 @@ pub HasRoom-own : (tables : Tables) (sessions : Roomy (Roomy SessionRow)) (recor
     (batches : Roomy (Roomy BatchRow)) (named : ℕ → Bool) (count : ℕ) → HasRoom tables named count
     → HasPlaces sessions named (count - 1) → HasPlaces records named (count - 1) → HasPlaces batches named (count - 1)
     → HasRoom (record tables { sessions = sessions; records = records; batches = batches }) named (count - 1)
-HasRoom-own tables sessions records batches named count room own_sessions own_records own_batches = record {
-  clerks = omega (arith, room.clerks);
-  schemas = omega (arith, room.schemas);
-  masters = omega (arith, room.masters);
-  rulebooks = omega (arith, room.rulebooks);
-  editions = omega (arith, room.editions);
-  regions = omega (arith, room.regions);
-  sessions = own_sessions;
-  records = own_records;
-  batches = own_batches;
-}
+HasRoom-own tables sessions records batches named count room own_sessions own_records own_batches =
+    assumption (
+      own_sessions,
+      own_records,
+      own_batches,
+      HasRoom-fewer tables named named (count - 1) count (λ one is. is) (omega arith) room,
+    )
 
 -- places are places for one item fewer
 pub HasPlaces-less : {T : Type 0} (rooms : Roomy (Roomy T)) (named : ℕ → Bool) (count : ℕ) → HasPlaces rooms named count
@@ -181,3 +173,29 @@ IsReady-next tables new fresh left change changes ready rows room spare =
 -- the last of a list comes first where it is turned round
 pub reverse-push : {A : Type 0} (items : List A) (last : A) → reverse (items ++ last ∷ []) ≡ last ∷ reverse items
 reverse-push items last = reverse-append items (last ∷ [])
+
+-- changes that are left, of which the last is made first
+module _ (tables : Tables) (fresh : Fresh) (left others : List Change) (last : Change) (is : left ≡ others ++ last ∷ [])
+    (ready : IsReady tables fresh (reverse left)) where
+  -- turned round, they are the last and then the others
+  left-turned : reverse left ≡ last ∷ reverse others
+  left-turned = ap reverse is ∙ reverse-push others last
+
+  -- all is ready for the last
+  pub IsReady-last : IsReady tables fresh (last ∷ [])
+  IsReady-last = IsReady-first tables fresh last (reverse others) (subst (IsReady tables fresh) left-turned ready)
+
+  module _ (new : Tables) (rows : rows_of new ≡ changed (rows_of tables) last) where
+    -- after it the others make the tables what all would make them
+    pub changed_all-others : changed_all (rows_of new) (reverse others) ≡ changed_all (rows_of tables) (reverse left)
+    changed_all-others = ap (λ one. changed_all one (reverse others)) rows
+        ∙ ap (changed_all (rows_of tables)) (sym left-turned)
+
+    -- and all is ready for them
+    pub IsReady-others : (spare : Fresh)
+        → ((named : ℕ → Bool) (clerks count : ℕ) → HasRoom tables named count → AreFresh fresh clerks count
+        → HasRoom new named (count - 1))
+        → ((clerks count : ℕ) → AreFresh fresh (clerk_count (last ∷ []) + clerks) count → AreFresh spare clerks count)
+        → IsReady new spare (reverse others)
+    IsReady-others spare = IsReady-next tables new fresh spare last (reverse others)
+        (subst (IsReady tables fresh) left-turned ready) rows
