@@ -40,7 +40,8 @@ module _ (lengths : Lengths) (changes : List Change) (more : List Line) (old new
       }
 
   pub becomes_changed : Becomes (Puts more) old new → Becomes (ChangesTables changes) old new
-  becomes_changed becomes = λ clean. let made = becomes clean in (made.0, made.1, puts_change made.0 new.now made.2)
+  becomes_changed becomes = λ clean.
+      let (up, is_open, put) = becomes clean in (up, is_open, puts_change up new.now put)
 
   pub leaves_changed : Leaves (Puts more) old new → Leaves (ChangesTables changes) old new
   leaves_changed leaves =
@@ -53,13 +54,13 @@ module _ (lengths : Lengths) (changes : List Change) (more : List Line) (old new
   knows_changed grown shape fit becomes lasts = (
     λ up. lasts (becomes up.0).0 up,
     λ up.
-        let made = becomes up.0 in
-        let k = known made.0 in
-        let told_old : told old ≡ Some k.rows = told_up old made.0 ∙ told_holding age.New old.now k.rows k.holds in
+        let (was_up, is_open, put) = becomes up.0 in
+        let k = known was_up in
+        let told_old : told old ≡ Some k.rows = told_up old was_up ∙ told_holding age.New old.now k.rows k.holds in
         let fits = rw told_old at fit in
         record {
           rows = changed_all k.rows changes;
-          holds = puts_change made.0 new.now made.2 k.rows k.holds fits;
+          holds = puts_change was_up new.now put k.rows k.holds fits;
           long = shape-changed_all k.rows changes ∙ ap (λ l. grown_all l changes) k.long ∙ sym shape;
         },
   )

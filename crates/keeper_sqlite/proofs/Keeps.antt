@@ -41,8 +41,8 @@ module _ (Made : Database → Database → Type 0) (old new : State) (leaves : L
   -- it was done
   pub keeps_done : Becomes Made old new → KeepsTold old new
   keeps_done becomes = record {
-    clean = λ clean. (becomes clean).0.0;
-    told = λ clean opened. let made = becomes clean in (made.0.1, tells made.0.0 new.now made.2);
+    clean = λ clean. let (up, is_open, made) = becomes clean in up.0;
+    told = λ clean opened. let (up, is_open, made) = becomes clean in (up.1, tells up.0 new.now made);
     crash = crash;
     autocommit = alone;
   }
@@ -103,7 +103,7 @@ module _ (a : Age) (s : State) (rows : Rows) (more : List Line) (found : IsFound
       ∙ sym (told_holding a s.now rows (found clean).1)
 
   pub put_held : (new : State) → Becomes (Puts more) s new → IsHeld new rows
-  put_held new becomes = λ clean. let made = becomes clean in (made.1, renewed made.0.0 new.now made.2)
+  put_held new becomes = λ clean. let (up, is_open, made) = becomes clean in (is_open, renewed up.0 new.now made)
 
 -- the first rows
 pub first_renews : (more lines : List Line) → more ≡ lines_of empty_rows → AgesAs age.Blank lines empty_rows

@@ -49,9 +49,9 @@ read_alike a b same = go (rows_in a) refl (rows_in b) refl
 -- where lines stand, what they stand for is told
 pub stand_told : (db : Database) (lines : List Line) → Stands db lines → told_in db ≡ rows_in lines
 stand_told db lines stands =
-    let found = lines_held (stored_rows db) lines stands.1 in
+    let (found, found_is, same) = lines_held (stored_rows db) lines stands.1 in
     ap (λ footing. told_under footing (stored_rows db)) (footing_desk db.schema stands.0)
-    ∙ rw found.1 (sym (read_alike lines found.0 found.2))
+    ∙ rw found_is (sym (read_alike lines found same))
 
 -- what the files stood for is told as soon as they are open
 found_told : (image : Image) (s : State) → Finds image s → HasCleanDisk s → (rows : Rows) → StandFor image rows
@@ -149,9 +149,9 @@ found_held : (image : Image) (s : State) (lengths : Option Lengths) (rows : Rows
     → LoadsHeld (StandFor image) (told_loaded s lengths) rows
 found_held image s None rows found held before stand some = absurd (true≢false (sym some))
 found_held image s (Some lengths) rows found held before stand some =
-    let up = told_some s some in
-    let was = (found up.0.0 before stand).0 up.0.1 in
-    let now = told_holding age.New s.now rows (held up.0.0).1 in
+    let (up, tells) = told_some s some in
+    let was = (found up.0 before stand).0 up.1 in
+    let now = told_holding age.New s.now rows (held up.0).1 in
     let both : ◌≡◌ {A = Option Rows} (Some rows) (Some before) = sym now ∙ was in
     cc
 
@@ -192,11 +192,11 @@ pub left_alone : {D : Type 0} {g : Ghosts D} (it : Connected (FileStore D g)) (f
 left_alone {D} {g} it files loaded knows alone = λ clean.
     let left = alone clean in
     let s = file_state it.connection in
-    let told = told_known s it.lengths loaded knows left.up in (
-      told.0,
-      told.1,
+    let (rows, told, tells) = told_known s it.lengths loaded knows left.up in (
+      rows,
+      told,
       record {
-        seen = stands_alone (image_of g files) s.now told.0 told.2 left.seen;
-        left = λ image may. stands_alone image s.now told.0 told.2 (left.left image may);
+        seen = stands_alone (image_of g files) s.now rows tells left.seen;
+        left = λ image may. stands_alone image s.now rows tells (left.left image may);
       },
     )

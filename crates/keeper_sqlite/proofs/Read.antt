@@ -1,7 +1,7 @@
 -- Where tables are told, the table holds lines that can be read.
 use Rattle.std.proofs.Common.{◌≡◌, inl, inr, ℕ, suc, ℤ, pos, negsuc, ◌+◌, ◌<◌, ◌^◌, ◌==◌, ◌&&◌, ◌||◌, List, [], ◌∷◌}
-use Rattle.std.proofs.Common.{map, length, All, Bool, true, false, nat_lt, Ordering, Equal, is_lt, Option, Some, None}
-use Rattle.std.proofs.Common.{option_map, option_and_then, IsTrue, IsPermutation, refl, sym, add-one, ap, subst, ◌∙◌}
+use Rattle.std.proofs.Common.{map, length, All, Bool, true, false, nat_lt, Ordering, Equal, is_lt, Some}
+use Rattle.std.proofs.Common.{IsTrue, IsPermutation, refl, sym, add-one, ap, subst, ◌∙◌}
 use Rattle.std.proofs.Common.{arith, true≢false}
 use Rattle.std.specs.List.{AllByRecursion}
 use Rattle.std.specs.List.Sorted.{IsSortedBy}
@@ -10,6 +10,8 @@ use Rattle.std.proofs.lemmas.Bool.{cases_Bool}
 use Rattle.std.proofs.lemmas.Bool.Decides.{nat_tests}
 use Rattle.std.proofs.lemmas.List.Elements.{All-from_recursion, All-tail, recursion_from_All}
 use Rattle.std.proofs.lemmas.List.Sorted.{All-permutation, IsPermutation-refl}
+use Rattle.desk_base.proofs.Options.{option_map-Some}
+use Rattle.desk_packing.proofs.Options.{and_then-some}
 use Rattle.desk_packing.proofs.Order.{AreApart, AreApart-from_order, apart-comes_before, by_key-permutation}
 use Rattle.desk_packing.proofs.Order.{comes_before-onward}
 use Rattle.desk_packing.proofs.Permutations.{each-append, each-weaker}
@@ -35,17 +37,6 @@ use Rattle.keeper_sqlite.specs.Telling.{bytes_in, columns_in, is_integer, line_i
 use Rattle.keeper_sqlite.specs.Telling.{told_under}
 
 -- ---- a stored row that is read as a line is that line's
-
--- the steps of an answer that is there
-chained : {A B : Type 0} (o : Option A) (f : A → Option B) (y : B) → option_and_then f o ≡ Some y
-    → (x : A) × (o ≡ Some x) × (f x ≡ Some y)
-chained None f y h = absurd (let e = h in cc)
-chained (Some x) f y h = (x, refl, h)
-
-mapped : {A B : Type 0} (o : Option A) (f : A → B) (y : B) → option_map f o ≡ Some y
-    → (x : A) × (o ≡ Some x) × (f x ≡ y)
-mapped None f y h = absurd (let e = h in cc)
-mapped (Some x) f y h = (x, refl, let e = h in cc)
 
 number_is : (v : Value) (n : ℕ) → number_in v ≡ Some n → v ≡ Int (pos n)
 number_is (Int (pos k)) n h = let same : k ≡ n = let e = h in cc in ap (λ m. Int (pos m)) same
@@ -75,15 +66,15 @@ cells_are a b c d x y z w e f g h = rw (e, f, g, h) refl
 
 columns_are : (row : Row) (line : Line) → columns_in row ≡ Some line → shown_row row ≡ shown_line line
 columns_are row line h =
-    let kind = chained (number_in (column row 1)) _ line h in
-    let owner = chained (number_in (column row 2)) _ line kind.2 in
-    let place = chained (number_in (column row 3)) _ line owner.2 in
-    let body = mapped (bytes_in (column row 4)) _ line place.2 in
-    let made : Line = record { kind = kind.0; owner = owner.0; place = place.0; body = body.0 } in
-    let shown : shown_row row ≡ shown_line made =
-    cells_are _ _ _ _ _ _ _ _ (number_is (column row 1) kind.0 kind.1) (number_is (column row 2) owner.0 owner.1)
-    (number_is (column row 3) place.0 place.1) (bytes_are (column row 4) body.0 body.1) in
-    shown ∙ ap shown_line body.2
+    let (kind, kind_is, then_owner) = and_then-some _ (number_in (column row 1)) line h in
+    let (owner, owner_is, then_place) = and_then-some _ (number_in (column row 2)) line then_owner in
+    let (place, place_is, then_body) = and_then-some _ (number_in (column row 3)) line then_place in
+    let (body, body_is, made) = option_map-Some _ (bytes_in (column row 4)) line then_body in
+    let read : Line = record { kind = kind; owner = owner; place = place; body = body } in
+    let shown : shown_row row ≡ shown_line read =
+    cells_are _ _ _ _ _ _ _ _ (number_is (column row 1) kind kind_is) (number_is (column row 2) owner owner_is)
+    (number_is (column row 3) place place_is) (bytes_are (column row 4) body body_is) in
+    shown ∙ ap shown_line made
 
 line_is : (row : Row) (line : Line) → line_in row ≡ Some line → HasId row × (shown_row row ≡ shown_line line)
 line_is row line h = elim (cases_Bool (is_integer (rowid row))) [
@@ -95,23 +86,23 @@ rows_are : (rows : List Row) (lines : List Line) → lines_in rows ≡ Some line
     → AllByRecursion HasId rows × (map shown_row rows ≡ map shown_line lines)
 rows_are [] lines h = let same : [] ≡ lines = let e = h in cc in (tt, ap (map shown_line) same)
 rows_are (row ∷ rows) lines h =
-    let first = chained (line_in row) _ lines h in
-    let rest = mapped (lines_in rows) _ lines first.2 in
-    let one = line_is row first.0 first.1 in
-    let more = rows_are rows rest.0 rest.1 in
-    ((one.0, more.0), rw (one.1, more.1) (ap (map shown_line) rest.2))
+    let (first, first_is, then_rest) = and_then-some _ (line_in row) lines h in
+    let (rest, rest_is, made) = option_map-Some _ (lines_in rows) lines then_rest in
+    let one = line_is row first first_is in
+    let more = rows_are rows rest rest_is in
+    ((one.0, more.0), rw (one.1, more.1) (ap (map shown_line) made))
 
 -- where the table stands and tables are told, lines stand that are read as these
 pub told_lines : (db : Database) (rows : Rows) → IsTrue (is_desk db.schema) → told_in db ≡ Some rows
     → (lines : List Line) × Stands db lines × StandFor lines rows
 told_lines db rows desk told =
     let read = ap (λ footing. told_under footing (stored_rows db)) (sym (footing_desk db.schema desk)) ∙ told in
-    let lines = chained (lines_in (stored_rows db)) rows_in rows read in
-    let are = rows_are (stored_rows db) lines.0 lines.1 in
+    let (lines, lines_are, tables) = and_then-some rows_in (lines_in (stored_rows db)) rows read in
+    let are = rows_are (stored_rows db) lines lines_are in
     let same =
     subst (λ shown. IsPermutation (map shown_row (stored_rows db)) shown) are.1
     (IsPermutation-refl (map shown_row (stored_rows db))) in
-    (lines.0, (desk, record { keyed = are.0; same = same }), (rows_in-StandFor lines.0 rows).0 lines.2)
+    (lines, (desk, record { keyed = are.0; same = same }), (rows_in-StandFor lines rows).0 tables)
 
 -- ---- lines of tables have short numbers
 
@@ -201,13 +192,13 @@ in_order : (lines : List Line) → IsSortedBy (λ x y. is_lt (by_key x y)) (map 
     → AreByKey lines
 in_order [] up apart = tt
 in_order (line ∷ []) up apart = (tt, tt)
-in_order (line ∷ next ∷ lines) up apart =
+in_order (line ∷ next ∷ lines) up ((first_apart, others_apart), apart) =
     let more =
     in_order (next ∷ lines) (tail_sorted (λ x y. is_lt (by_key x y)) (keyed line) (map keyed (next ∷ lines)) up)
-    apart.1 in
+    apart in
     let level : is_lt (by_key (keyed next) (keyed line)) ≡ false = up 0 (keyed line) (omega arith) (omega arith) in
     let not_before : comes_before next line ≡ false = sym (before_is next line) ∙ level in
-    let first : comes_before line next ≡ true = elim (apart-comes_before line next apart.0.0) [
+    let first : comes_before line next ≡ true = elim (apart-comes_before line next first_apart) [
       | inl before ↦ before
       | inr after ↦ absurd (true≢false (sym after ∙ not_before))
     ] in (

@@ -1,5 +1,5 @@
 -- What a keeper tells before and after its calls.
-use Rattle.std.proofs.Common.{◌≡◌, inl, inr, List, Option, Some, None, Result, Ok, Err, IfOk, OnErr, is_some, false}
+use Rattle.std.proofs.Common.{◌≡◌, inl, inr, List, Option, Some, None, Result, Ok, Err, IfOk, OnErr, is_some}
 use Rattle.std.proofs.Common.{true≢false, refl, sym, ap, subst, subst₂, ◌∙◌}
 use Rattle.desk_words.specs.Changes.{changed_all}
 use Rattle.desk_words.specs.Tables.{Rows}
@@ -29,16 +29,18 @@ change_lost (Some rows) changes = tt
 -- what is told is as before, where it is told still
 pub stays_told : (old new : State) → KeepsTold old new → StayTold (told old) (told new)
 stays_told old new keeps = elim (told_cases new) [
-  | inl up ↦ (let back = keeps.told up.0.0 up.0.1 in
-      let same : told new ≡ told old = up.1 ∙ back.1 ∙ sym (told_up old (keeps.clean up.0.0, back.0)) in
+  | inl now ↦ (let (up, tells) = now in
+      let back = keeps.told up.0 up.1 in
+      let same : told new ≡ told old = tells ∙ back.1 ∙ sym (told_up old (keeps.clean up.0, back.0)) in
       subst (StayTold (told old)) (sym same) (stay_same (told old)))
   | inr none ↦ subst (StayTold (told old)) (sym none) (stay_lost (told old))
 ]
 
 pub stays_refused : (old new : State) → Stays old new → StayTold (told old) (told new)
 stays_refused old new stays = elim (told_cases new) [
-  | inl up ↦ (let back = (stays up.0.0).1 up.0.1 in
-      let same : told new ≡ told old = up.1 ∙ ap told_in back.1 ∙ sym (told_up old ((stays up.0.0).0, back.0)) in
+  | inl now ↦ (let (up, tells) = now in
+      let back = (stays up.0).1 up.1 in
+      let same : told new ≡ told old = tells ∙ ap told_in back.1 ∙ sym (told_up old ((stays up.0).0, back.0)) in
       subst (StayTold (told old)) (sym same) (stay_same (told old)))
   | inr none ↦ subst (StayTold (told old)) (sym none) (stay_lost (told old))
 ]
@@ -46,7 +48,8 @@ stays_refused old new stays = elim (told_cases new) [
 -- tables that were loaded are told
 pub held_told : (s : State) (rows : Rows) → IsHeld s rows → IfTold (told s) rows
 held_told s rows held = elim (told_cases s) [
-  | inl up ↦ subst (λ o. IfTold o rows) (sym (up.1 ∙ told_holding age.New s.now rows (held up.0.0).1)) refl
+  | inl now ↦ (let (up, tells) = now in
+      subst (λ o. IfTold o rows) (sym (tells ∙ told_holding age.New s.now rows (held up.0).1)) refl)
   | inr none ↦ subst (λ o. IfTold o rows) (sym none) tt
 ]
 
@@ -65,12 +68,12 @@ pub changed_told : (lengths : Lengths) (old new : State) (changes : List Change)
     → FitTold (told old) changes → Becomes (ChangesTables changes) old new
     → ChangeTold (told old) (told new) changes
 changed_told lengths old new changes known fit becomes = elim (told_cases new) [
-  | inl up ↦ (let made = becomes up.0.0 in
-      let k = known.1 made.0 in
-      let told_old : told old ≡ Some k.rows = told_up old made.0 ∙ told_holding age.New old.now k.rows k.holds in
+  | inl now ↦ (let (up, tells) = now in
+      let (was_up, is_open, made) = becomes up.0 in
+      let k = known.1 was_up in
+      let told_old : told old ≡ Some k.rows = told_up old was_up ∙ told_holding age.New old.now k.rows k.holds in
       let told_new : told new ≡ Some (changed_all k.rows changes) =
-      up.1
-      ∙ told_holding age.New new.now (changed_all k.rows changes) (made.2 k.rows k.holds (rw told_old at fit)) in
+      tells ∙ told_holding age.New new.now (changed_all k.rows changes) (made k.rows k.holds (rw told_old at fit)) in
       subst₂ (λ a b. ChangeTold a b changes) (sym told_old) (sym told_new) refl)
   | inr none ↦ subst (λ b. ChangeTold (told old) b changes) (sym none) (change_lost (told old) changes)
 ]
@@ -79,10 +82,11 @@ changed_told lengths old new changes known fit becomes = elim (told_cases new) [
 pub held_kept : (old new : State) (rows : Rows) → KeepsTold old new → IsHeld new rows
     → LoadsHeld (TellsUp old) (told new) rows
 held_kept old new rows keeps held before tells some = elim (told_cases new) [
-  | inl up ↦ (let back = keeps.told up.0.0 up.0.1 in
-      let was : told_in old.now ≡ Some before = tells (keeps.clean up.0.0) back.0 in
-      let now : told_in new.now ≡ Some rows = told_holding age.New new.now rows (held up.0.0).1 in
-      let both : ◌≡◌ {A = Option Rows} (Some rows) (Some before) = sym now ∙ back.1 ∙ was in
+  | inl now ↦ (let (up, tells_now) = now in
+      let back = keeps.told up.0 up.1 in
+      let was : told_in old.now ≡ Some before = tells (keeps.clean up.0) back.0 in
+      let is : told_in new.now ≡ Some rows = told_holding age.New new.now rows (held up.0).1 in
+      let both : ◌≡◌ {A = Option Rows} (Some rows) (Some before) = sym is ∙ back.1 ∙ was in
       cc)
   | inr none ↦ absurd (true≢false (sym some ∙ ap is_some none))
 ]
@@ -149,7 +153,3 @@ pub loaded_again : {T : Type 0} (rows_in : T → Rows) (r : Result T KeepFail) (
 loaded_again rows_in (Ok made) old new clean keeps held =
     (held_before old new (rows_in made) clean keeps held, held_told new (rows_in made) held)
 loaded_again rows_in (Err fail) old new clean keeps held = tt
-
-pub none_of : {T : Type 0} (o : Option T) → is_some o ≡ false → o ≡ None
-none_of None h = refl
-none_of (Some x) h = absurd (true≢false h)

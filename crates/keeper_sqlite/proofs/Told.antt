@@ -59,7 +59,8 @@ each_shown rows lines holds =
 found_lines : (rows : List Row) → AllByRecursion IsShown (map shown_row rows)
     → (found : List Line) × (map shown_row rows ≡ map shown_line found)
 found_lines [] h = ([], refl)
-found_lines (row ∷ rows) h = let more = found_lines rows h.1 in (h.0.0 ∷ more.0, ap₂ ◌∷◌ h.0.1 more.1)
+found_lines (row ∷ rows) ((line, is), shown) =
+    let (lines, are) = found_lines rows shown in (line ∷ lines, ap₂ ◌∷◌ is are)
 
 -- rows that are these lines are read as them, in some order
 pub lines_held : (rows : List Row) (lines : List Line) → Holds rows lines
@@ -100,11 +101,11 @@ stand_moved (line ∷ lines) (next ∷ more) rows same (is_old, h) =
 -- where the table stands for tables these are told
 pub told_holding : (a : Age) (db : Database) (rows : Rows) → HoldsAs a db rows → told_in db ≡ Some rows
 told_holding a db rows holds =
-    let found = lines_held (stored_rows db) holds.lines holds.stand.1 in
+    let (found, is, same) = lines_held (stored_rows db) holds.lines holds.stand.1 in
     let read =
-    stand_read found.0 rows
-    (stand_moved holds.lines found.0 rows found.2 (ages_stand a holds.lines rows holds.tables)) in
-    ap (λ footing. told_under footing (stored_rows db)) (footing_desk db.schema holds.stand.0) ∙ rw found.1 read
+    stand_read found rows
+    (stand_moved holds.lines found rows same (ages_stand a holds.lines rows holds.tables)) in
+    ap (λ footing. told_under footing (stored_rows db)) (footing_desk db.schema holds.stand.0) ∙ rw is read
 
 -- a connection that is up tells what its database tells
 pub told_up : (s : State) → IsUp s → told s ≡ told_in s.now

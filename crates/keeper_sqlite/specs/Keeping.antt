@@ -22,13 +22,17 @@ pub record Kept (S : Type 0) : Type 0 where
   pub calls : ℕ
   pub faults : ℕ
 
+-- it from its fields in pairs
+abbrev pub kept_from : {S : Type 0} → Held S × (Option Lengths × (ℕ × ℕ)) → Kept S
+kept_from (connection, (lengths, (calls, faults))) =
+    record { connection = connection; lengths = lengths; calls = calls; faults = faults }
+
 -- it is stored as the pairs of its fields
 abbrev pub kept_code : {S : Type 0} → Coded S → Coded (Kept S)
 kept_code {S} store =
     code_by (Held S × (Option Lengths × (ℕ × ℕ)))
     (coded× (held_code store) (coded× (coded_option lengths_code) (coded× coded_ℕ coded_ℕ)))
-    (λ k. (k.connection, (k.lengths, (k.calls, k.faults))))
-    (λ p. record { connection = p.0; lengths = p.1.0; calls = p.1.1.0; faults = p.1.1.1 }) (λ _. refl)
+    (λ k. (k.connection, (k.lengths, (k.calls, k.faults)))) kept_from (λ _. refl)
 
 -- What a keeper over files is to a clause: their path, what they held at first until they are opened, their connection
 -- from then on, and how often it was called and has failed.
@@ -39,14 +43,18 @@ pub record Filed (B S : Type 0) : Type 0 where
   pub calls : ℕ
   pub faults : ℕ
 
+-- it from its fields in pairs
+abbrev pub filed_from : {B S : Type 0} → List ℕ × (Option B × (Option (Connected S) × (ℕ × ℕ))) → Filed B S
+filed_from (path, (start, (tables, (calls, faults)))) =
+    record { path = path; start = start; tables = tables; calls = calls; faults = faults }
+
 -- it is stored as the pairs of its fields
 abbrev pub filed_code : {B S : Type 0} → Coded B → Coded S → Coded (Filed B S)
 filed_code {B} {S} start store =
     code_by (List ℕ × (Option B × (Option (Connected S) × (ℕ × ℕ))))
     (coded× (coded_list coded_ℕ)
     (coded× (coded_option start) (coded× (coded_option (connected_code store)) (coded× coded_ℕ coded_ℕ))))
-    (λ k. (k.path, (k.start, (k.tables, (k.calls, k.faults)))))
-    (λ p. record { path = p.0; start = p.1.0; tables = p.1.1.0; calls = p.1.1.1.0; faults = p.1.1.1.1 }) (λ _. refl)
+    (λ k. (k.path, (k.start, (k.tables, (k.calls, k.faults))))) filed_from (λ _. refl)
 
 -- the connection of files, where they are open
 abbrev pub connection_of : {S : Type 0} → Option (Connected S) → Option (Held S)

@@ -2,12 +2,11 @@
 ghost use Rattle.std.specs.Prelude.{◌≡◌, false, None, Err, IfOk, IsErrOf, OnOk, OnErr, IsSome, is_some};
 ghost use Rattle.desk_words.specs.Tables.{AreTables, rows_of};
 ghost use Rattle.keeper_core.specs.Keeping.{ChangeTold, FitTold, IsLoaded, StayTold};
-ghost use Rattle.row_store.specs.Calls.{Becomes, Lasts, Leaves, Stays};
 ghost use Rattle.sqlite.specs.Held.{state};
 ghost use Rattle.sqlite.specs.State.{HasCleanDisk};
 ghost use Rattle.keeper_sqlite.specs.Causes.{FailsToCommit, FailsToLoad};
-ghost use Rattle.keeper_sqlite.specs.Steps.{ChangesTables, FitKnown, IsHeld, KeepsTold, Knows, Spares};
-ghost use Rattle.keeper_sqlite.specs.Steps.{told_loaded};
+ghost use Rattle.keeper_sqlite.specs.Leaving.{CommitLeaves, LoadLeaves};
+ghost use Rattle.keeper_sqlite.specs.Steps.{FitKnown, Knows, told_loaded};
 ghost use Rattle.keeper_sqlite.specs.Telling.{told};
 
 use crate::committing::commit_changes;
@@ -78,13 +77,9 @@ impl<S: Alter> Holding<S> {
 
     /// Loads the tables, and makes them known. Where it is refused none are known any more.
     pub fn load(&mut self) -> Result<Tables, KeepFail>
-        ensures held { IfOk result (λ made. IsHeld (state S.Store self.new.connection) (rows_of made)) }
         ensures whole { IfOk result (λ made. AreTables (rows_of made)) }
-        ensures keeps { KeepsTold (state S.Store self.old.connection) (state S.Store self.new.connection) }
-        ensures lasts { OnOk result (Lasts (state S.Store self.new.connection)) }
+        ensures leaves { LoadLeaves S.Store self.old.connection self.new.connection result }
         ensures known { OnOk result (IsSome self.new.lengths) }
-        ensures spares { OnErr result (Spares (state S.Store self.old.connection)
-            (state S.Store self.new.connection)) }
         ensures fails { IsErrOf result KeepFail.Failed → HasCleanDisk (state S.Store self.new.connection)
             → FailsToLoad (state S.Store self.old.connection) (state S.Store self.new.connection) }
         ensures forgotten { OnErr result (self.new.lengths ≡ None) }
@@ -102,20 +97,12 @@ impl<S: Alter> Holding<S> {
     /// Commits changes of tables that are known.
     pub fn commit(&mut self, changes: &List<Change>) -> Result<(), KeepFail>
         requires { FitKnown (state S.Store self.old.connection) self.old.lengths changes.now }
-        ensures committed { OnOk result (Becomes (ChangesTables changes.now) (state S.Store self.old.connection)
-            (state S.Store self.new.connection)) }
+        ensures leaves { CommitLeaves S.Store self.old.lengths changes.now self.old.connection self.new.connection
+            result }
         ensures told { OnOk result (ChangeTold (told (state S.Store self.old.connection)) (told
             (state S.Store self.new.connection)) changes.now) }
-        ensures unchanged { OnErr result (Stays (state S.Store self.old.connection)
-            (state S.Store self.new.connection)) }
-        ensures crash { IsSome self.old.lengths
-            → Leaves (ChangesTables changes.now) (state S.Store self.old.connection)
-            (state S.Store self.new.connection) }
-        ensures lasts { OnOk result (Lasts (state S.Store self.new.connection)) }
         ensures known { OnOk result (IsSome self.old.lengths × IsSome self.new.lengths) }
         ensures kept { OnErr result (self.new.lengths ≡ self.old.lengths) }
-        ensures early { self.old.lengths ≡ None
-            → (result ≡ Err KeepFail.Failed) × (self.new.connection ≡ self.old.connection) }
         ensures fails { IsErrOf result KeepFail.Failed → HasCleanDisk (state S.Store self.new.connection)
             → FailsToCommit self.old.lengths changes.now (state S.Store self.old.connection)
             (state S.Store self.new.connection) }
@@ -140,14 +127,10 @@ impl<S: Alter> Holding<S> {
         ensures whole { IfOk result (λ made. AreTables (rows_of made)) }
         ensures unchanged { OnErr result (StayTold (told_loaded (state S.Store self.old.connection) self.old.lengths)
             (told_loaded (state S.Store self.new.connection) self.new.lengths)) }
-        ensures held { IfOk result (λ made. IsHeld (state S.Store self.new.connection) (rows_of made)) }
-        ensures keeps { KeepsTold (state S.Store self.old.connection) (state S.Store self.new.connection) }
-        ensures lasts { OnOk result (Lasts (state S.Store self.new.connection)) }
+        ensures leaves { LoadLeaves S.Store self.old.connection self.new.connection result }
         ensures known { OnOk result (self.old.lengths ≡ None) }
         ensures once { IsSome self.old.lengths
             → (result ≡ Err KeepFail.Failed) × (self.new.connection ≡ self.old.connection) }
-        ensures spares { OnErr result (Spares (state S.Store self.old.connection)
-            (state S.Store self.new.connection)) }
         ensures fails { IsErrOf result KeepFail.Failed → self.old.lengths ≡ None
             → HasCleanDisk (state S.Store self.new.connection)
             → FailsToLoad (state S.Store self.old.connection) (state S.Store self.new.connection) }
@@ -165,15 +148,8 @@ impl<S: Alter> Holding<S> {
             (told_loaded (state S.Store self.new.connection) self.new.lengths) changes.now) }
         ensures unchanged { OnErr result (StayTold (told_loaded (state S.Store self.old.connection) self.old.lengths)
             (told_loaded (state S.Store self.new.connection) self.new.lengths)) }
-        ensures put { OnOk result (Becomes (ChangesTables changes.now) (state S.Store self.old.connection)
-            (state S.Store self.new.connection)) }
-        ensures stays { OnErr result (Stays (state S.Store self.old.connection) (state S.Store self.new.connection)) }
-        ensures crash { IsSome self.old.lengths
-            → Leaves (ChangesTables changes.now) (state S.Store self.old.connection)
-            (state S.Store self.new.connection) }
-        ensures lasts { OnOk result (Lasts (state S.Store self.new.connection)) }
-        ensures early { self.old.lengths ≡ None
-            → (result ≡ Err KeepFail.Failed) × (self.new.connection ≡ self.old.connection) }
+        ensures leaves { CommitLeaves S.Store self.old.lengths changes.now self.old.connection self.new.connection
+            result }
         ensures fails { IsErrOf result KeepFail.Failed → HasCleanDisk (state S.Store self.new.connection)
             → FailsToCommit self.old.lengths changes.now (state S.Store self.old.connection)
             (state S.Store self.new.connection) }

@@ -4,11 +4,11 @@ ghost use Rattle.desk_base.specs.Counts.{risen};
 ghost use Rattle.desk_words.specs.Tables.{AreTables, rows_of};
 ghost use Rattle.keeper_core.specs.Keeping.{ChangeTold, CountsFailures, FitTold};
 ghost use Rattle.keeper_core.specs.Keeping.{IsLoaded, LoadsHeld, NeverFails, StayTold};
-ghost use Rattle.row_store.specs.Calls.{Becomes, Lasts, Leaves, Stays};
 ghost use Rattle.sqlite.specs.Held.{state};
 ghost use Rattle.sqlite.specs.State.{HasCleanDisk};
 ghost use Rattle.keeper_sqlite.specs.Causes.{FailsToCommit, FailsToLoad};
-ghost use Rattle.keeper_sqlite.specs.Steps.{ChangesTables, IsHeld, KeepsTold, Spares, TellsUp, told_loaded};
+ghost use Rattle.keeper_sqlite.specs.Leaving.{CommitLeaves, LoadLeaves};
+ghost use Rattle.keeper_sqlite.specs.Steps.{TellsUp, told_loaded};
 
 use crate::counts::Counts;
 use crate::holding::Holding;
@@ -95,11 +95,7 @@ impl<S: Alter> Keeper for OpenTables<S> {
         ensures steady { ⊥ → NeverFails result × ⊥ }
 
         // What stands in the table then, what a crash leaves, and why it fails.
-        ensures held { IfOk result (λ made. IsHeld (state S.Store self.new.connection) (rows_of made)) }
-        ensures keeps { KeepsTold (state S.Store self.old.connection) (state S.Store self.new.connection) }
-        ensures lasts { OnOk result (Lasts (state S.Store self.new.connection)) }
-        ensures spares { OnErr result (Spares (state S.Store self.old.connection)
-            (state S.Store self.new.connection)) }
+        ensures leaves { LoadLeaves S.Store self.old.connection self.new.connection result }
         ensures once { IsSome self.old.lengths
             → (result ≡ Err KeepFail.Failed) × (self.new.connection ≡ self.old.connection) }
         ensures fails { IsErrOf result KeepFail.Failed → self.old.lengths ≡ None
@@ -122,15 +118,8 @@ impl<S: Alter> Keeper for OpenTables<S> {
         ensures steady { ⊥ → NeverFails result × ⊥ }
 
         // What stands in the table then, what a crash leaves, and why it fails.
-        ensures put { OnOk result (Becomes (ChangesTables changes.now) (state S.Store self.old.connection)
-            (state S.Store self.new.connection)) }
-        ensures stays { OnErr result (Stays (state S.Store self.old.connection) (state S.Store self.new.connection)) }
-        ensures crash { IsSome self.old.lengths
-            → Leaves (ChangesTables changes.now) (state S.Store self.old.connection)
-            (state S.Store self.new.connection) }
-        ensures lasts { OnOk result (Lasts (state S.Store self.new.connection)) }
-        ensures early { self.old.lengths ≡ None
-            → (result ≡ Err KeepFail.Failed) × (self.new.connection ≡ self.old.connection) }
+        ensures leaves { CommitLeaves S.Store self.old.lengths changes.now self.old.connection self.new.connection
+            result }
         ensures fails { IsErrOf result KeepFail.Failed → HasCleanDisk (state S.Store self.new.connection)
             → FailsToCommit self.old.lengths changes.now (state S.Store self.old.connection)
             (state S.Store self.new.connection) }

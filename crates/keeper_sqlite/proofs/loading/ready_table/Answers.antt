@@ -41,8 +41,8 @@ returns-in-Desk-clause-ready g c = record {
 
 pub returns-in-Ok-make_table-clause-spares : goal.returns-in-Ok-make_table-clause-spares
 returns-in-Ok-make_table-clause-spares g c clean opened =
-    let made = c.in-Ok-make_table.ensures.made clean in
-    (made.0.1, inr made.2)
+    let (was_up, is_open, made) = c.in-Ok-make_table.ensures.made clean in
+    (was_up.1, inr made)
 
 pub returns-in-Err-make_table-clause-spares : goal.returns-in-Err-make_table-clause-spares
 returns-in-Err-make_table-clause-spares g c clean opened =

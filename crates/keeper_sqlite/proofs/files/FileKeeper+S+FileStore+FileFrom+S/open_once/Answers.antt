@@ -1,10 +1,10 @@
 use Rattle.std.proofs.Common.{refl, sym, ◌∙◌}
-use Rattle.keeper_sqlite.proofs.Tells.{none_of}
+use Rattle.desk_base.proofs.Options.{None-from_is_some}
 use Rattle.keeper_sqlite.proofs.files.FileKeeper+S+FileStore+FileFrom+S.open_once.Goals as goal
 
 pub returns-in-Ok-clause-told : goal.returns-in-Ok-clause-told
 returns-in-Ok-clause-told g c =
-    let none = none_of c.self.inside.tables (sym c.is_some.ensures ∙ c.if-is_some.false) in
+    let none = None-from_is_some c.self.inside.tables (sym c.is_some.ensures ∙ c.if-is_some.false) in
     rw (← c.self.view_is) (rw (none, c.over.ensures) refl)
 
 pub returns-in-Ok-clause-found : goal.returns-in-Ok-clause-found

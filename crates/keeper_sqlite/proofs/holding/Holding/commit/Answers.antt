@@ -6,14 +6,21 @@ use Rattle.keeper_sqlite.proofs.holding.Holding.commit.Goals as goal
 
 pub returns-in-Ok-clause-told : goal.returns-in-Ok-clause-told
 returns-in-Ok-clause-told g c =
-    let known = rw c.in-Some.is at c.self.invariant.2 in
+    let (autocommit, unlimited, knows) = c.self.invariant in
+    let known = rw c.in-Some.is at knows in
     let fit = rw c.in-Some.is at (rw (← c.self.view_is) at c.requires) in
     rw (← c.self.view_is)
     (changed_told c.in-Some.shape (state g.S.Store c.self.inside.connection)
     (state g.S.Store c.commit_changes.new.conn) c.args.changes.now known fit c.in-Ok.ensures.committed)
 
-pub returns-in-Err-clause-crash : goal.returns-in-Err-clause-crash
-returns-in-Err-clause-crash g c = rw (← c.self.view_is) (λ known. c.commit_changes.ensures.crash)
+pub returns-in-Err-clause-leaves : goal.returns-in-Err-clause-leaves
+returns-in-Err-clause-leaves g c = rw (← c.self.view_is) (record {
+  put = tt;
+  stays = c.in-Err.ensures.unchanged;
+  crash = λ known. c.commit_changes.ensures.crash;
+  lasts = tt;
+  early = λ none. absurd (let some = rw none at c.in-Some.is in cc);
+})
 
 pub returns-in-Err-clause-fails : goal.returns-in-Err-clause-fails
 returns-in-Err-clause-fails g c =

@@ -6,4 +6,4 @@ pub returns-clause-unchanged : goal.returns-clause-unchanged
 returns-clause-unchanged g c =
     refused_loaded c.commit.result (state g.S.Store c.args.self.now.connection)
     (state g.S.Store c.commit.new.self.connection) c.args.self.now.lengths c.commit.new.self.lengths
-    c.commit.ensures.unchanged c.commit.ensures.kept
+    c.commit.ensures.leaves.stays c.commit.ensures.kept

@@ -7,10 +7,10 @@ pub returns-clause-unchanged : goal.returns-clause-unchanged
 returns-clause-unchanged g c =
     rw (← c.self.view_is) (rw c.count.ensures.same
     (refused_told c.commit-answer.result (state g.S.Store c.self.inside.inner.connection)
-    (state g.S.Store c.commit-answer.new.self.connection) c.commit-answer.ensures.unchanged))
+    (state g.S.Store c.commit-answer.new.self.connection) c.commit-answer.ensures.leaves.stays))
 
-pub returns-clause-crash : goal.returns-clause-crash
-returns-clause-crash g c = rw (← c.self.view_is) c.commit-answer.ensures.crash
+pub returns-clause-leaves : goal.returns-clause-leaves
+returns-clause-leaves g c = rw (← c.self.view_is) (rw c.count.ensures.same c.commit-answer.ensures.leaves)
 
 pub returns-clause-fails : goal.returns-clause-fails
 returns-clause-fails g c =
