@@ -18,9 +18,9 @@ use Rattle.desk_valid.specs.declared.reading.Header.{Header}
 pub narrow-outline : (body : List ℕ) (outline : Outline) → read_outline body ≡ Ok outline
     → length outline.columns ≤ MAX_COLUMNS
 narrow-outline body outline is =
-    let told = outlined-master (read_sheet body) outline is in
-    let master = IsMaster-read_sheet body told.0 told.1 in
-    rw (ap (λ (one : Outline). length one.columns) told.2) at master.narrow
+    let (master, reads, outlined) = outlined-master (read_sheet body) outline is in
+    let sound = IsMaster-read_sheet body master reads in
+    rw (ap (λ (one : Outline). length one.columns) outlined) at sound.narrow
 
 -- the header that is told by the outline of a master is the master's
 header_over-outline : (master : Master) → master.grid.columns ≡ length master.columns
@@ -34,11 +34,11 @@ header_over-outline master width = ap (λ (columns : ℕ). let header : Header =
 pub header_in-outline : (row : MasterRow) (outline : Outline) → read_outline row.body ≡ Ok outline
     → Some (header_over outline) ≡ header_in row
 header_in-outline row outline is =
-    let told = outlined-master (read_sheet row.body) outline is in
-    let master = IsMaster-read_sheet row.body told.0 told.1 in
-    ap (λ (one : Outline). Some (header_over one)) (sym told.2)
-    ∙ ap (λ (one : Header). Some one) (header_over-outline told.0 master.width)
-    ∙ ap (λ (given : Result Master SheetFault). option_map header_of (read given)) (sym told.1)
+    let (master, reads, outlined) = outlined-master (read_sheet row.body) outline is in
+    let sound = IsMaster-read_sheet row.body master reads in
+    ap (λ (one : Outline). Some (header_over one)) (sym outlined)
+    ∙ ap (λ (one : Header). Some one) (header_over-outline master sound.width)
+    ∙ ap (λ (given : Result Master SheetFault). option_map header_of (read given)) (sym reads)
 
 -- a body without an outline has no header
 pub header_in-fault : (row : MasterRow) (fault : SheetFault) → read_outline row.body ≡ Err fault

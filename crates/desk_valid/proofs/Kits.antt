@@ -1,11 +1,12 @@
 -- In valid tables what an edition names reads, and binds.
-use Rattle.std.proofs.Common.{◌≡◌, ℕ, zero, suc, ◌<◌, ◌≤◌, true, List, [], ◌∷◌, length, map, Option, Some, None, sym}
-use Rattle.std.proofs.Common.{subst, ap, ◌∙◌, refl, arith}
+use Rattle.std.proofs.Common.{◌≡◌, ℕ, ◌<◌, ◌≤◌, true, List, [], ◌∷◌, length, map, Option, Some, None, sym}
+use Rattle.std.proofs.Common.{subst, ap, ◌∙◌, refl}
 use Rattle.std.specs.Prelude.{All, IfSome, IsSome, IsSomeAnd, is_some, option_map, option_and_then, slice_get, Ok}
 use Rattle.std.specs.Prelude.{Result}
 use Rattle.std.proofs.lemmas.List.{length-map}
 use Rattle.std.proofs.lemmas.List.Elements.{All-head, All-tail}
 use Rattle.std.proofs.lemmas.Option.{same_Some}
+use Rattle.desk_base.proofs.Lists.{slice_get-there}
 use Rattle.fix_model.specs.declared.kit.Kit.{Kit}
 use Rattle.fix_model.specs.Entries.{entries}
 use Rattle.rule_text.specs.declared.binding.BindFault.{BindFault}
@@ -27,12 +28,6 @@ use Rattle.desk_valid.specs.Rows.Schema.{IsSchemaRow}
 use Rattle.desk_valid.specs.Valid.{AreValid}
 use Rattle.desk_valid.proofs.Named.{AreMasters-whole, rules_at-sound}
 use Rattle.desk_valid.proofs.Unrowed.{bound-parts}
-
--- within a list something stands
-slice_get-there : {A : Type 0} (xs : List A) (place : ℕ) → place < length xs → (x : A) × (slice_get xs place ≡ Some x)
-slice_get-there [] place within = absurd (omega arith)
-slice_get-there (x ∷ xs) zero within = (x, refl)
-slice_get-there (x ∷ xs) (suc place) within = slice_get-there xs place (omega arith)
 
 -- what is there is a value
 value-from : {A : Type 0} (found : Option A) → is_some found ≡ true → (value : A) × (found ≡ Some value)

@@ -1,3 +1,4 @@
+pub mod Few
 pub mod First
 pub mod Own
 pub mod Seen

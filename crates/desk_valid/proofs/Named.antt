@@ -14,6 +14,7 @@ use Rattle.rule_text.specs.Binding.{AreMasters}
 use Rattle.rule_text.specs.Reading.{read_rules}
 use Rattle.rule_text.specs.Rulebooks.{IsRulebook}
 use Rattle.rule_text.proofs.Sound.{IsRulebook-from_text}
+pub use Rattle.desk_base.proofs.Options.{option_map-Some}
 use Rattle.desk_words.specs.declared.rows.edition.EditionRow.{EditionRow}
 use Rattle.desk_words.specs.declared.rows.master.MasterRow.{MasterRow}
 use Rattle.desk_words.specs.Tables.{Published}
@@ -30,12 +31,6 @@ use Rattle.desk_valid.specs.Rows.Edition.{AreNamedApart, IsBinding}
 use Rattle.desk_valid.proofs.Readings.{IsSchema-at, Ok-from_read}
 use Rattle.desk_valid.proofs.Unrowed.{narrow-bare, narrow-whole}
 
--- what a value was made of
-pub option_map-Some : {A B : Type 0} (f : A → B) (o : Option A) (y : B) → option_map f o ≡ Some y
-    → (x : A) × (o ≡ Some x) × (f x ≡ y)
-option_map-Some f None y is = absurd (cc)
-option_map-Some f (Some x) y is = (x, refl, cc)
-
 -- one value more
 pub all_of-push : {A : Type 0} (found : List (Option A)) (values : List A) (value : A) → all_of found ≡ Some values
     → all_of (found ++ Some value ∷ []) ≡ Some (values ++ value ∷ [])
@@ -44,8 +39,8 @@ all_of-push [] values value is =
     subst (λ (some : List _). Some (value ∷ []) ≡ Some (some ++ value ∷ [])) none refl
 all_of-push (None ∷ rest) values value is = absurd (cc)
 all_of-push (Some first ∷ rest) values value is =
-    let parts = option_map-Some (λ others. first ∷ others) (all_of rest) values is in
-    rw (all_of-push rest parts.0 value parts.1) (ap (λ some. Some (some ++ value ∷ [])) parts.2)
+    let (others, others_are, made) = option_map-Some (λ others. first ∷ others) (all_of rest) values is in
+    rw (all_of-push rest others value others_are) (ap (λ some. Some (some ++ value ∷ [])) made)
 
 -- where one has no value, not all have
 pub all_of-none : {A : Type 0} (found : List (Option A)) (place : ℕ) → place < length found
@@ -61,8 +56,8 @@ pub all_of-length : {A : Type 0} (found : List (Option A)) (values : List A) →
 all_of-length [] values is = let none : [] ≡ values = cc in ap length none
 all_of-length (None ∷ rest) values is = absurd (cc)
 all_of-length (Some first ∷ rest) values is =
-    let parts = option_map-Some (λ others. first ∷ others) (all_of rest) values is in
-    ap suc (all_of-length rest parts.0 parts.1) ∙ ap length parts.2
+    let (others, others_are, made) = option_map-Some (λ others. first ∷ others) (all_of rest) values is in
+    ap suc (all_of-length rest others others_are) ∙ ap length made
 
 -- each value stands where it was found
 pub all_of-get_or : {A : Type 0} (found : List (Option A)) (values : List A) (place : ℕ) (d : A)
@@ -71,22 +66,21 @@ pub all_of-get_or : {A : Type 0} (found : List (Option A)) (values : List A) (pl
 all_of-get_or [] values place d is within = let none : [] ≡ values = cc in absurd (omega (arith, ap length none))
 all_of-get_or (None ∷ rest) values place d is within = absurd (cc)
 all_of-get_or (Some first ∷ rest) values place d is within =
-    let parts = option_map-Some (λ others. first ∷ others) (all_of rest) values is in
+    let (others, others_are, made) = option_map-Some (λ others. first ∷ others) (all_of rest) values is in
     let Found : List _ → Type 0 = λ some. (place : ℕ) → place < length some
     → get_or (Some first ∷ rest) place None ≡ Some (get_or some place d) in
-    subst Found parts.2 (λ n below. elim n as (λ k. k < length (first ∷ parts.0) → get_or (Some first ∷ rest) k None ≡
-    Some (get_or (first ∷ parts.0) k d)) [
+    subst Found made (λ n below. elim n as (λ k. k < length (first ∷ others) → get_or (Some first ∷ rest) k None ≡
+    Some (get_or (first ∷ others) k d)) [
       | zero ↦ λ _. refl
-      | suc k ↦ λ less. all_of-get_or rest parts.0 k d
-          parts.1 (omega arith)
+      | suc k ↦ λ less. all_of-get_or rest others k d others_are (omega arith)
     ] below) place within
 
 -- the master of a row that has a header
 pub master_in-header : (row : MasterRow) (header : Header) → header_in row ≡ Some header
     → (master : Master) × (master_in row ≡ Some (row.name, master)) × (header_of master ≡ header)
 master_in-header row header is =
-    let parts = option_map-Some header_of (read (read_sheet row.body)) header is in
-    (parts.0, ap (λ (found : Option Master). option_map (λ master. (row.name, master)) found) parts.1, parts.2)
+    let (master, reads, made) = option_map-Some header_of (read (read_sheet row.body)) header is in
+    (master, ap (λ (found : Option Master). option_map (λ one. (row.name, one)) found) reads, made)
 
 -- one master more
 pub bare_at-push : (rows : Published) (places : List ℕ) (bare : Bare) (place : ℕ) (row : MasterRow) (header : Header)
@@ -94,19 +88,18 @@ pub bare_at-push : (rows : Published) (places : List ℕ) (bare : Bare) (place :
     → slice_get rows.masters place ≡ Some row → header_at rows place ≡ Some header
     → bare_at rows (places ++ place ∷ []) ≡ Some (with_master bare row.name header)
 bare_at-push rows places bare place row header so_far stands is =
-    let parts = option_map-Some bare_of (all_of (map (master_at rows) places)) bare so_far in
-    let masters = parts.0 in
-    let found = master_in-header row header (sym (ap (option_and_then header_in) stands) ∙ is) in
-    let named : List ℕ × Master = (row.name, found.0) in
-    let there : master_at rows place ≡ Some named = ap (option_and_then master_in) stands ∙ found.1 in
+    let (masters, masters_are, bare_is) = option_map-Some bare_of (all_of (map (master_at rows) places)) bare so_far in
+    let (master, reads, headed) = master_in-header row header (sym (ap (option_and_then header_in) stands) ∙ is) in
+    let named : List ℕ × Master = (row.name, master) in
+    let there : master_at rows place ≡ Some named = ap (option_and_then master_in) stands ∙ reads in
     let joined : map (master_at rows) (places ++ place ∷ []) ≡ map (master_at rows) places ++ Some named ∷ [] =
     map-append (master_at rows) places (place ∷ []) ∙ ap (λ one. map (master_at rows) places ++ one ∷ []) there in
     let all : all_of (map (master_at rows) (places ++ place ∷ [])) ≡ Some (masters ++ named ∷ []) =
-    ap all_of joined ∙ all_of-push (map (master_at rows) places) masters named parts.1 in
-    let made : bare_of (masters ++ named ∷ []) ≡ with_master (bare_of masters) row.name (header_of found.0) =
+    ap all_of joined ∙ all_of-push (map (master_at rows) places) masters named masters_are in
+    let made : bare_of (masters ++ named ∷ []) ≡ with_master (bare_of masters) row.name (header_of master) =
     rw (map-append bare_pair masters (named ∷ []), map-append count_of masters (named ∷ [])) refl in
-    ap (option_map bare_of) all ∙ ap Some (made ∙ ap (λ (one : Bare). with_master one row.name (header_of found.0))
-    parts.2 ∙ ap (λ (one : Header). with_master bare row.name one) found.2)
+    ap (option_map bare_of) all ∙ ap Some (made ∙ ap (λ (one : Bare). with_master one row.name (header_of master))
+    bare_is ∙ ap (λ (one : Header). with_master bare row.name one) headed)
 
 -- a master that does not read
 pub masters_at-none : (rows : Published) (places : List ℕ) (index : ℕ) → index < length places
@@ -140,13 +133,13 @@ pub rules_at-sound : (rows : Published) (place : ℕ) (rules : Rules) → rules_
 rules_at-sound rows place rules is =
     option_and_then_some (rules_in rows) (slice_get rows.rulebooks place) rules is (λ row stands reads.
     option_and_then_some (rules_over row.body) (schema_at rows row.schema) rules reads (λ schema found over.
-    let parts = option_map-Some (λ rulebook. let made : Rules = record { schema = schema; rulebook = rulebook } in
-    made) (read (read_rules row.body schema)) rules over in
+    let (rulebook, reading, rules_are) = option_map-Some
+    (λ rulebook. let made : Rules = record { schema = schema; rulebook = rulebook } in made)
+    (read (read_rules row.body schema)) rules over in
     let Sound : Rules → Type 0 = λ one. IsSchema one.schema × IsRulebook one.schema one.rulebook in
-    subst Sound parts.2 (
+    subst Sound rules_are (
       IsSchema-at rows row.schema schema found,
-      IsRulebook-from_text row.body schema parts.0
-          (Ok-from_read (read_rules row.body schema) parts.0 parts.1),
+      IsRulebook-from_text row.body schema rulebook (Ok-from_read (read_rules row.body schema) rulebook reading),
     )))
 
 -- two masters have the same name
@@ -169,11 +162,11 @@ master_at-sound : (rows : Published) (place : ℕ) (master : List ℕ × Master)
 master_at-sound rows place master is =
     option_and_then_some master_in (slice_get rows.masters place) master is (λ row stands reads.
     let named : Master → List ℕ × Master = λ one. (row.name, one) in
-    let parts = option_map-Some named (read (read_sheet row.body)) master reads in
+    let (found, reading, named_is) = option_map-Some named (read (read_sheet row.body)) master reads in
     let Sound : List ℕ × Master → Type 0 = λ one. IsMaster one.1 × (name_at rows place ≡ Some one.0) in
     let name : Option MasterRow → Option (List ℕ) = λ found. option_map (λ one. one.name) found in
-    subst Sound parts.2 (
-      IsMaster-read_sheet row.body parts.0 (Ok-from_read (read_sheet row.body) parts.0 parts.1),
+    subst Sound named_is (
+      IsMaster-read_sheet row.body found (Ok-from_read (read_sheet row.body) found reading),
       ap
           name stands,
     ))
@@ -238,39 +231,41 @@ module _ (rows : Published) (row : EditionRow) (rules : Rules) (bare : Bare)
     (rules_are : rules_at rows row.rulebook ≡ Some rules) (bare_is : bare_at rows row.masters ≡ Some bare) where
   pub masters_bind : length row.masters ≤ 8 → AreNamedApart rows row.masters → AreMasters bare.masters
   masters_bind few named =
-      let parts = option_map-Some bare_of (all_of (map (master_at rows) row.masters)) bare bare_is in
-      subst (λ (one : Bare). AreMasters one.masters) parts.2 (AreMasters-bare rows row.masters parts.0 parts.1 few
+      let (masters, masters_are, made) = option_map-Some bare_of (all_of (map (master_at rows) row.masters)) bare
+      bare_is in
+      subst (λ (one : Bare). AreMasters one.masters) made (AreMasters-bare rows row.masters masters masters_are few
       named)
 
   pub binds_as : (test : Bool) → All (λ attribute. attribute < length rules.schema.attributes) row.folded
       → (IsTrue test ↔ BindNarrowly rules bare row.folded)
       → (IsTrue test ↔ IfSome (parts_of rows row) (λ parts. IsBinding parts row.folded))
   binds_as test within decides =
-      let parts = option_map-Some bare_of (all_of (map (master_at rows) row.masters)) bare bare_is in
-      let masters = parts.0 in
+      let (masters, masters_are, bare_made) = option_map-Some bare_of (all_of (map (master_at rows) row.masters)) bare
+      bare_is in
       let whole : Parts = record { rules = rules; masters = masters } in
       let there : parts_of rows row ≡ Some whole =
       ap (option_and_then (λ found. option_map (λ named. let made : Parts = record { rules = found; masters = named }
       in made) (all_of (map (master_at rows) row.masters)))) rules_are
-      ∙ ap (option_map (λ named. let made : Parts = record { rules = rules; masters = named } in made)) parts.1 in
+      ∙ ap (option_map (λ named. let made : Parts = record { rules = rules; masters = named } in made)) masters_are in
       let Binds : Option Parts → Type 0 = λ found. IfSome found (λ one. IsBinding one row.folded) in
       let Narrow : Bare → Type 0 = λ one. BindNarrowly rules one row.folded in (
         λ yes.
-            let narrow : BindNarrowly rules (bare_of masters) row.folded = subst Narrow (sym parts.2) (decides.0 yes) in
-            let made = narrow-whole rules.rulebook rules.schema masters row.folded narrow.kit narrow.binds
+            let narrow : BindNarrowly rules (bare_of masters) row.folded
+            = subst Narrow (sym bare_made) (decides.0 yes) in
+            let (kit, binds, few) = narrow-whole rules.rulebook rules.schema masters row.folded narrow.kit narrow.binds
             narrow.narrow in
             let binding : IsBinding whole row.folded = record {
               folded_within = within;
-              kit = made.0;
-              binds = made.1;
-              narrow = made.2;
+              kit = kit;
+              binds = binds;
+              narrow = few;
             } in
             subst Binds (sym there) binding,
         λ binds.
             let binding : IsBinding whole row.folded = subst Binds there binds in
-            let made = narrow-bare rules.rulebook rules.schema masters row.folded binding.kit binding.binds
+            let (kit, bare_binds, few) = narrow-bare rules.rulebook rules.schema masters row.folded binding.kit binding.binds
             binding.narrow in
             let narrow : BindNarrowly rules (bare_of masters) row.folded = record
-            { kit = made.0; binds = made.1; narrow = made.2 } in
-            decides.1 (subst Narrow parts.2 narrow),
+            { kit = kit; binds = bare_binds; narrow = few } in
+            decides.1 (subst Narrow bare_made narrow),
       )

@@ -1,9 +1,8 @@
 -- What the bodies of rows read as.
-use Rattle.std.proofs.Common.{◌≡◌, ℕ, false, List, map, Option, Some, None, sym, ap, ◌∙◌, refl}
+use Rattle.std.proofs.Common.{◌≡◌, ℕ, List, map, Option, Some, None, sym, ap, ◌∙◌, refl}
 use Rattle.std.specs.Prelude.{is_some, option_map, option_and_then, slice_get, Result, Ok, Err}
-use Rattle.std.specs.Borrow.{Bor}
-use Rattle.std.specs.Option.{option_copied}
 use Rattle.std.proofs.lemmas.Option.{option_and_then_some, slice_get-map}
+use Rattle.desk_base.proofs.Options.{None-from_is_some}
 use Rattle.desk_words.specs.declared.rows.master.MasterRow.{MasterRow}
 use Rattle.desk_words.specs.declared.rows.rulebook.RulebookRow.{RulebookRow}
 use Rattle.desk_words.specs.declared.rows.schema.SchemaRow.{SchemaRow}
@@ -71,16 +70,6 @@ is_some-header_at rows place =
     elim (slice_get rows.masters place) as (λ found. is_some (option_and_then header_in found) ≡ is_some
     (option_and_then master_in found)) [ None ↦ refl | Some row ↦ is_some-header_in row ]
 
--- a reference is there where what it points to is
-pub is_some-copied : {A : Type 0} (found : Option (Bor A)) → is_some (option_copied found) ≡ is_some found
-is_some-copied None = refl
-is_some-copied (Some one) = refl
-
--- a master that has no header does not read
-none-is : {A : Type 0} (found : Option A) → is_some found ≡ false → found ≡ None
-none-is None absent = refl
-none-is (Some one) absent = absurd (cc)
-
--- so is the master at a place
+-- where a place has no header, no master reads there
 pub master_at-none : (rows : Published) (place : ℕ) → header_at rows place ≡ None → master_at rows place ≡ None
-master_at-none rows place none = none-is (master_at rows place) (sym (is_some-header_at rows place) ∙ ap is_some none)
+master_at-none rows place none = None-from_is_some (master_at rows place) (sym (is_some-header_at rows place) ∙ ap is_some none)

@@ -28,12 +28,11 @@ bound_of-requires-clause-bindable c =
 
 pub bound_of-requires-clause-binds : goal.bound_of-requires-clause-binds
 bound_of-requires-clause-binds c =
-    let row = c.index-as_slice-edition.result in
     let within : c.args.edition < length c.as_slice.result.now = omega
     (arith, c.requires.edition, ap length c.as_slice.ensures) in
     rw c.as_slice-2.ensures
-    (known-parts (rows_of c.args.tables.now) c.args.edition row c.in-Some.parts c.requires.valid
-    (slice_get-read c.as_slice.ensures within c.index-as_slice-edition.is)
+    (known-parts (rows_of c.args.tables.now) c.args.edition c.index-as_slice-edition.result c.in-Some.parts
+    c.requires.valid (slice_get-read c.as_slice.ensures within c.index-as_slice-edition.is)
     (sym c.in_ok-parts.ensures ∙ c.in-Some.is)).1
 
 pub returns-clause-bound : goal.returns-clause-bound
@@ -41,12 +40,12 @@ returns-clause-bound c =
     let row = c.index-as_slice-edition.result in
     let within : c.args.edition < length c.as_slice.result.now = omega
     (arith, c.requires.edition, ap length c.as_slice.ensures) in
-    let known = known-parts (rows_of c.args.tables.now) c.args.edition row c.in-Some.parts c.requires.valid
-    (slice_get-read c.as_slice.ensures within c.index-as_slice-edition.is)
+    let (bindable, binds, bound_is) = known-parts (rows_of c.args.tables.now) c.args.edition row c.in-Some.parts
+    c.requires.valid (slice_get-read c.as_slice.ensures within c.index-as_slice-edition.is)
     (sym c.in_ok-parts.ensures ∙ c.in-Some.is) in
     IfOk-weaker c.bound_of.result (λ made. bound_of c.in-Some.parts row.folded ≡ Some made)
     (λ made. bound_at (published_of (rows_of c.args.tables.now)) c.args.edition ≡ Some made)
-    (λ made is. known.2 ∙ is) (rw c.as_slice-2.ensures at c.bound_of.ensures.bound)
+    (λ made is. bound_is ∙ is) (rw c.as_slice-2.ensures at c.bound_of.ensures.bound)
 
 pub returns-clause-narrow : goal.returns-clause-narrow
 returns-clause-narrow c =

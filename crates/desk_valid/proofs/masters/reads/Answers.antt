@@ -2,7 +2,8 @@ use Rattle.std.proofs.Common.{◌≡◌, ◌∙◌, sym, ap}
 use Rattle.std.specs.Prelude.{is_some}
 use Rattle.desk_valid.specs.ReadTables.{published_in}
 use Rattle.desk_valid.specs.Readings.{master_at}
-use Rattle.desk_valid.proofs.Readings.{is_some-copied, is_some-header_at}
+use Rattle.desk_base.proofs.Options.{is_some-copied}
+use Rattle.desk_valid.proofs.Readings.{is_some-header_at}
 use Rattle.desk_valid.proofs.masters.reads.Goals as goal
 
 pub returns : goal.returns
