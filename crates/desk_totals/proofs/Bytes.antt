@@ -8,7 +8,7 @@ use Rattle.desk_words.specs.declared.rows.session.SessionRow.{SessionRow}
 use Rattle.desk_words.specs.Tables.{AreTables, IsShort, Rows, list_at}
 use Rattle.desk_valid.specs.Tallies.{bytes_in, record_bytes, text_bytes, typed_bytes}
 use Rattle.desk_totals.specs.declared.totals.Totals.{Totals}
-use Rattle.desk_totals.specs.Totals.{AreTexts, AreTotals}
+use Rattle.desk_totals.specs.Totals.{AreTexts, AreTotals, no_totals, totals_at}
 
 -- texts have at most 200 bytes each
 pub bytes_in-le : (texts : List (List ℕ)) → AreTexts texts → bytes_in texts ≤ length texts * 200
@@ -79,4 +79,20 @@ text_bytes-most rows totals whole are clerk there =
       record_bytes-le (list_at rows.records clerk) (are.kept clerk),
       sessions,
       records,
+    )
+
+-- what is read of the numbers of a clerk is what is counted
+pub totals-read : (rows : Rows) (totals read : List Totals) (clerk : ℕ) → read ≡ totals → AreTotals rows totals
+    → get_or read clerk no_totals ≡ totals_at rows clerk
+totals-read rows totals read clerk same are =
+    ap (λ (items : List Totals). get_or items clerk no_totals) same ∙ are.right clerk
+
+-- and in tables its bytes are fewer than 2 ^ 105
+pub totals-most : (rows : Rows) (totals read : List Totals) (clerk : ℕ) → read ≡ totals → AreTotals rows totals
+    → AreTables rows → clerk < length rows.clerks → (get_or read clerk no_totals).bytes < 2 ^ 105
+totals-most rows totals read clerk same are whole there =
+    omega (
+      arith,
+      ap (λ (one : Totals). one.bytes) (totals-read rows totals read clerk same are),
+      text_bytes-most rows totals whole are clerk there,
     )

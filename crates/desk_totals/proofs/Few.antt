@@ -5,18 +5,17 @@ use Rattle.std.specs.Prelude.{IfSome, option_and_then, option_map, slice_get, su
 use Rattle.std.proofs.lemmas.List.Sums.{sum_by-le}
 use Rattle.std.proofs.lemmas.Option.{slice_get-get_or}
 use Rattle.desk_words.specs.declared.rows.batch.BatchRow.{BatchRow}
-use Rattle.desk_words.specs.declared.rows.clerk.ClerkRow.{ClerkRow}
 use Rattle.desk_words.specs.declared.rows.edition.EditionRow.{EditionRow}
 use Rattle.desk_words.specs.declared.rows.record.RecordRow.{RecordRow}
 use Rattle.desk_words.specs.declared.rows.session.SessionRow.{SessionRow}
-use Rattle.desk_words.specs.Tables.{IsShort, Rows, list_at, new_clerk, published_of}
+use Rattle.desk_words.specs.Tables.{IsShort, Rows, list_at, published_of}
 use Rattle.desk_valid.specs.declared.reading.Rules.{Rules}
 use Rattle.desk_valid.specs.Readings.{rules_at, width_at}
-use Rattle.desk_valid.specs.Rows.Clerk.{IsClerkRow}
 use Rattle.desk_valid.specs.Rows.Edition.{IsEditionRow}
 use Rattle.desk_valid.specs.Rows.Session.{IsSessionRow}
 use Rattle.desk_valid.specs.Tallies.{bytes_in, master_cells, record_bytes, text_bytes, typed_bytes}
 use Rattle.desk_valid.specs.Valid.{AreValid, IsOwnRecord}
+use Rattle.desk_valid.proofs.Few.{callers-few}
 use Rattle.desk_valid.proofs.Kits.{rules-read}
 use Rattle.desk_valid.proofs.Named.{rules_at-sound}
 use Rattle.desk_totals.specs.declared.totals.Totals.{Totals}
@@ -51,9 +50,9 @@ module _ (rows : Rows) (valid : AreValid rows) where
   session-width : (batches : List BatchRow) (session : SessionRow) → IsSessionRow (published_of rows) batches session
       → length session.typed ≤ 48
   session-width batches session good =
-      let width = width_at-few session.edition good.edition in
+      let (width, is, few) = width_at-few session.edition good.edition in
       let Full : Option ℕ → Type 0 = λ found. IfSome found (λ one. length session.typed ≡ one) in
-      omega (arith, subst Full width.1 good.typed, width.2)
+      omega (arith, subst Full is good.typed, few)
 
   -- a clerk's sessions do
   own-width : (clerk place : ℕ) (session : SessionRow) → slice_get (list_at rows.sessions clerk) place ≡ Some session
@@ -104,18 +103,7 @@ module _ (rows : Rows) (valid : AreValid rows) where
         valid.tables.records.short clerk [] (omega (arith, valid.tables.records.each, there)) in
         omega (arith, typed_bytes-few, record_bytes-few, sessions, records)
 
-  -- there are at most 33 callers
-  callers-few : length rows.clerks ≤ 33
-  callers-few =
-      let none : ClerkRow = new_clerk [] in
-      let last : ℕ = length rows.clerks - 1 in
-      let stands : slice_get rows.clerks last ≡ Some (get_or rows.clerks last none) =
-      slice_get-get_or rows.clerks last none (omega (arith, valid.tables.steward)) in
-      let good : IsClerkRow rows last (get_or rows.clerks last none) =
-      valid.clerks last (get_or rows.clerks last none) stands in
-      omega (arith, good.few)
-
-  -- so their last numbers add up to little
+  -- the last numbers of the callers add up to little
   pub turn-few : sum_by (λ clerk. clerk.last) rows.clerks < 2 ^ 64
   turn-few =
       omega (
@@ -123,7 +111,7 @@ module _ (rows : Rows) (valid : AreValid rows) where
         sum_by-le (λ clerk. clerk.last) 999999999999 rows.clerks
             (All-from_each (λ clerk. clerk.last ≤ 999999999999) rows.clerks
             (λ place row stands. (valid.clerks place row stands).number)),
-        callers-few,
+        callers-few rows valid,
       )
 
   -- and all masters have few cells

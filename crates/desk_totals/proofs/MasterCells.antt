@@ -49,9 +49,9 @@ master_cells-le masters =
 pub cells_in-outline : (row : MasterRow) (outline : Outline) → read_outline row.body ≡ Ok outline
     → length outline.columns * outline.rows ≡ cells_in row
 cells_in-outline row outline is =
-    let told = outlined-master (read_sheet row.body) outline is in
-    ap (λ (one : Outline). length one.columns * one.rows) (sym told.2)
-    ∙ ap (λ (given : Result Master SheetFault). cells_read row.name given) (sym told.1)
+    let (master, reads, outlined) = outlined-master (read_sheet row.body) outline is in
+    ap (λ (one : Outline). length one.columns * one.rows) (sym outlined)
+    ∙ ap (λ (given : Result Master SheetFault). cells_read row.name given) (sym reads)
 
 -- a body that reads as none has no cells
 pub cells_in-fault : (row : MasterRow) (fault : SheetFault) → read_outline row.body ≡ Err fault → 0 ≡ cells_in row

@@ -1,26 +1,21 @@
-use Rattle.std.proofs.Common.{◌≡◌, ◌∙◌, [], ◌∷◌, ◌++◌, List, ap, sym, subst, arith, get_or, set}
+use Rattle.std.proofs.Common.{◌≡◌, ◌∙◌, [], ◌∷◌, ◌++◌, ap, sym, subst, arith, get_or, set}
 use Rattle.desk_base.specs.Roomy.{Roomy}
 use Rattle.desk_words.specs.declared.change.Change.TheVariants as change
 use Rattle.desk_words.specs.Changes.{changed}
 use Rattle.desk_words.specs.Tables.{Rows, list_at, rows_of}
-use Rattle.desk_valid.specs.Tallies.{bytes_in, text_bytes}
+use Rattle.desk_valid.specs.Tallies.{bytes_in}
 use Rattle.desk_totals.specs.declared.totals.Totals.{Totals}
 use Rattle.desk_totals.specs.Totals.{AreTexts, AreTotals, no_totals, totals_of}
-use Rattle.desk_totals.proofs.Bytes.{bytes_in-few, text_bytes-most}
+use Rattle.desk_totals.proofs.Bytes.{bytes_in-few, totals-most, totals-read}
 use Rattle.desk_totals.proofs.Following.{AreTotals-record, totals_of-record}
 use Rattle.desk_totals.proofs.counting.count_record.Goals as goal
 
 pub overflow_add-after : goal.overflow_add-after
 overflow_add-after c =
-    let rows : Rows = rows_of c.args.tables.now in
-    let is : (get_or c.as_slice.result.now c.args.clerk no_totals).bytes ≡ text_bytes
-    (list_at rows.sessions c.args.clerk) (list_at rows.records c.args.clerk) =
-    ap (λ (items : List Totals). (get_or items c.args.clerk no_totals).bytes) c.as_slice.ensures
-    ∙ ap (λ (one : Totals). one.bytes) (c.requires.counted.right c.args.clerk) in
     omega (
       arith,
-      is,
-      text_bytes-most rows c.args.totals.now.items c.requires.whole c.requires.counted c.args.clerk c.requires.fits.0,
+      totals-most (rows_of c.args.tables.now) c.args.totals.now.items c.as_slice.result.now c.args.clerk
+          c.as_slice.ensures c.requires.counted c.requires.whole c.requires.fits.0,
       bytes_in-few c.as_slice-2.result.now c.bytes_in.ensures.texts,
     )
 
@@ -28,9 +23,8 @@ pub returns-clause-counted : goal.returns-clause-counted
 returns-clause-counted c =
     let rows : Rows = rows_of c.args.tables.now in
     let before : Totals = get_or c.as_slice.result.now c.args.clerk no_totals in
-    let is : before ≡ totals_of (list_at rows.sessions c.args.clerk) (list_at rows.records c.args.clerk) =
-    ap (λ (items : List Totals). get_or items c.args.clerk no_totals) c.as_slice.ensures
-    ∙ c.requires.counted.right c.args.clerk in
+    let is = totals-read rows c.args.totals.now.items c.as_slice.result.now c.args.clerk c.as_slice.ensures
+    c.requires.counted in
     let after = totals_of-record before (list_at rows.sessions c.args.clerk) (list_at rows.records c.args.clerk)
     c.args.row.now c.bytes_in.result is (c.bytes_in.ensures.bytes ∙ ap bytes_in c.as_slice-2.ensures) in
     let kept = AreTotals-record rows c.args.totals.now.items c.requires.whole c.requires.counted c.args.clerk

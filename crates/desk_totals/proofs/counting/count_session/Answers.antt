@@ -1,26 +1,20 @@
-use Rattle.std.proofs.Common.{◌≡◌, ◌∙◌, List, ap, sym, subst, arith, get_or, set}
+use Rattle.std.proofs.Common.{◌≡◌, ◌∙◌, ap, sym, subst, arith, get_or, set}
 use Rattle.desk_base.specs.Roomy.{Roomy}
 use Rattle.desk_words.specs.declared.change.Change.TheVariants as change
 use Rattle.desk_words.specs.Changes.{changed, put}
 use Rattle.desk_words.specs.Tables.{Rows, list_at, rows_of}
-use Rattle.desk_valid.specs.Tallies.{text_bytes}
 use Rattle.desk_totals.specs.declared.totals.Totals.{Totals}
 use Rattle.desk_totals.specs.Totals.{AreTotals, no_totals, totals_of}
-use Rattle.desk_totals.proofs.Bytes.{text_bytes-most}
+use Rattle.desk_totals.proofs.Bytes.{totals-most, totals-read}
 use Rattle.desk_totals.proofs.Following.{AreTotals-session, totals_of-session}
 use Rattle.desk_totals.proofs.counting.count_session.Goals as goal
 
 pub bytes_with-bytes-requires-clause-few : goal.bytes_with-bytes-requires-clause-few
 bytes_with-bytes-requires-clause-few c =
-    let rows : Rows = rows_of c.args.tables.now in
-    let is : (get_or c.as_slice.result.now c.args.clerk no_totals).bytes ≡ text_bytes
-    (list_at rows.sessions c.args.clerk) (list_at rows.records c.args.clerk) =
-    ap (λ (items : List Totals). (get_or items c.args.clerk no_totals).bytes) c.as_slice.ensures
-    ∙ ap (λ (one : Totals). one.bytes) (c.requires.counted.right c.args.clerk) in
     omega (
       arith,
-      is,
-      text_bytes-most rows c.args.totals.now.items c.requires.whole c.requires.counted c.args.clerk c.requires.fits.0,
+      totals-most (rows_of c.args.tables.now) c.args.totals.now.items c.as_slice.result.now c.args.clerk
+          c.as_slice.ensures c.requires.counted c.requires.whole c.requires.fits.0,
     )
 
 pub returns-clause-counted : goal.returns-clause-counted
@@ -28,9 +22,8 @@ returns-clause-counted c =
     let rows : Rows = rows_of c.args.tables.now in
     let sessions = list_at rows.sessions c.args.clerk in
     let before : Totals = get_or c.as_slice.result.now c.args.clerk no_totals in
-    let is : before ≡ totals_of sessions (list_at rows.records c.args.clerk) =
-    ap (λ (items : List Totals). get_or items c.args.clerk no_totals) c.as_slice.ensures
-    ∙ c.requires.counted.right c.args.clerk in
+    let is = totals-read rows c.args.totals.now.items c.as_slice.result.now c.args.clerk c.as_slice.ensures
+    c.requires.counted in
     let counted = rw c.own_list-sessions.ensures at c.active_with-active.ensures in
     let added = rw c.own_list-sessions.ensures at c.bytes_with-bytes.ensures.bytes in
     let after = totals_of-session before sessions (list_at rows.records c.args.clerk) c.args.place c.args.row.now
