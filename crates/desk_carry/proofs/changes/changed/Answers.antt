@@ -15,11 +15,11 @@ cells-preserved c =
     (rw c.as_slice-cell-items.ensures at c.cell-item.is) in
     elim c.match-place_before.branch [
       | in-Some+in_ok-push w ↦
-          let found = rw c.as_slice.ensures at w.in-Some.ensures in
+          let (within, stands, same, first) = rw c.as_slice.ensures at w.in-Some.ensures in
           subst (λ (pairs : List (ℕ × ℕ)). ArePairs before after (c.cells.new + 1) pairs)
           (sym (w.pairs-is ∙ w.in_ok-push.ensures.pushed))
           (ArePairs-more before after c.requires.apart c.cells.new c.cells.pairs c.cells.invariant cell at
-          w.in-Some.old found.0 found.1 found.2 found.3)
+          w.in-Some.old within stands same first)
       | in_default w ↦
           let none = rw c.as_slice.ensures at w.in_default.ensures in
           subst (λ (pairs : List (ℕ × ℕ)). ArePairs before after (c.cells.new + 1) pairs) (sym w.pairs-is)
