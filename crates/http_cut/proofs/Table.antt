@@ -1,7 +1,8 @@
 -- The rows of the table: their patterns are plain, and so their parts are texts.
-use Rattle.std.proofs.Common.{◌≡◌, ℕ, suc, ◌<◌, List, [], ◌∷◌, length, Some, Result, Ok, Err, Bool, true, false, cond}
+use Rattle.std.proofs.Common.{◌≡◌, ℕ, zero, suc, ◌<◌, List, [], ◌∷◌, length, take, Some, Result, Ok, Err, Bool, true, false, cond}
 use Rattle.std.proofs.Common.{◌&&◌, refl, sym, subst, arith, ltb, inl, inr, get_or}
 use Rattle.std.specs.Prelude.{⊤}
+use Rattle.std.specs.Borrow.{Bor}
 use Rattle.std.specs.List.{list_all}
 use Rattle.std.specs.Str.{IsUtf8, IsAscii}
 use Rattle.std.proofs.lemmas.Bool.{and_parts, ltb-true}
@@ -17,10 +18,22 @@ use Rattle.matchit.specs.Level.{IsText}
 use Rattle.matchit.specs.declared.error.InsertError.{InsertError}
 use Rattle.matchit.proofs.OnLiterals.{matchit_on_literals}
 use Rattle.http_cut.specs.declared.route.Route.{Route}
-use Rattle.http_cut.specs.Routes.{Rows, placed_read, rows_with, rows_after, patterns, route_rows, parts_of}
+use Rattle.http_cut.specs.Routes.{Rows, placed_read, rows_with, rows_after, patterns, patterns_of, route_rows, parts_of}
 use Rattle.http_cut.proofs.Seeking.{Has, seek_found}
 use Rattle.http_cut.proofs.Segments.{is_plain}
 use Rattle.http_cut.proofs.Walking.{AreNames, AllText-walk}
+
+-- ---- the rows of patterns, one after the other
+
+-- the rows of one more pattern
+pub rows_after-next : (rows : List (Bor (List ℕ) × Route)) (i : ℕ) (other : Bor (List ℕ) × Route) (first : Rows)
+    → i < length rows
+    → rows_after (patterns_of (take (suc i) rows)) first
+    ≡ rows_with (get_or rows i other).0.now (get_or rows i other).1 (rows_after (patterns_of (take i rows)) first)
+rows_after-next [] i other first short = absurd (omega arith)
+rows_after-next (row ∷ rows) zero other first short = refl
+rows_after-next (row ∷ rows) (suc i) other first short =
+    rows_after-next rows i other (rows_with row.0.now row.1 first) (omega arith)
 
 -- ---- a pattern as it is read
 

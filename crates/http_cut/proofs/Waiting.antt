@@ -10,10 +10,9 @@ use Rattle.std.specs.Io.KnownBytes.{Consumes, Keeps}
 use Rattle.httparse.specs.Grammar.{RequestHead, print_request}
 use Rattle.desk_base.specs.declared.limits.TheConstants.{MAX_HEAD, MAX_LONG_BODY}
 use Rattle.http_cut.specs.declared.route.Route.{Route}
-use Rattle.http_cut.specs.declared.route.Route.TheVariants.{AddClerk, AddSchema, AddMaster, AddRulebook, AddEdition}
-use Rattle.http_cut.specs.declared.route.Route.TheVariants.{AddRegion, Enter, Confirm, Withdraw, Commit, Abandon, Batch}
-use Rattle.http_cut.specs.declared.route.Route.TheVariants.{View, Suggest, Preview, Report, Records, DeskReport}
-use Rattle.http_cut.specs.declared.route.Route.TheVariants.{Explain, DeskDerive, AddDerived, SeeCarry, Carry}
+use Rattle.http_cut.specs.declared.route.Route.TheVariants.{Steward, Clerk, Look, Desk}
+use Rattle.http_cut.specs.declared.route.StewardRoute.TheVariants.{AddMaster}
+use Rattle.http_cut.specs.declared.route.ClerkRoute.TheVariants.{Batch}
 use Rattle.http_cut.specs.declared.fields.BadLength.{BadLength}
 use Rattle.http_cut.specs.declared.front.HeadParts.{HeadParts}
 use Rattle.http_cut.specs.declared.step.BadRest.{BadRest}
@@ -26,30 +25,14 @@ use Rattle.http_cut.proofs.Cuts.{Announces-append, announced_is_no_bad_rest, has
 
 -- ---- limits
 
+-- no body is longer than a long one
 route_limit-most : (route : Route) → route_limit route ≤ MAX_LONG_BODY
-route_limit-most AddClerk = omega arith
-route_limit-most AddSchema = omega arith
-route_limit-most AddMaster = omega arith
-route_limit-most AddRulebook = omega arith
-route_limit-most AddEdition = omega arith
-route_limit-most AddRegion = omega arith
-route_limit-most Enter = omega arith
-route_limit-most Confirm = omega arith
-route_limit-most Withdraw = omega arith
-route_limit-most Commit = omega arith
-route_limit-most Abandon = omega arith
-route_limit-most Batch = omega arith
-route_limit-most View = omega arith
-route_limit-most Suggest = omega arith
-route_limit-most Preview = omega arith
-route_limit-most Report = omega arith
-route_limit-most Records = omega arith
-route_limit-most DeskReport = omega arith
-route_limit-most Explain = omega arith
-route_limit-most DeskDerive = omega arith
-route_limit-most AddDerived = omega arith
-route_limit-most SeeCarry = omega arith
-route_limit-most Carry = omega arith
+route_limit-most (Steward AddMaster) = omega arith
+route_limit-most (Steward asked) = omega arith
+route_limit-most (Clerk Batch) = omega arith
+route_limit-most (Clerk asked) = omega arith
+route_limit-most (Look asked) = omega arith
+route_limit-most (Desk asked) = omega arith
 
 match_limit-most : (found : Option Match) → match_limit found ≤ MAX_LONG_BODY
 match_limit-most (Some found) = route_limit-most found.0

@@ -1,6 +1,7 @@
 -- The route of a target, and its parameters: what `matchit` states for one table of patterns.
-use Rattle.std.specs.Prelude.{◌≡◌, ◌≢◌, ◌<◌, ◌++◌, false, ℕ, Bool, true, ◌&&◌, List, [], ◌∷◌, codes, Contains, Option}
+use Rattle.std.specs.Prelude.{◌≡◌, ◌≢◌, ◌<◌, ◌++◌, false, ℕ, Bool, true, ◌&&◌, List, [], ◌∷◌, codes, map, Contains, Option}
 use Rattle.std.specs.Prelude.{Some, None, is_some, option_map, Result, Ok, Err, if◌then◌else◌}
+use Rattle.std.specs.Borrow.{Bor}
 use Rattle.std.specs.Str.{is_utf8}
 use Rattle.desk_base.specs.declared.limits.TheConstants.{MAX_LONG_BODY, MAX_BATCH_BODY, MAX_BODY}
 use Rattle.matchit.specs.Rows.{RowsOf, param_token}
@@ -14,59 +15,39 @@ use Rattle.http_cut.specs.declared.digits.TheConstants.{WRITE_DIGITS, NUMBER_DIG
 use Rattle.http_cut.specs.declared.route.Method.{Method}
 use Rattle.http_cut.specs.declared.route.Method.TheVariants.{Get, Post}
 use Rattle.http_cut.specs.declared.route.Route.{Route}
-use Rattle.http_cut.specs.declared.route.Route.TheVariants.{AddClerk, AddSchema, AddMaster, AddRulebook, AddEdition}
-use Rattle.http_cut.specs.declared.route.Route.TheVariants.{AddRegion, Enter, Confirm, Withdraw, Commit, Abandon, Batch}
-use Rattle.http_cut.specs.declared.route.Route.TheVariants.{View, Suggest, Preview, Report, Records, DeskReport}
-use Rattle.http_cut.specs.declared.route.Route.TheVariants.{Explain, DeskDerive, AddDerived, SeeCarry, Carry}
+use Rattle.http_cut.specs.declared.route.Route.TheVariants.{Steward, Clerk, Look, Desk}
+use Rattle.http_cut.specs.declared.route.StewardRoute.TheVariants.{AddMaster, AddRegion}
+use Rattle.http_cut.specs.declared.route.ClerkRoute.TheVariants.{Batch}
+use Rattle.http_cut.specs.declared.route.LookRoute.TheVariants.{Preview}
+use Rattle.http_cut.specs.declared.route.DeskRoute.TheVariants.{DeskDerive}
+use Rattle.http_cut.specs.declared.route.TheConstants.{PATTERNS}
 use Rattle.http_cut.specs.Numbers.{positive}
 
 -- ---- the table
 
 -- the patterns in their order, each with its route
 abbrev pub patterns : List (List ℕ × Route)
-patterns =
-    (codes "/steward/{n}/clerks", AddClerk)
-    ∷ (codes "/steward/{n}/schemas", AddSchema)
-    ∷ (codes "/steward/{n}/masters/{name}", AddMaster)
-    ∷ (codes "/steward/{n}/rulebooks/{name}/{schema}/{version}", AddRulebook)
-    ∷ (codes "/steward/{n}/editions/{name}", AddEdition)
-    ∷ (codes "/steward/{n}/regions/{edition}/{version}", AddRegion)
-    ∷ (codes "/do/{clerk}/{n}/open/{edition}", Enter)
-    ∷ (codes "/do/{clerk}/{n}/confirm/{session}", Confirm)
-    ∷ (codes "/do/{clerk}/{n}/withdraw/{session}", Withdraw)
-    ∷ (codes "/do/{clerk}/{n}/commit/{session}", Commit)
-    ∷ (codes "/do/{clerk}/{n}/abandon/{session}", Abandon)
-    ∷ (codes "/do/{clerk}/{n}/batch/{edition}", Batch)
-    ∷ (codes "/see/{clerk}/sessions/{session}", View)
-    ∷ (codes "/see/{clerk}/suggest/{session}", Suggest)
-    ∷ (codes "/see/{clerk}/preview/{session}", Preview)
-    ∷ (codes "/see/{clerk}/report", Report)
-    ∷ (codes "/see/{clerk}/records/{edition}/{version}", Records)
-    ∷ (codes "/desk/report", DeskReport)
-    ∷ (codes "/see/{clerk}/explain/{session}/{name}", Explain)
-    ∷ (codes "/desk/derive/{edition}/{version}", DeskDerive)
-    ∷ (codes "/steward/{n}/derive/{edition}/{version}", AddDerived)
-    ∷ (codes "/see/{clerk}/carry/{session}/{version}", SeeCarry)
-    ∷ (codes "/do/{clerk}/{n}/carry/{session}", Carry)
-    ∷ []
+patterns = map (λ row. (row.0.now, row.1)) PATTERNS
+
+-- the same of patterns that a slice lends
+abbrev pub patterns_of : List (Bor (List ℕ) × Route) → List (List ℕ × Route)
+patterns_of rows = map (λ row. (row.0.now, row.1)) rows
 
 -- what keeps nothing is asked for by GET, but for a preview and for what a master gives, which have a body
 abbrev pub method_of : Route → Method
-method_of View = Get
-method_of Suggest = Get
-method_of Report = Get
-method_of Records = Get
-method_of DeskReport = Get
-method_of Explain = Get
-method_of SeeCarry = Get
-method_of _ = Post
+method_of (Steward asked) = Post
+method_of (Clerk asked) = Post
+method_of (Look Preview) = Post
+method_of (Look asked) = Get
+method_of (Desk DeskDerive) = Post
+method_of (Desk asked) = Get
 
--- the most bytes of a body
+-- the most bytes of a body: long are those of a master, of a region's rows and of a batch
 abbrev pub route_limit : Route → ℕ
-route_limit AddMaster = MAX_LONG_BODY
-route_limit AddRegion = MAX_LONG_BODY
-route_limit Batch = MAX_BATCH_BODY
-route_limit _ = MAX_BODY
+route_limit (Steward AddMaster) = MAX_LONG_BODY
+route_limit (Steward AddRegion) = MAX_LONG_BODY
+route_limit (Clerk Batch) = MAX_BATCH_BODY
+route_limit asked = MAX_BODY
 
 -- ---- the table as matchit keeps it
 

@@ -1,4 +1,4 @@
-//! What targets ask for.
+//! What targets ask for, and the table of their patterns.
 ghost use Rattle.std.specs.Prelude.{◌≡◌, ◌≤◌};
 ghost use Rattle.desk_base.specs.declared.limits.TheConstants.{MAX_LONG_BODY};
 ghost use Rattle.http_cut.specs.Routes.{method_of, route_limit};
@@ -12,55 +12,174 @@ pub enum Method {
     Post,
 }
 
-/// What a target asks for, one for each pattern of the table (`docs/formats.md`, *Routes*).
+/// What a target asks for, by who asks.
 #[derive(Clone, Copy, Debug, PartialEq, Eq)]
 pub enum Route {
+    /// A write of the steward.
+    Steward(StewardRoute),
+    /// A write of a clerk.
+    Clerk(ClerkRoute),
+    /// A look of a clerk.
+    Look(LookRoute),
+    /// What whoever stands at the desk asks for.
+    Desk(DeskRoute),
+}
+
+/// The writes of the steward.
+#[derive(Clone, Copy, Debug, PartialEq, Eq)]
+pub enum StewardRoute {
     AddClerk,
     AddSchema,
     AddMaster,
     AddRulebook,
     AddEdition,
     AddRegion,
+    AddDerived,
+}
+
+/// The writes of a clerk.
+#[derive(Clone, Copy, Debug, PartialEq, Eq)]
+pub enum ClerkRoute {
     Enter,
     Confirm,
     Withdraw,
     Commit,
     Abandon,
     Batch,
+    Carry,
+}
+
+/// The looks of a clerk.
+#[derive(Clone, Copy, Debug, PartialEq, Eq)]
+pub enum LookRoute {
     View,
     Suggest,
     Preview,
     Report,
     Records,
-    DeskReport,
     Explain,
-    DeskDerive,
-    AddDerived,
     SeeCarry,
-    Carry,
 }
 
+/// What is asked for at the desk, by no clerk.
+#[derive(Clone, Copy, Debug, PartialEq, Eq)]
+pub enum DeskRoute {
+    DeskReport,
+    DeskDerive,
+}
+
+/// The table: each pattern with what it asks for (`docs/formats.md`, *Routes*).
+pub const PATTERNS: [(&str, Route); 23] = [
+    (
+        "/steward/{n}/clerks",
+        Route::Steward(StewardRoute::AddClerk),
+    ),
+    (
+        "/steward/{n}/schemas",
+        Route::Steward(StewardRoute::AddSchema),
+    ),
+    (
+        "/steward/{n}/masters/{name}",
+        Route::Steward(StewardRoute::AddMaster),
+    ),
+    (
+        "/steward/{n}/rulebooks/{name}/{schema}/{version}",
+        Route::Steward(StewardRoute::AddRulebook),
+    ),
+    (
+        "/steward/{n}/editions/{name}",
+        Route::Steward(StewardRoute::AddEdition),
+    ),
+    (
+        "/steward/{n}/regions/{edition}/{version}",
+        Route::Steward(StewardRoute::AddRegion),
+    ),
+    (
+        "/steward/{n}/derive/{edition}/{version}",
+        Route::Steward(StewardRoute::AddDerived),
+    ),
+    (
+        "/do/{clerk}/{n}/open/{edition}",
+        Route::Clerk(ClerkRoute::Enter),
+    ),
+    (
+        "/do/{clerk}/{n}/confirm/{session}",
+        Route::Clerk(ClerkRoute::Confirm),
+    ),
+    (
+        "/do/{clerk}/{n}/withdraw/{session}",
+        Route::Clerk(ClerkRoute::Withdraw),
+    ),
+    (
+        "/do/{clerk}/{n}/commit/{session}",
+        Route::Clerk(ClerkRoute::Commit),
+    ),
+    (
+        "/do/{clerk}/{n}/abandon/{session}",
+        Route::Clerk(ClerkRoute::Abandon),
+    ),
+    (
+        "/do/{clerk}/{n}/batch/{edition}",
+        Route::Clerk(ClerkRoute::Batch),
+    ),
+    (
+        "/do/{clerk}/{n}/carry/{session}",
+        Route::Clerk(ClerkRoute::Carry),
+    ),
+    (
+        "/see/{clerk}/sessions/{session}",
+        Route::Look(LookRoute::View),
+    ),
+    (
+        "/see/{clerk}/suggest/{session}",
+        Route::Look(LookRoute::Suggest),
+    ),
+    (
+        "/see/{clerk}/preview/{session}",
+        Route::Look(LookRoute::Preview),
+    ),
+    ("/see/{clerk}/report", Route::Look(LookRoute::Report)),
+    (
+        "/see/{clerk}/records/{edition}/{version}",
+        Route::Look(LookRoute::Records),
+    ),
+    (
+        "/see/{clerk}/explain/{session}/{name}",
+        Route::Look(LookRoute::Explain),
+    ),
+    (
+        "/see/{clerk}/carry/{session}/{version}",
+        Route::Look(LookRoute::SeeCarry),
+    ),
+    ("/desk/report", Route::Desk(DeskRoute::DeskReport)),
+    (
+        "/desk/derive/{edition}/{version}",
+        Route::Desk(DeskRoute::DeskDerive),
+    ),
+];
+
 impl Route {
-    /// The method by which it is asked for.
+    /// The method by which it is asked for: what keeps nothing is asked for by GET, but for a preview and for what a
+    /// master gives, which have a body.
     pub fn method(self) -> Method
         ensures { result ≡ method_of self }
     {
         match self {
-            Route::View | Route::Suggest | Route::Report | Route::Records | Route::DeskReport =>
-                Method::Get,
-            Route::Explain | Route::SeeCarry => Method::Get,
-            _ => Method::Post,
+            Route::Look(LookRoute::Preview) | Route::Desk(DeskRoute::DeskDerive) => Method::Post,
+            Route::Look(_) | Route::Desk(_) => Method::Get,
+            Route::Steward(_) | Route::Clerk(_) => Method::Post,
         }
     }
 
-    /// The most bytes of its body.
+    /// The most bytes of its body: long are the bodies of a master, of a region's rows and of a batch.
     pub fn body_limit(self) -> u64
         ensures limit { result ≡ route_limit self }
         ensures few { result ≤ MAX_LONG_BODY }
     {
         match self {
-            Route::AddMaster | Route::AddRegion => MAX_LONG_BODY as u64,
-            Route::Batch => MAX_BATCH_BODY as u64,
+            Route::Steward(StewardRoute::AddMaster | StewardRoute::AddRegion) =>
+                MAX_LONG_BODY as u64,
+            Route::Clerk(ClerkRoute::Batch) => MAX_BATCH_BODY as u64,
             _ => MAX_BODY as u64,
         }
     }

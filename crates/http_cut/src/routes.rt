@@ -1,9 +1,9 @@
 //! The table of routes, and the route of a target.
-ghost use Rattle.std.specs.Prelude.{◌≡◌, take, drop, IfOk, OnOk};
+ghost use Rattle.std.specs.Prelude.{◌≡◌, IfOk, OnOk};
 ghost use Rattle.http_cut.specs.Routes.{match_of, with_good_numbers, route_of};
-ghost use Rattle.http_cut.specs.Routes.{route_rows, rows_with, rows_after, patterns};
+ghost use Rattle.http_cut.specs.Routes.{patterns_of, route_rows, rows_after, rows_with};
 
-use crate::route::Route;
+use crate::route::{PATTERNS, Route};
 use crate::route_match::RouteMatch;
 use desk_base::NoMemory;
 use matchit::Router;
@@ -74,11 +74,17 @@ fn all_routes(alloc: Global) -> Result<Router<Route>, NoMemory>
     ensures { IfOk result (λ router. router ≡ route_rows) }
 {
     let mut router = Router::new(alloc);
-    add_steward(&mut router)?;
-    add_clerk(&mut router)?;
-    add_looks(&mut router)?;
-    add_further(&mut router)?;
+    add_all(&mut router, &PATTERNS)?;
     Ok(router)
+}
+
+fn add_all(router: &mut Router<Route>, rows: &[(&str, Route)]) -> Result<(), NoMemory>
+    ensures { OnOk result (router.new ≡ rows_after (patterns_of rows.now) router.old) }
+{
+    for (pattern, route) in rows {
+        add(router, pattern, *route)?;
+    }
+    Ok(())
 }
 
 fn add(router: &mut Router<Route>, pattern: &str, route: Route) -> Result<(), NoMemory>
@@ -88,84 +94,4 @@ fn add(router: &mut Router<Route>, pattern: &str, route: Route) -> Result<(), No
         Ok(()) => Ok(()),
         Err(_) => Err(NoMemory),
     }
-}
-
-fn add_steward(router: &mut Router<Route>) -> Result<(), NoMemory>
-    ensures { OnOk result (router.new ≡ rows_after (take 6 patterns) router.old) }
-{
-    add(router, "/steward/{n}/clerks", Route::AddClerk)?;
-    add(router, "/steward/{n}/schemas", Route::AddSchema)?;
-    add(router, "/steward/{n}/masters/{name}", Route::AddMaster)?;
-    add(
-        router,
-        "/steward/{n}/rulebooks/{name}/{schema}/{version}",
-        Route::AddRulebook,
-    )?;
-    add(router, "/steward/{n}/editions/{name}", Route::AddEdition)?;
-    add(
-        router,
-        "/steward/{n}/regions/{edition}/{version}",
-        Route::AddRegion,
-    )?;
-    Ok(())
-}
-
-fn add_clerk(router: &mut Router<Route>) -> Result<(), NoMemory>
-    ensures { OnOk result (router.new ≡ rows_after (take 6 (drop 6 patterns)) router.old) }
-{
-    add(router, "/do/{clerk}/{n}/open/{edition}", Route::Enter)?;
-    add(router, "/do/{clerk}/{n}/confirm/{session}", Route::Confirm)?;
-    add(
-        router,
-        "/do/{clerk}/{n}/withdraw/{session}",
-        Route::Withdraw,
-    )?;
-    add(router, "/do/{clerk}/{n}/commit/{session}", Route::Commit)?;
-    add(router, "/do/{clerk}/{n}/abandon/{session}", Route::Abandon)?;
-    add(router, "/do/{clerk}/{n}/batch/{edition}", Route::Batch)?;
-    Ok(())
-}
-
-fn add_looks(router: &mut Router<Route>) -> Result<(), NoMemory>
-    ensures { OnOk result (router.new ≡ rows_after (take 6 (drop 12 patterns)) router.old) }
-{
-    add(router, "/see/{clerk}/sessions/{session}", Route::View)?;
-    add(router, "/see/{clerk}/suggest/{session}", Route::Suggest)?;
-    add(router, "/see/{clerk}/preview/{session}", Route::Preview)?;
-    add(router, "/see/{clerk}/report", Route::Report)?;
-    add(
-        router,
-        "/see/{clerk}/records/{edition}/{version}",
-        Route::Records,
-    )?;
-    add(router, "/desk/report", Route::DeskReport)?;
-    Ok(())
-}
-
-/// The routes that explain, derive and carry.
-fn add_further(router: &mut Router<Route>) -> Result<(), NoMemory>
-    ensures { OnOk result (router.new ≡ rows_after (drop 18 patterns) router.old) }
-{
-    add(
-        router,
-        "/see/{clerk}/explain/{session}/{name}",
-        Route::Explain,
-    )?;
-    add(
-        router,
-        "/desk/derive/{edition}/{version}",
-        Route::DeskDerive,
-    )?;
-    add(
-        router,
-        "/steward/{n}/derive/{edition}/{version}",
-        Route::AddDerived,
-    )?;
-    add(
-        router,
-        "/see/{clerk}/carry/{session}/{version}",
-        Route::SeeCarry,
-    )?;
-    add(router, "/do/{clerk}/{n}/carry/{session}", Route::Carry)?;
-    Ok(())
 }
