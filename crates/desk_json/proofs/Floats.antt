@@ -1,5 +1,5 @@
 -- What is printed holds no float.
-use Rattle.std.proofs.Common.{◌≡◌, ℕ, Bool, List, [], ◌∷◌, map, false, refl}
+use Rattle.std.proofs.Common.{◌≡◌, ℕ, List, map, false, refl}
 use Rattle.std.specs.Prelude.{Option, Some, None, slice_get}
 use Rattle.serde_json.specs.Data.{Data, string}
 use Rattle.serde_json.specs.View.{items_of}

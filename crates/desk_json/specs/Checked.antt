@@ -7,10 +7,10 @@ abbrev pub Checked : Type 0 → Type 0
 Checked A = Result A JsonFault
 
 infixl 10 ◌>>=◌
--- what comes of a value, where the tests before it pass
-abbrev pub ◌>>=◌ : {A B : Type 0} → Checked A → (A → Checked B) → Checked B
+-- what comes of a value, where the tests before it pass; else why the first of them fails
+abbrev pub ◌>>=◌ : {E A B : Type 0} → Result A E → (A → Result B E) → Result B E
 Ok value >>= next = next value
-Err fault >>= next = Err fault
+Err why >>= next = Err why
 
 -- the value, or this fault where there is none
 abbrev pub some_or : {A : Type 0} → JsonFault → Option A → Checked A

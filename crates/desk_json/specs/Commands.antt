@@ -1,6 +1,6 @@
 -- The command that a route and a body are (docs/api.md). A body that is no JSON is passed on as it stands, and a
 -- route without one passes it over.
-use Rattle.std.specs.Prelude.{ℕ, List, Ok, ⊤}
+use Rattle.std.specs.Prelude.{ℕ, List, Ok}
 use Rattle.desk_words.specs.declared.clerk_work.ClerkWork.{ClerkWork}
 use Rattle.desk_words.specs.declared.clerk_work.ClerkWork.TheVariants as clerk_works
 use Rattle.desk_words.specs.declared.command.Command.{Command}
@@ -28,82 +28,53 @@ use Rattle.desk_json.specs.declared.route.Route.TheVariants.{AddRegion, Enter, C
 use Rattle.desk_json.specs.declared.route.Route.TheVariants.{Batch, View, Suggest, Preview, Report, Records, DeskReport}
 use Rattle.desk_json.specs.declared.route.Route.TheVariants.{Explain, DeskDerive, AddDerived, SeeCarry, Carry}
 
--- a write of the steward, with this number and digest
-abbrev pub by_steward : ℕ → Digest → Checked StewardWork → Checked Command
-by_steward n digest read = do
+-- who asks for what, or the first fault of the body
+pub data Asked : Type 0 where
+  by_steward : ℕ → Checked StewardWork → Asked
+  by_clerk : List ℕ → ℕ → Checked ClerkWork → Asked
+  seen_by : List ℕ → Checked Look → Asked
+  at_desk : Checked Command → Asked
+
+-- who asks for what by a route and a body
+abbrev pub asked_in : Route → List ℕ → Asked
+asked_in (AddClerk n) body = by_steward n (add_clerk body)
+asked_in (AddSchema n) body = by_steward n (Ok (steward_works.AddSchema body))
+asked_in (AddMaster n name) body = by_steward n (Ok (steward_works.AddMaster name body))
+asked_in (AddRulebook n name schema version) body =
+    by_steward n (Ok (steward_works.AddRulebook name schema version body))
+asked_in (AddEdition n name) body = by_steward n (add_edition name body)
+asked_in (AddRegion n edition version) body = by_steward n (add_region edition version body)
+asked_in (AddDerived n edition version) body = by_steward n (add_derived edition version body)
+asked_in (Enter clerk n edition) body = by_clerk clerk n (enter edition body)
+asked_in (Confirm clerk n session) body = by_clerk clerk n (confirm session body)
+asked_in (Withdraw clerk n session) body = by_clerk clerk n (withdraw session body)
+asked_in (Commit clerk n session) body = by_clerk clerk n (commit session body)
+asked_in (Abandon clerk n session) body = by_clerk clerk n (abandon session body)
+asked_in (Batch clerk n edition) body = by_clerk clerk n (Ok (clerk_works.Batch edition body))
+asked_in (Carry clerk n session) body = by_clerk clerk n (carry session body)
+asked_in (View clerk session) body = seen_by clerk (Ok (looks.View session))
+asked_in (Suggest clerk session) body = seen_by clerk (Ok (looks.Suggest session))
+asked_in (Preview clerk session) body = seen_by clerk (preview session body)
+asked_in (Report clerk) body = seen_by clerk (Ok looks.Report)
+asked_in (Records clerk edition version) body = seen_by clerk (Ok (looks.Records edition version))
+asked_in (Explain clerk session name) body = seen_by clerk (Ok (looks.Explain session name))
+asked_in (SeeCarry clerk session version) body = seen_by clerk (Ok (looks.Carry session version))
+asked_in DeskReport body = at_desk (Ok commands.DeskReport)
+asked_in (DeskDerive edition version) body = at_desk (desk_derive edition version body)
+
+-- the command that is asked for, where a write has this digest
+abbrev pub command_by : Digest → Asked → Checked Command
+command_by digest (by_steward n read) = do
   work ← read
   Ok (commands.Steward (record { number = n; digest = digest }) work)
-
--- a write of this clerk
-abbrev pub by_clerk : List ℕ → ℕ → Digest → Checked ClerkWork → Checked Command
-by_clerk clerk n digest read = do
+command_by digest (by_clerk clerk n read) = do
   work ← read
   Ok (commands.Clerk clerk (record { number = n; digest = digest }) work)
-
--- a look of this clerk
-abbrev pub seen_by : List ℕ → Checked Look → Checked Command
-seen_by clerk read = do
+command_by digest (seen_by clerk read) = do
   look ← read
   Ok (commands.Look clerk look)
+command_by digest (at_desk command) = command
 
 -- the command, or the first fault of the body
 abbrev pub command_in : Route → Digest → List ℕ → Checked Command
-command_in (AddClerk n) digest body = by_steward n digest (add_clerk body)
-command_in (AddSchema n) digest body = by_steward n digest (Ok (steward_works.AddSchema body))
-command_in (AddMaster n name) digest body = by_steward n digest (Ok (steward_works.AddMaster name body))
-command_in (AddRulebook n name schema version) digest body =
-    by_steward n digest (Ok (steward_works.AddRulebook name schema version body))
-command_in (AddEdition n name) digest body = by_steward n digest (add_edition name body)
-command_in (AddRegion n edition version) digest body = by_steward n digest (add_region edition version body)
-command_in (Enter clerk n edition) digest body = by_clerk clerk n digest (enter edition body)
-command_in (Confirm clerk n session) digest body = by_clerk clerk n digest (confirm session body)
-command_in (Withdraw clerk n session) digest body = by_clerk clerk n digest (withdraw session body)
-command_in (Commit clerk n session) digest body = by_clerk clerk n digest (commit session body)
-command_in (Abandon clerk n session) digest body = by_clerk clerk n digest (abandon session body)
-command_in (Batch clerk n edition) digest body = by_clerk clerk n digest (Ok (clerk_works.Batch edition body))
-command_in (View clerk session) digest body = seen_by clerk (Ok (looks.View session))
-command_in (Suggest clerk session) digest body = seen_by clerk (Ok (looks.Suggest session))
-command_in (Preview clerk session) digest body = seen_by clerk (preview session body)
-command_in (Report clerk) digest body = seen_by clerk (Ok looks.Report)
-command_in (Records clerk edition version) digest body = seen_by clerk (Ok (looks.Records edition version))
-command_in DeskReport digest body = Ok commands.DeskReport
-command_in (Explain clerk session name) digest body = seen_by clerk (Ok (looks.Explain session name))
-command_in (DeskDerive edition version) digest body = desk_derive edition version body
-command_in (AddDerived n edition version) digest body = by_steward n digest (add_derived edition version body)
-command_in (SeeCarry clerk session version) digest body = seen_by clerk (Ok (looks.Carry session version))
-command_in (Carry clerk n session) digest body = by_clerk clerk n digest (carry session body)
-
--- ---- who asks
-
--- the steward's writes
-abbrev pub IsOfSteward : Route → Type 0
-IsOfSteward (AddClerk n) = ⊤
-IsOfSteward (AddSchema n) = ⊤
-IsOfSteward (AddMaster n name) = ⊤
-IsOfSteward (AddRulebook n name schema version) = ⊤
-IsOfSteward (AddEdition n name) = ⊤
-IsOfSteward (AddRegion n edition version) = ⊤
-IsOfSteward (AddDerived n edition version) = ⊤
-IsOfSteward route = ⊥
-
--- the writes of a clerk
-abbrev pub IsOfClerk : Route → Type 0
-IsOfClerk (Enter clerk n edition) = ⊤
-IsOfClerk (Confirm clerk n session) = ⊤
-IsOfClerk (Withdraw clerk n session) = ⊤
-IsOfClerk (Commit clerk n session) = ⊤
-IsOfClerk (Abandon clerk n session) = ⊤
-IsOfClerk (Batch clerk n edition) = ⊤
-IsOfClerk (Carry clerk n session) = ⊤
-IsOfClerk route = ⊥
-
--- the looks of a clerk
-abbrev pub IsLook : Route → Type 0
-IsLook (View clerk session) = ⊤
-IsLook (Suggest clerk session) = ⊤
-IsLook (Preview clerk session) = ⊤
-IsLook (Report clerk) = ⊤
-IsLook (Records clerk edition version) = ⊤
-IsLook (Explain clerk session name) = ⊤
-IsLook (SeeCarry clerk session version) = ⊤
-IsLook route = ⊥
+command_in route digest body = command_by digest (asked_in route body)

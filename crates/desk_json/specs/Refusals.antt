@@ -14,6 +14,18 @@ use Rattle.desk_json.specs.Words.{kind_word, limit_word, reader_word, stage_word
 abbrev pub error : List ℕ → List ℕ × Data
 error word = (codes "error", string word)
 
+-- an error of which nothing more is told
+abbrev pub plain : List ℕ → Data
+plain word = object_of (error word ∷ [])
+
+-- the word for a keeper that failed
+abbrev pub unavailable : List ℕ
+unavailable = codes "unavailable"
+
+-- the word for want of memory
+abbrev pub no_memory : List ℕ
+no_memory = codes "no_memory"
+
 -- an error, and one more thing that it tells
 abbrev pub tells : List ℕ → List ℕ → Data → Data
 tells word key value = object_of (error word ∷ (key, value) ∷ [])
@@ -28,7 +40,7 @@ numbers word last = tells word (codes "last") (whole last)
 
 -- a refusal
 abbrev pub refusal_shown : Refusal → Data
-refusal_shown NoClerk = object_of (error (codes "no_clerk") ∷ [])
+refusal_shown NoClerk = plain (codes "no_clerk")
 refusal_shown (Stale last) = numbers (codes "stale") last
 refusal_shown (Gap last) = numbers (codes "gap") last
 refusal_shown (Reused last) = numbers (codes "reused") last
@@ -37,7 +49,7 @@ refusal_shown (Closed stage) = tells (codes "closed") (codes "stage") (string (s
 refusal_shown (UnknownAttr name) = names (codes "unknown_attr") name
 refusal_shown (ValueLong name) = names (codes "value_long") name
 refusal_shown (NotCertain uncovered) = tells (codes "not_certain") (codes "open") (whole uncovered)
-refusal_shown InConflict = object_of (error (codes "in_conflict") ∷ [])
+refusal_shown InConflict = plain (codes "in_conflict")
 refusal_shown (NotConfirmed name) = names (codes "not_confirmed") name
 refusal_shown (Limit which most) = object_of (error (codes "limit") ∷ (codes "most", whole most)
     ∷ (codes "which", string (limit_word which)) ∷ [])
@@ -47,8 +59,8 @@ refusal_shown (BadText reader code first second) = object_of (
     ∷ error (codes "bad_text")
     ∷ (codes "reader", string (reader_word reader))
     ∷ [])
-refusal_shown Unavailable = object_of (error (codes "unavailable") ∷ [])
-refusal_shown NoMemory = object_of (error (codes "no_memory") ∷ [])
+refusal_shown Unavailable = plain unavailable
+refusal_shown NoMemory = plain no_memory
 refusal_shown (Twice name) = names (codes "twice") name
 refusal_shown (Taken name) = names (codes "taken") name
 refusal_shown (BadName name) = names (codes "bad_name") name

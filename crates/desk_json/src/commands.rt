@@ -1,8 +1,8 @@
 //! The command that a route and a body are.
 ghost use Rattle.std.specs.Prelude.{◌≡◌, ◌≢◌, Ok, Err, IfOk, IfErr};
 ghost use Rattle.desk_words.specs.declared.look.Look.TheVariants as looks;
-ghost use Rattle.desk_words.specs.declared.rows.clerk.Digest.{Digest as DigestOf};
-ghost use Rattle.desk_json.specs.Commands.{IsLook, IsOfClerk, IsOfSteward, command_in};
+ghost use Rattle.desk_words.specs.declared.command.Command.TheVariants as commands;
+ghost use Rattle.desk_json.specs.Commands.{command_in};
 
 use crate::bodies::abandon::abandon;
 use crate::bodies::add_clerk::add_clerk;
@@ -19,7 +19,7 @@ use crate::bodies::withdraw::withdraw;
 use crate::fault::JsonFault;
 use crate::route::Route;
 use desk_base::{Duplicate, NoMemory, Str};
-use desk_words::{Command, Digest, Look, Ticket};
+use desk_words::{ClerkWork, Command, Digest, Look, StewardWork, Ticket};
 use std::alloc::Global;
 
 /// The command that the route and the body are, or the first fault of the body (docs/api.md). A body that is TOML, CSV
@@ -35,128 +35,101 @@ pub fn command_of(
         → command_in route.now digest body.now ≡ Err fault) }
 {
     match route {
-        Route::AddClerk { .. }
-        | Route::AddSchema { .. }
-        | Route::AddMaster { .. }
-        | Route::AddRulebook { .. }
-        | Route::AddEdition { .. }
-        | Route::AddRegion { .. }
-        | Route::AddDerived { .. } => steward_command(alloc, route, digest, body),
-        Route::Enter { .. }
-        | Route::Confirm { .. }
-        | Route::Withdraw { .. }
-        | Route::Commit { .. }
-        | Route::Abandon { .. }
-        | Route::Batch { .. }
-        | Route::Carry { .. } => clerk_command(alloc, route, digest, body),
-        Route::View { .. }
-        | Route::Suggest { .. }
-        | Route::Preview { .. }
-        | Route::Report { .. }
-        | Route::Records { .. }
-        | Route::Explain { .. }
-        | Route::SeeCarry { .. } => look_command(alloc, route, body),
+        Route::AddClerk { n } => Ok(by_steward(*n, digest, add_clerk(alloc, body)?)),
+        Route::AddSchema { n } => Ok(by_steward(*n, digest, add_schema(alloc, body)?)),
+        Route::AddMaster { n, name } => Ok(by_steward(*n, digest, add_master(alloc, name, body)?)),
+        Route::AddRulebook {
+            n,
+            name,
+            schema,
+            version,
+        } => {
+            Ok(by_steward(
+                *n,
+                digest,
+                add_rulebook(alloc, name, schema, *version, body)?,
+            ))
+        }
+        Route::AddEdition { n, name } => {
+            Ok(by_steward(*n, digest, add_edition(alloc, name, body)?))
+        }
+        Route::AddRegion {
+            n,
+            edition,
+            version,
+        } => { Ok(by_steward(*n, digest, add_region(alloc, edition, *version, body)?)) }
+        Route::AddDerived {
+            n,
+            edition,
+            version,
+        } => { Ok(by_steward(*n, digest, add_derived(alloc, edition, *version, body)?)) }
+        Route::Enter { clerk, n, edition } => {
+            by_clerk(clerk, *n, digest, enter(alloc, edition, body)?)
+        }
+        Route::Confirm { clerk, n, session } => {
+            by_clerk(clerk, *n, digest, confirm(alloc, *session, body)?)
+        }
+        Route::Withdraw { clerk, n, session } => {
+            by_clerk(clerk, *n, digest, withdraw(alloc, *session, body)?)
+        }
+        Route::Commit { clerk, n, session } => {
+            by_clerk(clerk, *n, digest, commit(alloc, *session, body)?)
+        }
+        Route::Abandon { clerk, n, session } => {
+            by_clerk(clerk, *n, digest, abandon(alloc, *session, body)?)
+        }
+        Route::Batch { clerk, n, edition } => {
+            by_clerk(clerk, *n, digest, batch(alloc, edition, body)?)
+        }
+        Route::Carry { clerk, n, session } => {
+            by_clerk(clerk, *n, digest, carry(alloc, *session, body)?)
+        }
+        Route::View { clerk, session } => seen_by(clerk, Look::View { session: *session }),
+        Route::Suggest { clerk, session } => seen_by(clerk, Look::Suggest { session: *session }),
+        Route::Preview { clerk, session } => seen_by(clerk, preview(alloc, *session, body)?),
+        Route::Report { clerk } => seen_by(clerk, Look::Report),
+        Route::Records {
+            clerk,
+            edition,
+            version,
+        } => seen_by(clerk, records(edition, *version)?),
+        Route::Explain {
+            clerk,
+            session,
+            name,
+        } => seen_by(clerk, explain(*session, name)?),
+        Route::SeeCarry {
+            clerk,
+            session,
+            version,
+        } => seen_by(clerk, carry_seen(*session, *version)),
         Route::DeskReport => Ok(Command::DeskReport),
         Route::DeskDerive { edition, version } => desk_derive(alloc, edition, *version, body),
     }
 }
 
 /// A write of the steward.
-fn steward_command(
-    alloc: Global,
-    route: &Route,
-    digest: Digest,
-    body: &[u8],
-) -> Result<Command, JsonFault>
-    requires { IsOfSteward route.now }
-    ensures command { IfOk result (λ command. command_in route.now digest body.now ≡ Ok command) }
-    ensures fault { IfErr result (λ fault. fault ≢ JsonFault.NoMemory
-        → command_in route.now digest body.now ≡ Err fault) }
+fn by_steward(n: u64, digest: Digest, work: StewardWork) -> Command
+    ensures { result ≡ commands.Steward (record { number = n; digest = digest }) work }
 {
-    let (n, work) = match route {
-        Route::AddClerk { n } => (n, add_clerk(alloc, body)?),
-        Route::AddSchema { n } => (n, add_schema(alloc, body)?),
-        Route::AddMaster { n, name } => (n, add_master(alloc, name, body)?),
-        Route::AddRulebook {
-            n,
-            name,
-            schema,
-            version,
-        } => (n, add_rulebook(alloc, name, schema, *version, body)?),
-        Route::AddEdition { n, name } => (n, add_edition(alloc, name, body)?),
-        Route::AddRegion {
-            n,
-            edition,
-            version,
-        } => (n, add_region(alloc, edition, *version, body)?),
-        Route::AddDerived {
-            n,
-            edition,
-            version,
-        } => (n, add_derived(alloc, edition, *version, body)?),
-        // The steward has no other writes.
-        _ => unreachable!(),
-    };
-    Ok(Command::Steward(ticket(*n, digest), work))
+    Command::Steward(Ticket { number: n, digest }, work)
 }
 
 /// A write of a clerk.
-fn clerk_command(
-    alloc: Global,
-    route: &Route,
-    digest: Digest,
-    body: &[u8],
-) -> Result<Command, JsonFault>
-    requires { IsOfClerk route.now }
-    ensures command { IfOk result (λ command. command_in route.now digest body.now ≡ Ok command) }
-    ensures fault { IfErr result (λ fault. fault ≢ JsonFault.NoMemory
-        → command_in route.now digest body.now ≡ Err fault) }
+fn by_clerk(clerk: &Str, n: u64, digest: Digest, work: ClerkWork) -> Result<Command, JsonFault>
+    ensures command { IfOk result (λ command.
+        command ≡ commands.Clerk clerk.now (record { number = n; digest = digest }) work) }
+    ensures fault { IfErr result (λ fault. fault ≡ JsonFault.NoMemory) }
 {
-    let (clerk, n, work) = match route {
-        Route::Enter { clerk, n, edition } => (clerk, n, enter(alloc, edition, body)?),
-        Route::Confirm { clerk, n, session } => (clerk, n, confirm(alloc, *session, body)?),
-        Route::Withdraw { clerk, n, session } => (clerk, n, withdraw(alloc, *session, body)?),
-        Route::Commit { clerk, n, session } => (clerk, n, commit(alloc, *session, body)?),
-        Route::Abandon { clerk, n, session } => (clerk, n, abandon(alloc, *session, body)?),
-        Route::Batch { clerk, n, edition } => (clerk, n, batch(alloc, edition, body)?),
-        Route::Carry { clerk, n, session } => (clerk, n, carry(alloc, *session, body)?),
-        // A clerk has no other writes.
-        _ => unreachable!(),
-    };
-    Ok(Command::Clerk(clerk.copy()?, ticket(*n, digest), work))
+    let clerk = clerk.copy()?;
+    Ok(Command::Clerk(clerk, Ticket { number: n, digest }, work))
 }
 
 /// A look of a clerk.
-fn look_command(alloc: Global, route: &Route, body: &[u8]) -> Result<Command, JsonFault>
-    requires { IsLook route.now }
-    ensures command { IfOk result (λ command. (digest : DigestOf)
-        → command_in route.now digest body.now ≡ Ok command) }
-    ensures fault { IfErr result (λ fault. (digest : DigestOf) → fault ≢ JsonFault.NoMemory
-        → command_in route.now digest body.now ≡ Err fault) }
+fn seen_by(clerk: &Str, look: Look) -> Result<Command, JsonFault>
+    ensures command { IfOk result (λ command. command ≡ commands.Look clerk.now look) }
+    ensures fault { IfErr result (λ fault. fault ≡ JsonFault.NoMemory) }
 {
-    let (clerk, look) = match route {
-        Route::View { clerk, session } => (clerk, Look::View { session: *session }),
-        Route::Suggest { clerk, session } => (clerk, Look::Suggest { session: *session }),
-        Route::Preview { clerk, session } => (clerk, preview(alloc, *session, body)?),
-        Route::Report { clerk } => (clerk, Look::Report),
-        Route::Records {
-            clerk,
-            edition,
-            version,
-        } => (clerk, records(edition, *version)?),
-        Route::Explain {
-            clerk,
-            session,
-            name,
-        } => (clerk, explain(*session, name)?),
-        Route::SeeCarry {
-            clerk,
-            session,
-            version,
-        } => (clerk, carry_seen(*session, *version)),
-        // A clerk has no other looks.
-        _ => unreachable!(),
-    };
     Ok(Command::Look(clerk.copy()?, look))
 }
 
@@ -185,10 +158,4 @@ fn carry_seen(session: u32, version: u32) -> Look
     ensures { result ≡ looks.Carry session version }
 {
     Look::Carry { session, version }
-}
-
-fn ticket(number: u64, digest: Digest) -> Ticket
-    ensures { result ≡ record { number = number; digest = digest } }
-{
-    Ticket { number, digest }
 }

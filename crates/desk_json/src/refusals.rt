@@ -3,7 +3,7 @@ ghost use Rattle.std.specs.Prelude.{◌≡◌, [], ◌∷◌, codes, IfOk};
 ghost use Rattle.serde_json.specs.Data.{string};
 ghost use Rattle.serde_json.specs.View.{view};
 ghost use Rattle.desk_json.specs.Faults.{fault_at, fault_shown};
-ghost use Rattle.desk_json.specs.Refusals.{error, names, numbers, refusal_shown};
+ghost use Rattle.desk_json.specs.Refusals.{error, names, numbers, plain, refusal_shown};
 ghost use Rattle.json_parts.specs.Shapes.{list_of, object_of, whole};
 ghost use Rattle.desk_json.specs.Words.{limit_word, reader_word};
 
@@ -47,7 +47,7 @@ pub fn refusal_value(alloc: Global, refusal: &Refusal) -> Result<Value, AllocErr
 
 /// An error of which nothing more is told.
 fn plain(alloc: Global, word: &str) -> Result<Value, AllocError>
-    ensures { IfOk result (λ made. view made ≡ object_of (error word.now ∷ [])) }
+    ensures { IfOk result (λ made. view made ≡ plain word.now) }
 {
     json!(in alloc; {"error": word})
 }

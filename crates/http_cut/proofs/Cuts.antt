@@ -42,14 +42,14 @@ IsBadRest-append bytes more BodyLong (head, count, announces, over) =
 
 -- ---- one head, one length
 
-some_same : {A E : Type 0} {x y : A} → ◌≡◌ {A = Result A E} (Ok x) (Ok y) → x ≡ y
-some_same e = cc
-
+-- two announcements of one head are of one length
 Announces_same : (bytes : List ℕ) (head other : RequestHead) (count second : ℕ) → Announces bytes head count
     → Announces bytes other second → (head ≡ other) × (count ≡ second)
 Announces_same bytes head other count second x y =
     let same = HasHead_unique bytes head other x.stands y.stands in
-    let said : x.body.0 ≡ y.body.0 = some_same {E = BadLength} (sym x.body.1 ∙ ap head_body same ∙ y.body.1) in
+    let both : ◌≡◌ {A = Result (Option ℕ) BadLength} (Ok x.body.0) (Ok y.body.0) =
+    sym x.body.1 ∙ ap head_body same ∙ y.body.1 in
+    let said : x.body.0 ≡ y.body.0 = cc in
     (same, sym x.body.2 ∙ ap (λ (s : Option ℕ). unwrap_or s 0) said ∙ y.body.2)
 
 pub has_good_length : (head : RequestHead) (count : ℕ) → HasBody head count → ¬ (SaysBadLength head)

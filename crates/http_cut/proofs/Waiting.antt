@@ -6,7 +6,6 @@ use Rattle.std.specs.Prelude.{◌↔◌, IsTrue, is_some, unwrap_or}
 use Rattle.std.proofs.lemmas.Bool.{both_ways}
 use Rattle.std.proofs.Math.Seq.{take-append_seam}
 use Rattle.std.proofs.lemmas.List.{drop-drop}
-use Rattle.std.specs.Io.KnownBytes.{Consumes, Keeps}
 use Rattle.httparse.specs.Grammar.{RequestHead, print_request}
 use Rattle.desk_base.specs.declared.limits.TheConstants.{MAX_HEAD, MAX_LONG_BODY}
 use Rattle.http_cut.specs.declared.route.Route.{Route}
@@ -160,25 +159,3 @@ request_ends_in_last bytes more head body rest awaits x =
         (request_within bytes more head body rest [] x (sym (append-nil bytes) ∙ sym e
         ∙ sym (append-nil (print_request head ++ body)))) awaits)
     by (b ∷ w) e same = omega (arith, ap length same, length-append (b ∷ w) rest)
-
--- ---- what was taken
-
--- bytes that were taken in turn
-pub Consumes-then : (a b c : Option (List ℕ)) (xs ys : List ℕ) → Consumes a b xs → Consumes b c ys
-    → Consumes a c (xs ++ ys)
-Consumes-then None b c xs ys x y = tt
-Consumes-then (Some u) None c xs ys x y = absurd x
-Consumes-then (Some u) (Some v) None xs ys x y = absurd y
-Consumes-then (Some u) (Some v) (Some w) xs ys x y = x ∙ ap (λ (t : List ℕ). xs ++ t) y ∙ sym (append_assoc xs ys w)
-
--- none were taken
-pub Consumes-none : (a : Option (List ℕ)) → Consumes a a []
-Consumes-none None = tt
-Consumes-none (Some u) = refl
-
--- and none after others
-pub Consumes-kept : (a b c : Option (List ℕ)) (xs : List ℕ) → Consumes a b xs → Keeps b c → Consumes a c xs
-Consumes-kept None b c xs x y = tt
-Consumes-kept (Some u) None c xs x y = absurd x
-Consumes-kept (Some u) (Some v) None xs x y = absurd y
-Consumes-kept (Some u) (Some v) (Some w) xs x y = x ∙ ap (λ (t : List ℕ). xs ++ t) (sym y)

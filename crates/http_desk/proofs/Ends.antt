@@ -6,6 +6,7 @@ use Rattle.desk_base.specs.declared.error.Failed.{Failed}
 use Rattle.http_cut.specs.declared.step.Request.{Request}
 use Rattle.http_cut.specs.declared.step.Step.TheVariants as step
 use Rattle.std.specs.Io.KnownBytes.{Appends, IsAtEnd}
+use Rattle.std.proofs.KnownBytes.{Consumes-nil}
 use Rattle.desk_base.specs.Faults.{AppendsPart, Rose}
 use Rattle.desk_base.proofs.Growth.{Appends-then}
 use Rattle.desk_base.specs.declared.limits.TheConstants.{MAX_HEAD}
@@ -21,7 +22,6 @@ use Rattle.http_cut.specs.Cut.{IsCut}
 use Rattle.http_cut.specs.Head.{AsksHead}
 use Rattle.http_cut.specs.Taking.{Fetches, Loses, Reading, ReadsNoFurther, ReadsOn}
 use Rattle.http_cut.proofs.Cuts.{IsBadRest-append, Begins-more, open_end}
-use Rattle.http_cut.proofs.Waiting.{Consumes-none}
 use Rattle.http_desk.specs.declared.serving.Ended.{Ended}
 use Rattle.http_desk.specs.declared.serving.Ended.TheVariants as ended
 use Rattle.http_desk.specs.Answered.{Answered, HasNoRoom, IsAnswered, asks_head, requests, texts}
@@ -243,7 +243,7 @@ module _ {S : Type 0} (calls : S → S → ℕ → Result ℕ Failed → Type 0)
   ends_at_once reads takes keeps limit old some told =
       ends_no_memory source source [] reads takes takes keeps limit old old old 0 [] []
       (Serving-none calls source keeps takes limit old told) some
-      (record { bytes = []; taken = Consumes-none old.left }) (inl refl)
+      (record { bytes = []; taken = Consumes-nil old.left }) (inl refl)
       (record { read_faults = omega arith; write_faults = omega arith; told = λ some. some }) refl refl refl refl
 
   -- no more could be taken

@@ -1,4 +1,5 @@
 pub mod Alike
+pub mod Checked
 pub mod Counting
 pub mod Cutting
 pub mod Declining

@@ -14,17 +14,23 @@ use Rattle.matchit.proofs.OnLiterals.{matchit_on_literals}
 use Rattle.http_cut.specs.declared.digits.TheConstants.{WRITE_DIGITS, NUMBER_DIGITS}
 use Rattle.http_cut.specs.declared.route.Route.{Route as Target}
 use Rattle.http_cut.specs.declared.route.Route.TheVariants as target
+use Rattle.http_cut.specs.declared.route.StewardRoute.{StewardRoute}
+use Rattle.http_cut.specs.declared.route.StewardRoute.TheVariants as of_steward
+use Rattle.http_cut.specs.declared.route.ClerkRoute.{ClerkRoute}
+use Rattle.http_cut.specs.declared.route.ClerkRoute.TheVariants as of_clerk
+use Rattle.http_cut.specs.declared.route.LookRoute.{LookRoute}
+use Rattle.http_cut.specs.declared.route.LookRoute.TheVariants as of_look
 use Rattle.http_cut.specs.Numbers.{positive}
 use Rattle.http_cut.specs.Routes.{Match, has_good_numbers, is_good_number, match_of, parts_of, route_of, route_rows}
 use Rattle.http_cut.specs.Routes.{with_good_numbers}
 use Rattle.http_cut.proofs.Seeking.{Has, seek_found}
 use Rattle.desk_json.specs.declared.route.Route.{Route}
-use Rattle.desk_json.specs.declared.route.Route.TheVariants.{AddClerk, AddSchema, AddMaster, AddRulebook, AddEdition}
-use Rattle.desk_json.specs.declared.route.Route.TheVariants.{AddRegion, Enter, Confirm, Withdraw, Commit, Abandon}
-use Rattle.desk_json.specs.declared.route.Route.TheVariants.{Batch, View, Suggest, Preview, Report, Records, DeskReport}
-use Rattle.desk_json.specs.declared.route.Route.TheVariants.{Explain, DeskDerive, AddDerived, SeeCarry, Carry}
-use Rattle.http_desk.specs.Checked.{Checked, ◌>>=◌, or_no_route}
-use Rattle.http_desk.specs.Parameters.{Parts, clerk_in, number_at, route_in, session_in, text_at, version_in, write_in}
+use Rattle.desk_json.specs.Checked.{◌>>=◌}
+use Rattle.http_desk.specs.Checked.{Checked, or_no_route}
+use Rattle.http_desk.specs.Parameters.{Form, Makes, Parameter, Parts, clerk_form, desk_form, form, look_form}
+use Rattle.http_desk.specs.Parameters.{made_from, made_in, name_of, number_at, read_at, route_in, steward_form}
+use Rattle.http_desk.specs.Parameters.{write_in}
+use Rattle.http_desk.specs.Parameters as parameters
 
 -- ---- the names of the table
 
@@ -33,36 +39,22 @@ abbrev is_among : List ℕ → List ℕ → List (ℕ × ℕ) → Bool
 is_among key text [] = false
 is_among key text (name ∷ names) = cond (same_text (part_of text name.0 name.1) key) true (is_among key text names)
 
--- the names of the parameters that a route is made of
-abbrev wanted : Target → List (List ℕ)
-wanted target.AddClerk = codes "n" ∷ []
-wanted target.AddSchema = codes "n" ∷ []
-wanted target.AddMaster = codes "n" ∷ codes "name" ∷ []
-wanted target.AddRulebook = codes "n" ∷ codes "name" ∷ codes "schema" ∷ codes "version" ∷ []
-wanted target.AddEdition = codes "n" ∷ codes "name" ∷ []
-wanted target.AddRegion = codes "n" ∷ codes "edition" ∷ codes "version" ∷ []
-wanted target.Enter = codes "clerk" ∷ codes "n" ∷ codes "edition" ∷ []
-wanted target.Confirm = codes "clerk" ∷ codes "n" ∷ codes "session" ∷ []
-wanted target.Withdraw = codes "clerk" ∷ codes "n" ∷ codes "session" ∷ []
-wanted target.Commit = codes "clerk" ∷ codes "n" ∷ codes "session" ∷ []
-wanted target.Abandon = codes "clerk" ∷ codes "n" ∷ codes "session" ∷ []
-wanted target.Batch = codes "clerk" ∷ codes "n" ∷ codes "edition" ∷ []
-wanted target.View = codes "clerk" ∷ codes "session" ∷ []
-wanted target.Suggest = codes "clerk" ∷ codes "session" ∷ []
-wanted target.Preview = codes "clerk" ∷ codes "session" ∷ []
-wanted target.Report = codes "clerk" ∷ []
-wanted target.Records = codes "clerk" ∷ codes "edition" ∷ codes "version" ∷ []
-wanted target.DeskReport = []
-wanted target.Explain = codes "clerk" ∷ codes "session" ∷ codes "name" ∷ []
-wanted target.DeskDerive = codes "edition" ∷ codes "version" ∷ []
-wanted target.AddDerived = codes "n" ∷ codes "edition" ∷ codes "version" ∷ []
-wanted target.SeeCarry = codes "clerk" ∷ codes "session" ∷ codes "version" ∷ []
-wanted target.Carry = codes "clerk" ∷ codes "n" ∷ codes "session" ∷ []
+-- the parameters of a form
+abbrev pub parameters_of : Form → List Parameter
+parameters_of (form parameters make) = parameters
 
--- a row of the table has the names that its route wants
+-- the parameters that a route is made of, whatever the first ones are
+abbrev wanted : Target → List Parameter
+wanted (target.Steward asked) = parameters.n ∷ parameters_of (steward_form 0 asked)
+wanted (target.Clerk asked) = parameters.clerk ∷ parameters.n ∷ parameters_of (clerk_form [] 0 asked)
+wanted (target.Look asked) = parameters.clerk ∷ parameters_of (look_form [] asked)
+wanted (target.Desk asked) = parameters_of (desk_form asked)
+
+-- a row of the table has the names of the parameters that its route is made of
 abbrev has_wanted : RouteOf Target → Bool
-has_wanted row = list_all (λ key. is_among key row.text row.names) (wanted row.value)
+has_wanted row = list_all (λ parameter. is_among (name_of parameter) row.text row.names) (wanted row.value)
 
+-- each row has them
 table_wanted : list_all (λ (row : List ℕ × RouteOf Target). has_wanted row.1) route_rows ≡ true
 unfolding route_rows matchit_on_literals
 table_wanted = refl
@@ -92,18 +84,23 @@ named_some key pattern text path (name ∷ names) token at e =
     (λ among. named_some key pattern text path names _ _ among)
 
 -- all of these parameters are there
-abbrev AreThere : Parts → List (List ℕ) → Type 0
+abbrev AreThere : Parts → List Parameter → Type 0
 AreThere parts [] = ⊤
-AreThere parts (key ∷ keys) = (is_some (named key parts) ≡ true) × AreThere parts keys
+AreThere parts (parameter ∷ parameters) =
+    (is_some (named (name_of parameter) parts) ≡ true) × AreThere parts parameters
 
-row_there : (row : RouteOf Target) (path : List ℕ) (keys : List (List ℕ))
-    → list_all (λ key. is_among key row.text row.names) keys ≡ true → AreThere (parts_of row path) keys
+-- the parameters whose names a row has are there
+row_there : (row : RouteOf Target) (path : List ℕ) (parameters : List Parameter)
+    → list_all (λ parameter. is_among (name_of parameter) row.text row.names) parameters ≡ true
+    → AreThere (parts_of row path) parameters
 row_there row path [] e = tt
-row_there row path (key ∷ keys) e =
-    let both = and_parts _ _ e in
-    (named_some key row.pattern row.text path row.names 0 0 both.0, row_there row path keys both.1)
+row_there row path (parameter ∷ parameters) e =
+    let (here, others) = and_parts _ _ e in (
+      named_some (name_of parameter) row.pattern row.text path row.names 0 0 here,
+      row_there row path parameters others,
+    )
 
--- the row that a target has holds the names that its route wants
+-- the row that a target has holds the parameters of its route
 found_there : (path : List ℕ) (row : RouteOf Target) → IsText path → first route_rows path ≡ Some row
     → AreThere (parts_of row path) (wanted row.value)
 found_there path row text e =
@@ -121,9 +118,7 @@ made_some : {A : Type 0} (found : Option A) → is_some found ≡ true → IsMad
 made_some None e = absurd cc
 made_some (Some value) e = (value, refl)
 
-text_made : (key : List ℕ) (parts : Parts) → is_some (named key parts) ≡ true → IsMade (text_at key parts)
-text_made key parts there = made_some (named key parts) there
-
+-- a number that is there and good is read
 number_made : (most : ℕ) (key : List ℕ) (parts : Parts) → is_some (named key parts) ≡ true
     → is_good_number most (named key parts) ≡ true → IsMade (number_at most key parts)
 number_made most key parts there good = by (named key parts) there good
@@ -133,20 +128,16 @@ number_made most key parts there good = by (named key parts) there good
     by None none good = absurd cc
     by (Some text) some good = made_some (positive most text) good
 
--- the numbers are good
-n_made : (parts : Parts) → has_good_numbers parts ≡ true → is_some (named (codes "n") parts) ≡ true
-    → IsMade (write_in parts)
-n_made parts good there = number_made WRITE_DIGITS (codes "n") parts there (and_parts _ _ (and_parts _ _ good).0).0
-
-version_made : (parts : Parts) → has_good_numbers parts ≡ true → is_some (named (codes "version") parts) ≡ true
-    → IsMade (version_in parts)
-version_made parts good there =
+-- a parameter that is there is read, where the numbers are good
+read_at-made : (parameter : Parameter) (parts : Parts) → has_good_numbers parts ≡ true
+    → is_some (named (name_of parameter) parts) ≡ true → IsMade (read_at parameter parts)
+read_at-made parameters.n parts good there =
+    number_made WRITE_DIGITS (codes "n") parts there (and_parts _ _ (and_parts _ _ good).0).0
+read_at-made parameters.version parts good there =
     number_made NUMBER_DIGITS (codes "version") parts there (and_parts _ _ (and_parts _ _ good).0).1
-
-session_made : (parts : Parts) → has_good_numbers parts ≡ true → is_some (named (codes "session") parts) ≡ true
-    → IsMade (session_in parts)
-session_made parts good there =
+read_at-made parameters.session parts good there =
     number_made NUMBER_DIGITS (codes "session") parts there (and_parts _ _ good).1
+read_at-made parameter parts good there = made_some (named (name_of parameter) parts) there
 
 -- a value comes of a chain where one comes of its first part, and then of the rest
 chain : {A B : Type 0} (front : Checked A) (next : A → Checked B) → IsMade front
@@ -155,84 +146,59 @@ chain {A} {B} front next (value, is) rest =
     let last = rest value in
     (last.0, subst (λ (f : Checked A). (f >>= next) ≡ Ok last.0) (sym is) last.1)
 
--- and where it begins with a clerk and the number of a write
-by_caller : {A : Type 0} (parts : Parts) → has_good_numbers parts ≡ true
-    → is_some (named (codes "clerk") parts) ≡ true → is_some (named (codes "n") parts) ≡ true
-    → (next : List ℕ → ℕ → Checked A) → ((clerk : List ℕ) (n : ℕ) → IsMade (next clerk n))
-    → IsMade (clerk_in parts >>= (λ clerk. write_in parts >>= next clerk))
-by_caller parts good clerk_there n_there next rest =
-    chain (clerk_in parts) (λ (clerk : List ℕ). write_in parts >>= next clerk)
-    (text_made (codes "clerk") parts clerk_there)
-    (λ clerk. chain (write_in parts) (next clerk) (n_made parts good n_there) (rest clerk))
+-- a route is made of the parameters that are there
+made_from-made : (parameters : List Parameter) (make : Makes parameters) (parts : Parts)
+    → has_good_numbers parts ≡ true → AreThere parts parameters → IsMade (made_from parameters make parts)
+made_from-made [] route parts good there = (route, refl)
+made_from-made (parameter ∷ parameters) make parts good (here, others) =
+    chain (read_at parameter parts) (λ value. made_from parameters (make value) parts)
+    (read_at-made parameter parts good here) (λ value. made_from-made parameters (make value) parts good others)
+
+-- so is the route of a form
+made_in-made : (one : Form) (parts : Parts) → has_good_numbers parts ≡ true → AreThere parts (parameters_of one)
+    → IsMade (made_in one parts)
+made_in-made (form parameters make) parts good there = made_from-made parameters make parts good there
+
+-- the number of a write of the steward doesn't change its other parameters
+steward_form-same : (number : ℕ) (asked : StewardRoute)
+    → parameters_of (steward_form 0 asked) ≡ parameters_of (steward_form number asked)
+steward_form-same number of_steward.AddClerk = refl
+steward_form-same number asked = refl
+
+-- the clerk and the number of a write of a clerk don't change its other parameters
+clerk_form-same : (caller : List ℕ) (number : ℕ) (asked : ClerkRoute)
+    → parameters_of (clerk_form [] 0 asked) ≡ parameters_of (clerk_form caller number asked)
+clerk_form-same caller number of_clerk.Enter = refl
+clerk_form-same caller number asked = refl
+
+-- the clerk of a look doesn't change its other parameters
+look_form-same : (caller : List ℕ) (asked : LookRoute)
+    → parameters_of (look_form [] asked) ≡ parameters_of (look_form caller asked)
+look_form-same caller of_look.View = refl
+look_form-same caller asked = refl
 
 -- a route is made of the parameters that it wants
-made : (route : Target) (parts : Parts) → has_good_numbers parts ≡ true → AreThere parts (wanted route)
-    → IsMade (route_in route parts)
-made target.AddClerk parts good there = chain _ _ (n_made parts good there.0) (λ n. (AddClerk n, refl))
-made target.AddSchema parts good there = chain _ _ (n_made parts good there.0) (λ n. (AddSchema n, refl))
-made target.AddMaster parts good there =
-    chain _ _ (n_made parts good there.0) (λ n. chain _ _ (text_made (codes "name") parts there.1.0)
-    (λ name. (AddMaster n name, refl)))
-made target.AddRulebook parts good there =
-    chain _ _ (n_made parts good there.0) (λ n. chain _ _ (text_made (codes "name") parts there.1.0)
-    (λ name. chain _ _ (text_made (codes "schema") parts there.1.1.0)
-    (λ schema. chain _ _ (version_made parts good there.1.1.1.0)
-    (λ version. (AddRulebook n name schema version, refl)))))
-made target.AddEdition parts good there =
-    chain _ _ (n_made parts good there.0) (λ n. chain _ _ (text_made (codes "name") parts there.1.0)
-    (λ name. (AddEdition n name, refl)))
-made target.AddRegion parts good there =
-    chain _ _ (n_made parts good there.0) (λ n. chain _ _ (text_made (codes "edition") parts there.1.0)
-    (λ edition. chain _ _ (version_made parts good there.1.1.0) (λ version. (AddRegion n edition version, refl))))
-made target.Enter parts good there =
-    by_caller parts good there.0 there.1.0 _ (λ clerk n. chain _ _ (text_made (codes "edition") parts there.1.1.0)
-    (λ edition. (Enter clerk n edition, refl)))
-made target.Confirm parts good there =
-    by_caller parts good there.0 there.1.0 _ (λ clerk n. chain _ _ (session_made parts good there.1.1.0)
-    (λ session. (Confirm clerk n session, refl)))
-made target.Withdraw parts good there =
-    by_caller parts good there.0 there.1.0 _ (λ clerk n. chain _ _ (session_made parts good there.1.1.0)
-    (λ session. (Withdraw clerk n session, refl)))
-made target.Commit parts good there =
-    by_caller parts good there.0 there.1.0 _ (λ clerk n. chain _ _ (session_made parts good there.1.1.0)
-    (λ session. (Commit clerk n session, refl)))
-made target.Abandon parts good there =
-    by_caller parts good there.0 there.1.0 _ (λ clerk n. chain _ _ (session_made parts good there.1.1.0)
-    (λ session. (Abandon clerk n session, refl)))
-made target.Batch parts good there =
-    by_caller parts good there.0 there.1.0 _ (λ clerk n. chain _ _ (text_made (codes "edition") parts there.1.1.0)
-    (λ edition. (Batch clerk n edition, refl)))
-made target.View parts good there =
-    chain _ _ (text_made (codes "clerk") parts there.0) (λ clerk. chain _ _ (session_made parts good there.1.0)
-    (λ session. (View clerk session, refl)))
-made target.Suggest parts good there =
-    chain _ _ (text_made (codes "clerk") parts there.0) (λ clerk. chain _ _ (session_made parts good there.1.0)
-    (λ session. (Suggest clerk session, refl)))
-made target.Preview parts good there =
-    chain _ _ (text_made (codes "clerk") parts there.0) (λ clerk. chain _ _ (session_made parts good there.1.0)
-    (λ session. (Preview clerk session, refl)))
-made target.Report parts good there =
-    chain _ _ (text_made (codes "clerk") parts there.0) (λ clerk. (Report clerk, refl))
-made target.Records parts good there =
-    chain _ _ (text_made (codes "clerk") parts there.0)
-    (λ clerk. chain _ _ (text_made (codes "edition") parts there.1.0)
-    (λ edition. chain _ _ (version_made parts good there.1.1.0) (λ version. (Records clerk edition version, refl))))
-made target.DeskReport parts good there = (DeskReport, refl)
-made target.Explain parts good there =
-    chain _ _ (text_made (codes "clerk") parts there.0) (λ clerk. chain _ _ (session_made parts good there.1.0)
-    (λ session. chain _ _ (text_made (codes "name") parts there.1.1.0) (λ name. (Explain clerk session name, refl))))
-made target.DeskDerive parts good there =
-    chain _ _ (text_made (codes "edition") parts there.0)
-    (λ edition. chain _ _ (version_made parts good there.1.0) (λ version. (DeskDerive edition version, refl)))
-made target.AddDerived parts good there =
-    chain _ _ (n_made parts good there.0) (λ n. chain _ _ (text_made (codes "edition") parts there.1.0)
-    (λ edition. chain _ _ (version_made parts good there.1.1.0) (λ version. (AddDerived n edition version, refl))))
-made target.SeeCarry parts good there =
-    chain _ _ (text_made (codes "clerk") parts there.0) (λ clerk. chain _ _ (session_made parts good there.1.0)
-    (λ session. chain _ _ (version_made parts good there.1.1.0) (λ version. (SeeCarry clerk session version, refl))))
-made target.Carry parts good there =
-    by_caller parts good there.0 there.1.0 _ (λ clerk n. chain _ _ (session_made parts good there.1.1.0)
-    (λ session. (Carry clerk n session, refl)))
+route_in-made : (asked : Target) (parts : Parts) → has_good_numbers parts ≡ true → AreThere parts (wanted asked)
+    → IsMade (route_in asked parts)
+route_in-made (target.Steward asked) parts good (n_there, others) =
+    chain (write_in parts) (λ number. made_in (steward_form number asked) parts)
+    (read_at-made parameters.n parts good n_there)
+    (λ number. made_in-made (steward_form number asked) parts good
+    (subst (AreThere parts) (steward_form-same number asked) others))
+route_in-made (target.Clerk asked) parts good (clerk_there, (n_there, others)) =
+    chain (read_at parameters.clerk parts)
+    (λ caller. write_in parts >>= (λ number. made_in (clerk_form caller number asked) parts))
+    (read_at-made parameters.clerk parts good clerk_there)
+    (λ caller. chain (write_in parts) (λ number. made_in (clerk_form caller number asked) parts)
+    (read_at-made parameters.n parts good n_there)
+    (λ number. made_in-made (clerk_form caller number asked) parts good
+    (subst (AreThere parts) (clerk_form-same caller number asked) others)))
+route_in-made (target.Look asked) parts good (clerk_there, others) =
+    chain (read_at parameters.clerk parts) (λ caller. made_in (look_form caller asked) parts)
+    (read_at-made parameters.clerk parts good clerk_there)
+    (λ caller. made_in-made (look_form caller asked) parts good
+    (subst (AreThere parts) (look_form-same caller asked) others))
+route_in-made (target.Desk asked) parts good there = made_in-made (desk_form asked) parts good there
 
 -- ---- a target
 
@@ -257,7 +223,7 @@ match_made path one text e good = by (first route_rows path) refl e
     by (Some row) is shown =
         let same : ◌≡◌ {A = Match} (row.value, parts_of row path) one = some_same shown in
         subst (λ (m : Match). IsMade (route_in m.0 m.1)) same
-        (made row.value (parts_of row path) (subst (λ (m : Match). has_good_numbers m.1 ≡ true) (sym same) good)
+        (route_in-made row.value (parts_of row path) (subst (λ (m : Match). has_good_numbers m.1 ≡ true) (sym same) good)
         (found_there path row text is))
 
 -- a target that has a route has its parameters

@@ -1,6 +1,6 @@
 -- The number of a write, which stands in its target, is one that a write may have.
-use Rattle.std.proofs.Common.{◌≡◌, ℕ, ◌^◌, ◌<◌, ◌≤◌, Bool, true, false, List}
-use Rattle.std.proofs.Common.{length, get_or, refl, subst, arith, Option, Some, None, Result, Ok, Err}
+use Rattle.std.proofs.Common.{◌≡◌, ℕ, ◌^◌, ◌<◌, ◌≤◌, Bool, true, false, List, [], ◌∷◌}
+use Rattle.std.proofs.Common.{length, get_or, refl, subst, arith, Option, Some, None, Ok, Err}
 use Rattle.std.specs.Prelude.{◌==◌, ◌&&◌, if◌then◌else◌, nat_le, slice_index, option_and_then, codes, ⊤}
 use Rattle.std.specs.Str.Parse.{digits_value}
 use Rattle.std.specs.Char.{is_ascii_digit}
@@ -13,26 +13,33 @@ use Rattle.matchit.specs.Params.{named}
 use Rattle.desk_base.specs.declared.limits.TheConstants.{MAX_REQUEST}
 use Rattle.http_cut.specs.declared.route.Route.{Route as Target}
 use Rattle.http_cut.specs.declared.route.Route.TheVariants as target
+use Rattle.http_cut.specs.declared.route.StewardRoute.{StewardRoute}
+use Rattle.http_cut.specs.declared.route.StewardRoute.TheVariants as of_steward
+use Rattle.http_cut.specs.declared.route.ClerkRoute.{ClerkRoute}
+use Rattle.http_cut.specs.declared.route.ClerkRoute.TheVariants as of_clerk
+use Rattle.http_cut.specs.declared.route.LookRoute.{LookRoute}
+use Rattle.http_cut.specs.declared.route.LookRoute.TheVariants as of_look
+use Rattle.http_cut.specs.declared.route.DeskRoute.{DeskRoute}
+use Rattle.http_cut.specs.declared.route.DeskRoute.TheVariants as of_desk
+use Rattle.http_cut.specs.Cut.{WholeRequest}
 use Rattle.http_cut.specs.Numbers.{number, positive}
 use Rattle.http_cut.specs.Routes.{Match}
 use Rattle.http_cut.proofs.Decimal.{all_digits, digit_at, digit_value-ascii}
-use Rattle.desk_words.specs.declared.clerk_work.ClerkWork.{ClerkWork}
 use Rattle.desk_words.specs.declared.command.Command.{Command}
-use Rattle.desk_words.specs.declared.look.Look.{Look}
 use Rattle.desk_words.specs.declared.rows.clerk.Digest.{Digest}
-use Rattle.desk_words.specs.declared.steward_work.StewardWork.{StewardWork}
 use Rattle.desk_json.specs.declared.route.Route.{Route}
-use Rattle.desk_json.specs.declared.route.Route.TheVariants.{AddClerk, AddSchema, AddMaster, AddRulebook, AddEdition}
-use Rattle.desk_json.specs.declared.route.Route.TheVariants.{AddRegion, Enter, Confirm, Withdraw, Commit, Abandon}
-use Rattle.desk_json.specs.declared.route.Route.TheVariants.{Batch, View, Suggest, Preview, Report, Records, DeskReport}
-use Rattle.desk_json.specs.declared.route.Route.TheVariants.{Explain, DeskDerive, AddDerived, SeeCarry, Carry}
-use Rattle.desk_json.specs.Checked.{Checked as Read}
-use Rattle.desk_json.specs.Commands.{by_clerk, by_steward, command_in, seen_by}
+use Rattle.desk_json.specs.Commands.{Asked, by_clerk, by_steward, seen_by, at_desk, asked_in, command_by, command_in}
 use Rattle.machine_core.specs.Ticket.{IsNumbered}
-use Rattle.http_desk.specs.Checked.{Checked, ◌>>=◌, or_no_route}
+use Rattle.desk_json.specs.Checked.{◌>>=◌}
+use Rattle.http_desk.specs.Checked.{or_bad_body, or_no_route, or_refused}
+use Rattle.http_desk.specs.Commands.{command_at, command_for, digest_of}
+use Rattle.http_desk.specs.Parameters.{Form, Makes, Parameter, Parts, Read, clerk_form, desk_form, form, look_form}
+use Rattle.http_desk.specs.Parameters.{made_from, made_in, read_at, route_in, steward_form, write_in}
+use Rattle.http_desk.specs.Parameters as parameters
+use Rattle.http_desk.specs.Refusals.{asked}
+use Rattle.http_desk.proofs.Checked.{Ok-same, bind-Ok, or_bad_body-Ok}
 use Rattle.http_desk.proofs.Deriving.{derive_numbered}
-use Rattle.http_desk.specs.Parameters.{Parts, clerk_in, edition_in, name_in, route_in, schema_in, session_in}
-use Rattle.http_desk.specs.Parameters.{version_in, write_in}
+use Rattle.http_desk.proofs.Named.{parameters_of}
 
 -- ---- numbers
 
@@ -83,174 +90,123 @@ write_number parts n e =
     by_text None f = absurd cc
     by_text (Some text) f = let bounds = positive-bounds 12 text n f in (bounds.0, omega (arith, bounds.1))
 
--- ---- chains
-
--- where a chain gives a value, its first part gave one, and the rest gave it of that
-bind_ok : {A B : Type 0} (first : Checked A) (next : A → Checked B) (value : B) → (first >>= next) ≡ Ok value
-    → (found : A) × (first ≡ Ok found) × (next found ≡ Ok value)
-bind_ok (Ok found) next value e = (found, refl, e)
-bind_ok (Err why) next value e = absurd cc
-
-ok_same : {A E : Type 0} {x y : A} → ◌≡◌ {A = Result A E} (Ok x) (Ok y) → x ≡ y
-ok_same e = cc
-
 -- ---- routes
 
--- the number of a route, where it has one, is one that a write may have
-abbrev HasNumber : Route → Type 0
-HasNumber (AddClerk n) = IsNumber n
-HasNumber (AddSchema n) = IsNumber n
-HasNumber (AddMaster n name) = IsNumber n
-HasNumber (AddRulebook n name schema version) = IsNumber n
-HasNumber (AddEdition n name) = IsNumber n
-HasNumber (AddRegion n edition version) = IsNumber n
-HasNumber (Enter clerk n edition) = IsNumber n
-HasNumber (Confirm clerk n session) = IsNumber n
-HasNumber (Withdraw clerk n session) = IsNumber n
-HasNumber (Commit clerk n session) = IsNumber n
-HasNumber (Abandon clerk n session) = IsNumber n
-HasNumber (Batch clerk n edition) = IsNumber n
-HasNumber (View clerk session) = ⊤
-HasNumber (Suggest clerk session) = ⊤
-HasNumber (Preview clerk session) = ⊤
-HasNumber (Report clerk) = ⊤
-HasNumber (Records clerk edition version) = ⊤
-HasNumber DeskReport = ⊤
-HasNumber (Explain clerk session name) = ⊤
-HasNumber (DeskDerive edition version) = ⊤
-HasNumber (AddDerived n edition version) = IsNumber n
-HasNumber (SeeCarry clerk session version) = ⊤
-HasNumber (Carry clerk n session) = IsNumber n
+-- what is read at parameters, one value after the other
+abbrev Values : List Parameter → Type 0
+Values [] = ⊤
+Values (parameter ∷ parameters) = Read parameter × Values parameters
 
--- a route that begins with the number of a write
-by_number : (parts : Parts) (next : ℕ → Checked Route) (route : Route)
-    → ((n : ℕ) → IsNumber n → next n ≡ Ok route → HasNumber route) → (write_in parts >>= next) ≡ Ok route
-    → HasNumber route
-by_number parts next route good e =
-    let n = bind_ok (write_in parts) next route e in
-    good n.0 (write_number parts n.0 n.1) n.2
+-- the route that is made of these values
+abbrev made_with : (parameters : List Parameter) → Makes parameters → Values parameters → Route
+made_with [] route values = route
+made_with (parameter ∷ parameters) make values = made_with parameters (make values.0) values.1
 
--- a route that begins with a clerk, and then has the number of a write
-by_caller : (parts : Parts) (next : List ℕ → ℕ → Checked Route) (route : Route)
-    → ((clerk : List ℕ) (n : ℕ) → IsNumber n → next clerk n ≡ Ok route → HasNumber route)
-    → (clerk_in parts >>= (λ clerk. write_in parts >>= next clerk)) ≡ Ok route → HasNumber route
-by_caller parts next route good e =
-    let clerk = bind_ok (clerk_in parts) (λ (one : List ℕ). write_in parts >>= next one) route e in
-    by_number parts (next clerk.0) route (good clerk.0) clerk.2
+-- a route that is made in a target is made of values
+made_from-with : (parameters : List Parameter) (make : Makes parameters) (parts : Parts) (route : Route)
+    → made_from parameters make parts ≡ Ok route
+    → (values : Values parameters) × (made_with parameters make values ≡ route)
+made_from-with [] made parts route e = (tt, Ok-same e)
+made_from-with (parameter ∷ parameters) make parts route e =
+    let (value, read, rest) =
+    bind-Ok (read_at parameter parts) (λ one. made_from parameters (make one) parts) route e in
+    let (values, same) = made_from-with parameters (make value) parts route rest in
+    ((value, values), same)
 
--- a route whose last parameter is this
-by_last : {A : Type 0} (last : Checked A) (make : A → Route) (route : Route) → ((one : A) → HasNumber (make one))
-    → (last >>= (λ one. Ok (make one))) ≡ Ok route → HasNumber route
-by_last last make route good e =
-    let one = bind_ok last (λ found. Ok (make found)) route e in
-    subst HasNumber (ok_same one.2) (good one.0)
+-- the route of a form, made of these values
+abbrev form_with : (one : Form) → Values (parameters_of one) → Route
+form_with (form parameters make) values = made_with parameters make values
 
-by_two : {A B : Type 0} (first : Checked A) (last : Checked B) (make : A → B → Route) (route : Route)
-    → ((one : A) (two : B) → HasNumber (make one two))
-    → (first >>= (λ one. last >>= (λ two. Ok (make one two)))) ≡ Ok route → HasNumber route
-by_two {A} {B} first last make route good e =
-    let one = bind_ok first (λ (found : A). last >>= (λ (two : B). Ok (make found two))) route e in
-    by_last last (make one.0) route (good one.0) one.2
+-- what holds of all routes of a form holds of one that is made in a target
+made_in-holds : (P : Route → Type 0) (one : Form) (parts : Parts) (route : Route)
+    → ((values : Values (parameters_of one)) → P (form_with one values)) → made_in one parts ≡ Ok route → P route
+made_in-holds P (form parameters make) parts route holds e =
+    let (values, same) = made_from-with parameters make parts route e in
+    subst P same (holds values)
 
-route_number : (asked : Target) (parts : Parts) (route : Route) → route_in asked parts ≡ Ok route → HasNumber route
-route_number target.AddClerk parts route e =
-    by_number parts _ route (λ n good same. subst HasNumber (ok_same same) good) e
-route_number target.AddSchema parts route e =
-    by_number parts _ route (λ n good same. subst HasNumber (ok_same same) good) e
-route_number target.AddMaster parts route e =
-    by_number parts _ route (λ n good. by_last (name_in parts) (AddMaster n) route (λ _. good)) e
-route_number target.AddRulebook parts route e =
-    by_number parts _ route (λ n good same.
-    let name = bind_ok (name_in parts) (λ (one : List ℕ). schema_in parts >>= (λ schema. version_in parts
-    >>= (λ version. Ok (AddRulebook n one schema version)))) route same in
-    by_two (schema_in parts) (version_in parts) (AddRulebook n name.0) route (λ _ _. good) name.2) e
-route_number target.AddEdition parts route e =
-    by_number parts _ route (λ n good. by_last (name_in parts) (AddEdition n) route (λ _. good)) e
-route_number target.AddRegion parts route e =
-    by_number parts _ route (λ n good. by_two (edition_in parts) (version_in parts) (AddRegion n) route (λ _ _. good)) e
-route_number target.Enter parts route e =
-    by_caller parts _ route (λ clerk n good. by_last (edition_in parts) (Enter clerk n) route (λ _. good)) e
-route_number target.Confirm parts route e =
-    by_caller parts _ route (λ clerk n good. by_last (session_in parts) (Confirm clerk n) route (λ _. good)) e
-route_number target.Withdraw parts route e =
-    by_caller parts _ route (λ clerk n good. by_last (session_in parts) (Withdraw clerk n) route (λ _. good)) e
-route_number target.Commit parts route e =
-    by_caller parts _ route (λ clerk n good. by_last (session_in parts) (Commit clerk n) route (λ _. good)) e
-route_number target.Abandon parts route e =
-    by_caller parts _ route (λ clerk n good. by_last (session_in parts) (Abandon clerk n) route (λ _. good)) e
-route_number target.Batch parts route e =
-    by_caller parts _ route (λ clerk n good. by_last (edition_in parts) (Batch clerk n) route (λ _. good)) e
-route_number target.View parts route e = by_two (clerk_in parts) (session_in parts) View route (λ _ _. tt) e
-route_number target.Suggest parts route e = by_two (clerk_in parts) (session_in parts) Suggest route (λ _ _. tt) e
-route_number target.Preview parts route e = by_two (clerk_in parts) (session_in parts) Preview route (λ _ _. tt) e
-route_number target.Report parts route e = by_last (clerk_in parts) Report route (λ _. tt) e
-route_number target.Records parts route e =
-    let clerk = bind_ok (clerk_in parts) (λ (one : List ℕ). edition_in parts >>= (λ edition. version_in parts
-    >>= (λ version. Ok (Records one edition version)))) route e in
-    by_two (edition_in parts) (version_in parts) (Records clerk.0) route (λ _ _. tt) clerk.2
-route_number target.DeskReport parts route e = subst HasNumber (ok_same e) tt
-route_number target.Explain parts route e =
-    let clerk = bind_ok (clerk_in parts) (λ (one : List ℕ). session_in parts >>= (λ session. name_in parts
-    >>= (λ name. Ok (Explain one session name)))) route e in
-    by_two (session_in parts) (name_in parts) (Explain clerk.0) route (λ _ _. tt) clerk.2
-route_number target.DeskDerive parts route e =
-    by_two (edition_in parts) (version_in parts) DeskDerive route (λ _ _. tt) e
-route_number target.AddDerived parts route e =
-    by_number parts _ route
-    (λ n good. by_two (edition_in parts) (version_in parts) (AddDerived n) route (λ _ _. good)) e
-route_number target.SeeCarry parts route e =
-    let clerk = bind_ok (clerk_in parts) (λ (one : List ℕ). session_in parts >>= (λ session. version_in parts
-    >>= (λ version. Ok (SeeCarry one session version)))) route e in
-    by_two (session_in parts) (version_in parts) (SeeCarry clerk.0) route (λ _ _. tt) clerk.2
-route_number target.Carry parts route e =
-    by_caller parts _ route (λ clerk n good. by_last (session_in parts) (Carry clerk n) route (λ _. good)) e
+-- the number of a write that is asked for is as it may be
+abbrev HasNumber : Asked → Type 0
+HasNumber (by_steward n read) = IsNumber n
+HasNumber (by_clerk clerk n read) = IsNumber n
+HasNumber (seen_by clerk read) = ⊤
+HasNumber (at_desk command) = (one : Command) → command ≡ Ok one → IsNumbered one
+
+-- a write of the steward has the number that was read
+steward_form-number : (body : List ℕ) (number : ℕ) (asked : StewardRoute)
+    (values : Values (parameters_of (steward_form number asked))) → IsNumber number
+    → HasNumber (asked_in (form_with (steward_form number asked) values) body)
+steward_form-number body number of_steward.AddClerk values good = good
+steward_form-number body number asked values good = good
+
+-- a write of a clerk has the number that was read
+clerk_form-number : (body caller : List ℕ) (number : ℕ) (asked : ClerkRoute)
+    (values : Values (parameters_of (clerk_form caller number asked))) → IsNumber number
+    → HasNumber (asked_in (form_with (clerk_form caller number asked) values) body)
+clerk_form-number body caller number of_clerk.Enter values good = good
+clerk_form-number body caller number asked values good = good
+
+-- a look has no number
+look_form-number : (body caller : List ℕ) (asked : LookRoute) (values : Values (parameters_of (look_form caller asked)))
+    → HasNumber (asked_in (form_with (look_form caller asked) values) body)
+look_form-number body caller of_look.View values = tt
+look_form-number body caller asked values = tt
+
+-- what is asked for at the desk has no number
+desk_form-number : (body : List ℕ) (asked : DeskRoute) (values : Values (parameters_of (desk_form asked)))
+    → HasNumber (asked_in (form_with (desk_form asked) values) body)
+desk_form-number body of_desk.DeskReport values = λ command e. subst IsNumbered (Ok-same e) tt
+desk_form-number body of_desk.DeskDerive (edition, (version, none)) = derive_numbered edition version body
+
+-- a route that is made in a target has a good number, where it has one
+route_in-number : (body : List ℕ) (asked : Target) (parts : Parts) (route : Route) → route_in asked parts ≡ Ok route
+    → HasNumber (asked_in route body)
+route_in-number body (target.Steward asked) parts route e =
+    let (number, read, rest) =
+    bind-Ok (write_in parts) (λ n. made_in (steward_form n asked) parts) route e in
+    made_in-holds (λ one. HasNumber (asked_in one body)) (steward_form number asked) parts route
+    (λ values. steward_form-number body number asked values (write_number parts number read)) rest
+route_in-number body (target.Clerk asked) parts route e =
+    let (caller, found, others) =
+    bind-Ok (read_at parameters.clerk parts) (λ one. write_in parts >>= (λ n. made_in (clerk_form one n asked) parts))
+    route e in
+    let (number, read, rest) =
+    bind-Ok (write_in parts) (λ n. made_in (clerk_form caller n asked) parts) route others in
+    made_in-holds (λ one. HasNumber (asked_in one body)) (clerk_form caller number asked) parts route
+    (λ values. clerk_form-number body caller number asked values (write_number parts number read)) rest
+route_in-number body (target.Look asked) parts route e =
+    let (caller, found, rest) =
+    bind-Ok (read_at parameters.clerk parts) (λ one. made_in (look_form one asked) parts) route e in
+    made_in-holds (λ one. HasNumber (asked_in one body)) (look_form caller asked) parts route
+    (look_form-number body caller asked) rest
+route_in-number body (target.Desk asked) parts route e =
+    made_in-holds (λ one. HasNumber (asked_in one body)) (desk_form asked) parts route (desk_form-number body asked) e
 
 -- ---- commands
 
-steward_numbered : (n : ℕ) (digest : Digest) (read : Read StewardWork) (command : Command) → IsNumber n
-    → by_steward n digest read ≡ Ok command → IsNumbered command
-steward_numbered n digest (Ok work) command good e = subst IsNumbered (ok_same e) good
-steward_numbered n digest (Err fault) command good e = absurd cc
-
-clerk_numbered : (clerk : List ℕ) (n : ℕ) (digest : Digest) (read : Read ClerkWork) (command : Command) → IsNumber n
-    → by_clerk clerk n digest read ≡ Ok command → IsNumbered command
-clerk_numbered clerk n digest (Ok work) command good e = subst IsNumbered (ok_same e) good
-clerk_numbered clerk n digest (Err fault) command good e = absurd cc
-
-look_numbered : (clerk : List ℕ) (read : Read Look) (command : Command) → seen_by clerk read ≡ Ok command
-    → IsNumbered command
-look_numbered clerk (Ok look) command e = subst IsNumbered (ok_same e) tt
-look_numbered clerk (Err fault) command e = absurd cc
-
-command_number : (route : Route) (digest : Digest) (body : List ℕ) (command : Command) → HasNumber route
-    → command_in route digest body ≡ Ok command → IsNumbered command
-command_number (AddClerk n) digest body command good e = steward_numbered n digest _ command good e
-command_number (AddSchema n) digest body command good e = subst IsNumbered (ok_same e) good
-command_number (AddMaster n name) digest body command good e = subst IsNumbered (ok_same e) good
-command_number (AddRulebook n name schema version) digest body command good e = subst IsNumbered (ok_same e) good
-command_number (AddEdition n name) digest body command good e = steward_numbered n digest _ command good e
-command_number (AddRegion n edition version) digest body command good e = steward_numbered n digest _ command good e
-command_number (Enter clerk n edition) digest body command good e = clerk_numbered clerk n digest _ command good e
-command_number (Confirm clerk n session) digest body command good e = clerk_numbered clerk n digest _ command good e
-command_number (Withdraw clerk n session) digest body command good e = clerk_numbered clerk n digest _ command good e
-command_number (Commit clerk n session) digest body command good e = clerk_numbered clerk n digest _ command good e
-command_number (Abandon clerk n session) digest body command good e = clerk_numbered clerk n digest _ command good e
-command_number (Batch clerk n edition) digest body command good e = subst IsNumbered (ok_same e) good
-command_number (View clerk session) digest body command good e = subst IsNumbered (ok_same e) tt
-command_number (Suggest clerk session) digest body command good e = subst IsNumbered (ok_same e) tt
-command_number (Preview clerk session) digest body command good e = look_numbered clerk _ command e
-command_number (Report clerk) digest body command good e = subst IsNumbered (ok_same e) tt
-command_number (Records clerk edition version) digest body command good e = subst IsNumbered (ok_same e) tt
-command_number DeskReport digest body command good e = subst IsNumbered (ok_same e) tt
-command_number (Explain clerk session name) digest body command good e = subst IsNumbered (ok_same e) tt
-command_number (DeskDerive edition version) digest body command good e = derive_numbered edition version body command e
-command_number (AddDerived n edition version) digest body command good e =
-    steward_numbered n digest _ command good e
-command_number (SeeCarry clerk session version) digest body command good e = subst IsNumbered (ok_same e) tt
-command_number (Carry clerk n session) digest body command good e = clerk_numbered clerk n digest _ command good e
+-- a command has the number that is asked for
+command_by-numbered : (asked : Asked) (digest : Digest) (command : Command) → HasNumber asked
+    → command_by digest asked ≡ Ok command → IsNumbered command
+command_by-numbered (by_steward n (Ok work)) digest command good e = subst IsNumbered (Ok-same e) good
+command_by-numbered (by_steward n (Err fault)) digest command good e = absurd cc
+command_by-numbered (by_clerk clerk n (Ok work)) digest command good e = subst IsNumbered (Ok-same e) good
+command_by-numbered (by_clerk clerk n (Err fault)) digest command good e = absurd cc
+command_by-numbered (seen_by clerk (Ok look)) digest command good e = subst IsNumbered (Ok-same e) tt
+command_by-numbered (seen_by clerk (Err fault)) digest command good e = absurd cc
+command_by-numbered (at_desk one) digest command good e = good command e
 
 -- a command of a target has a number that it may have
 pub numbered : (found : Match) (route : Route) (digest : Digest) (body : List ℕ) (command : Command)
     → route_in found.0 found.1 ≡ Ok route → command_in route digest body ≡ Ok command → IsNumbered command
 numbered found route digest body command routed read =
-    command_number route digest body command (route_number found.0 found.1 route routed) read
+    command_by-numbered (asked_in route body) digest command (route_in-number body found.0 found.1 route routed) read
+
+-- a request that is a command has a number as it may be
+pub command_for-numbered : (request : WholeRequest) (command : Command) → command_for request ≡ Ok command
+    → IsNumbered command
+command_for-numbered (head, body) command is =
+    let digest : Digest = digest_of head.target body in
+    let (target, found, rest) =
+    bind-Ok (or_refused (asked (head, body))) (λ one. command_at one digest body) command is in
+    let (route, routed, read) =
+    bind-Ok (route_in target.0 target.1) (λ one. or_bad_body (command_in one digest body)) command rest in
+    numbered target route digest body command routed (or_bad_body-Ok (command_in route digest body) command read)

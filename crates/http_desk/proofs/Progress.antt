@@ -3,6 +3,7 @@ use Rattle.std.proofs.Common.{◌≡◌, ◌∙◌, ℕ, zero, suc, ◌+◌, ◌
 use Rattle.std.proofs.Common.{subst, arith}
 use Rattle.std.proofs.Common.{zero-add, append-nil}
 use Rattle.std.specs.Io.KnownBytes.{Consumes}
+use Rattle.std.proofs.KnownBytes.{Consumes-nil, Consumes-trans}
 use Rattle.std.proofs.lemmas.List.{map-append}
 use Rattle.std.proofs.lemmas.List.Concat.{flat_map-append}
 use Rattle.std.proofs.lemmas.List.Sums.{sum_by-append}
@@ -10,7 +11,6 @@ use Rattle.desk_words.specs.Tables.{Rows}
 use Rattle.keeper_core.specs.Keeping.{IfTold}
 use Rattle.http_cut.specs.Cut.{BeginsRequest}
 use Rattle.http_cut.proofs.Cuts.{Begins-push, Begins-more}
-use Rattle.http_cut.proofs.Waiting.{Consumes-none, Consumes-then}
 use Rattle.http_desk.specs.Answered.{Answered, IsServed, Served, requests, texts, last_tables, failures, failure}
 use Rattle.http_desk.specs.Answered.{all_most_calls, all_sure_calls, most_calls, sure_calls}
 use Rattle.http_desk.specs.Scenes.{RoseBy, RoseWithin, Scene, risen_by}
@@ -90,7 +90,7 @@ raised_once least before now few is = record { times = 1; enough = few; few = om
 -- nothing was done yet
 pub Progress-none : (limit : ℕ) (old : Scene) → IfTold old.told old.tables → Progress limit old old [] [] []
 Progress-none limit old told = record {
-  took = Consumes-none old.left;
+  took = Consumes-nil old.left;
   begins = refl;
   served = tt;
   tables = refl;
@@ -104,7 +104,7 @@ pub Progress-takes : (limit : ℕ) (old mid new : Scene) (taken : List ℕ) (ans
     → Progress limit old mid taken answers rest → Consumes mid.left new.left more → new.tables ≡ mid.tables
     → new.told ≡ mid.told → new.uses ≡ mid.uses → Progress limit old new (taken ++ more) answers (rest ++ more)
 Progress-takes limit old mid new taken answers rest more p took tables told uses = record {
-  took = Consumes-then old.left mid.left new.left taken more p.took took;
+  took = Consumes-trans old.left mid.left new.left taken more p.took took;
   begins = Begins-more taken (requests answers) rest more p.begins;
   served = p.served;
   tables = tables ∙ p.tables;

@@ -11,12 +11,6 @@ use Rattle.http_desk.specs.declared.refusal.Refused.TheVariants.{NoRoute, NoMemo
 abbrev pub Checked : Type 0 → Type 0
 Checked A = Result A Declined
 
-infixl 10 ◌>>=◌
--- what comes of a value, where the tests before it pass
-abbrev pub ◌>>=◌ : {A B : Type 0} → Checked A → (A → Checked B) → Checked B
-Ok value >>= next = next value
-Err why >>= next = Err why
-
 -- refused by a test of the head
 abbrev pub or_refused : {A : Type 0} → Result A RefusedBy → Checked A
 or_refused (Ok value) = Ok value

@@ -6,8 +6,9 @@ use Rattle.http_cut.specs.Cut.{WholeRequest}
 use Rattle.http_cut.specs.Routes.{Match}
 use Rattle.desk_words.specs.declared.command.Command.{Command}
 use Rattle.desk_words.specs.declared.rows.clerk.Digest.{Digest}
+use Rattle.desk_json.specs.Checked.{◌>>=◌}
 use Rattle.desk_json.specs.Commands.{command_in}
-use Rattle.http_desk.specs.Checked.{Checked, ◌>>=◌, or_bad_body, or_refused}
+use Rattle.http_desk.specs.Checked.{Checked, or_bad_body, or_refused}
 use Rattle.http_desk.specs.Parameters.{route_in}
 use Rattle.http_desk.specs.Refusals.{asked}
 

@@ -1,195 +1,147 @@
 -- The parameters of a target: the names and numbers of what a request is about.
-use Rattle.std.specs.Prelude.{ℕ, List, codes, Ok, option_and_then, ⊤}
+use Rattle.std.specs.Prelude.{ℕ, List, [], ◌∷◌, codes, Ok, option_and_then}
 use Rattle.matchit.specs.Params.{named}
 use Rattle.http_cut.specs.declared.digits.TheConstants.{WRITE_DIGITS, NUMBER_DIGITS}
 use Rattle.http_cut.specs.declared.route.Route.{Route as Target}
 use Rattle.http_cut.specs.declared.route.Route.TheVariants as target
+use Rattle.http_cut.specs.declared.route.StewardRoute.{StewardRoute}
+use Rattle.http_cut.specs.declared.route.StewardRoute.TheVariants as of_steward
+use Rattle.http_cut.specs.declared.route.ClerkRoute.{ClerkRoute}
+use Rattle.http_cut.specs.declared.route.ClerkRoute.TheVariants as of_clerk
+use Rattle.http_cut.specs.declared.route.LookRoute.{LookRoute}
+use Rattle.http_cut.specs.declared.route.LookRoute.TheVariants as of_look
+use Rattle.http_cut.specs.declared.route.DeskRoute.{DeskRoute}
+use Rattle.http_cut.specs.declared.route.DeskRoute.TheVariants as of_desk
 use Rattle.http_cut.specs.Numbers.{positive}
 use Rattle.desk_json.specs.declared.route.Route.{Route}
 use Rattle.desk_json.specs.declared.route.Route.TheVariants.{AddClerk, AddSchema, AddMaster, AddRulebook, AddEdition}
 use Rattle.desk_json.specs.declared.route.Route.TheVariants.{AddRegion, Enter, Confirm, Withdraw, Commit, Abandon}
 use Rattle.desk_json.specs.declared.route.Route.TheVariants.{Batch, View, Suggest, Preview, Report, Records, DeskReport}
 use Rattle.desk_json.specs.declared.route.Route.TheVariants.{Explain, DeskDerive, AddDerived, SeeCarry, Carry}
-use Rattle.http_desk.specs.Checked.{Checked, ◌>>=◌, or_no_route}
+use Rattle.desk_json.specs.Checked.{◌>>=◌}
+use Rattle.http_desk.specs.Checked.{Checked, or_no_route}
 
 -- each name of a pattern with the part of the target that it took
 abbrev pub Parts : Type 0
 Parts = List (List ℕ × List ℕ)
 
--- the text at this parameter; a target without it has no route
+-- the text at this name; a target without it has no route
 abbrev pub text_at : List ℕ → Parts → Checked (List ℕ)
 text_at name parts = or_no_route (named name parts)
 
--- the number of at most so many digits at this parameter
+-- the number of at most so many digits at this name
 abbrev pub number_at : ℕ → List ℕ → Parts → Checked ℕ
 number_at most name parts = or_no_route (option_and_then (positive most) (named name parts))
 
--- who asks
-abbrev pub clerk_in : Parts → Checked (List ℕ)
-clerk_in = text_at (codes "clerk")
+-- ---- the parameters
 
--- the number of a write among its caller's
+-- what targets tell: who asks, the number of a write among its caller's, the name of what a new version is of or of the
+-- attribute that is asked about, the schema that a rulebook is over, and the edition, the version and the session that
+-- it is about
+pub data Parameter : Type 0 where
+  clerk : Parameter
+  n : Parameter
+  name : Parameter
+  schema : Parameter
+  edition : Parameter
+  version : Parameter
+  session : Parameter
+
+-- its name in a pattern
+abbrev pub name_of : Parameter → List ℕ
+name_of clerk = codes "clerk"
+name_of n = codes "n"
+name_of name = codes "name"
+name_of schema = codes "schema"
+name_of edition = codes "edition"
+name_of version = codes "version"
+name_of session = codes "session"
+
+-- what is read there: a number or a text
+abbrev pub Read : Parameter → Type 0
+Read n = ℕ
+Read version = ℕ
+Read session = ℕ
+Read parameter = List ℕ
+
+-- what is read at a parameter in the parts of a target
+abbrev pub read_at : (parameter : Parameter) → Parts → Checked (Read parameter)
+read_at n parts = number_at WRITE_DIGITS (name_of n) parts
+read_at version parts = number_at NUMBER_DIGITS (name_of version) parts
+read_at session parts = number_at NUMBER_DIGITS (name_of session) parts
+read_at parameter parts = text_at (name_of parameter) parts
+
+-- the number of a write
 abbrev pub write_in : Parts → Checked ℕ
-write_in = number_at WRITE_DIGITS (codes "n")
+write_in = read_at n
 
--- the session that a write or a look is about
-abbrev pub session_in : Parts → Checked ℕ
-session_in = number_at NUMBER_DIGITS (codes "session")
+-- ---- the routes that are made of them
 
--- the edition that it is about
-abbrev pub edition_in : Parts → Checked (List ℕ)
-edition_in = text_at (codes "edition")
+-- what makes a route of what is read at these parameters
+abbrev pub Makes : List Parameter → Type 0
+Makes [] = Route
+Makes (parameter ∷ parameters) = Read parameter → Makes parameters
 
--- the version of what it is about
-abbrev pub version_in : Parts → Checked ℕ
-version_in = number_at NUMBER_DIGITS (codes "version")
+-- the route that is made of them, one after the other
+abbrev pub made_from : (parameters : List Parameter) → Makes parameters → Parts → Checked Route
+made_from [] route parts = Ok route
+made_from (parameter ∷ parameters) make parts = do
+  value ← read_at parameter parts
+  made_from parameters (make value) parts
 
--- what a new version is of, or the attribute that is asked about
-abbrev pub name_in : Parts → Checked (List ℕ)
-name_in = text_at (codes "name")
+-- the parameters of a route that are its own, and what makes it of them
+pub data Form : Type 0 where
+  form : (parameters : List Parameter) → Makes parameters → Form
 
--- the schema that a rulebook is over
-abbrev pub schema_in : Parts → Checked (List ℕ)
-schema_in = text_at (codes "schema")
+-- the route of a form
+abbrev pub made_in : Form → Parts → Checked Route
+made_in (form parameters make) parts = made_from parameters make parts
+
+-- a write of the steward, with its number
+abbrev pub steward_form : ℕ → StewardRoute → Form
+steward_form number of_steward.AddClerk = form [] (AddClerk number)
+steward_form number of_steward.AddSchema = form [] (AddSchema number)
+steward_form number of_steward.AddMaster = form (name ∷ []) (AddMaster number)
+steward_form number of_steward.AddRulebook = form (name ∷ schema ∷ version ∷ []) (AddRulebook number)
+steward_form number of_steward.AddEdition = form (name ∷ []) (AddEdition number)
+steward_form number of_steward.AddRegion = form (edition ∷ version ∷ []) (AddRegion number)
+steward_form number of_steward.AddDerived = form (edition ∷ version ∷ []) (AddDerived number)
+
+-- a write of this clerk, with its number
+abbrev pub clerk_form : List ℕ → ℕ → ClerkRoute → Form
+clerk_form caller number of_clerk.Enter = form (edition ∷ []) (Enter caller number)
+clerk_form caller number of_clerk.Confirm = form (session ∷ []) (Confirm caller number)
+clerk_form caller number of_clerk.Withdraw = form (session ∷ []) (Withdraw caller number)
+clerk_form caller number of_clerk.Commit = form (session ∷ []) (Commit caller number)
+clerk_form caller number of_clerk.Abandon = form (session ∷ []) (Abandon caller number)
+clerk_form caller number of_clerk.Batch = form (edition ∷ []) (Batch caller number)
+clerk_form caller number of_clerk.Carry = form (session ∷ []) (Carry caller number)
+
+-- a look of this clerk
+abbrev pub look_form : List ℕ → LookRoute → Form
+look_form caller of_look.View = form (session ∷ []) (View caller)
+look_form caller of_look.Suggest = form (session ∷ []) (Suggest caller)
+look_form caller of_look.Preview = form (session ∷ []) (Preview caller)
+look_form caller of_look.Report = form [] (Report caller)
+look_form caller of_look.Records = form (edition ∷ version ∷ []) (Records caller)
+look_form caller of_look.Explain = form (session ∷ name ∷ []) (Explain caller)
+look_form caller of_look.SeeCarry = form (session ∷ version ∷ []) (SeeCarry caller)
+
+-- what is asked for at the desk
+abbrev pub desk_form : DeskRoute → Form
+desk_form of_desk.DeskReport = form [] DeskReport
+desk_form of_desk.DeskDerive = form (edition ∷ version ∷ []) DeskDerive
 
 -- the route that a target asks for, with its parameters
 abbrev pub route_in : Target → Parts → Checked Route
-route_in target.AddClerk parts = do
-  n ← write_in parts
-  Ok (AddClerk n)
-route_in target.AddSchema parts = do
-  n ← write_in parts
-  Ok (AddSchema n)
-route_in target.AddMaster parts = do
-  n ← write_in parts
-  name ← name_in parts
-  Ok (AddMaster n name)
-route_in target.AddRulebook parts = do
-  n ← write_in parts
-  name ← name_in parts
-  schema ← schema_in parts
-  version ← version_in parts
-  Ok (AddRulebook n name schema version)
-route_in target.AddEdition parts = do
-  n ← write_in parts
-  name ← name_in parts
-  Ok (AddEdition n name)
-route_in target.AddRegion parts = do
-  n ← write_in parts
-  edition ← edition_in parts
-  version ← version_in parts
-  Ok (AddRegion n edition version)
-route_in target.Enter parts = do
-  clerk ← clerk_in parts
-  n ← write_in parts
-  edition ← edition_in parts
-  Ok (Enter clerk n edition)
-route_in target.Confirm parts = do
-  clerk ← clerk_in parts
-  n ← write_in parts
-  session ← session_in parts
-  Ok (Confirm clerk n session)
-route_in target.Withdraw parts = do
-  clerk ← clerk_in parts
-  n ← write_in parts
-  session ← session_in parts
-  Ok (Withdraw clerk n session)
-route_in target.Commit parts = do
-  clerk ← clerk_in parts
-  n ← write_in parts
-  session ← session_in parts
-  Ok (Commit clerk n session)
-route_in target.Abandon parts = do
-  clerk ← clerk_in parts
-  n ← write_in parts
-  session ← session_in parts
-  Ok (Abandon clerk n session)
-route_in target.Batch parts = do
-  clerk ← clerk_in parts
-  n ← write_in parts
-  edition ← edition_in parts
-  Ok (Batch clerk n edition)
-route_in target.View parts = do
-  clerk ← clerk_in parts
-  session ← session_in parts
-  Ok (View clerk session)
-route_in target.Suggest parts = do
-  clerk ← clerk_in parts
-  session ← session_in parts
-  Ok (Suggest clerk session)
-route_in target.Preview parts = do
-  clerk ← clerk_in parts
-  session ← session_in parts
-  Ok (Preview clerk session)
-route_in target.Report parts = do
-  clerk ← clerk_in parts
-  Ok (Report clerk)
-route_in target.Records parts = do
-  clerk ← clerk_in parts
-  edition ← edition_in parts
-  version ← version_in parts
-  Ok (Records clerk edition version)
-route_in target.DeskReport parts = Ok DeskReport
-route_in target.Explain parts = do
-  clerk ← clerk_in parts
-  session ← session_in parts
-  name ← name_in parts
-  Ok (Explain clerk session name)
-route_in target.DeskDerive parts = do
-  edition ← edition_in parts
-  version ← version_in parts
-  Ok (DeskDerive edition version)
-route_in target.AddDerived parts = do
-  n ← write_in parts
-  edition ← edition_in parts
-  version ← version_in parts
-  Ok (AddDerived n edition version)
-route_in target.SeeCarry parts = do
-  clerk ← clerk_in parts
-  session ← session_in parts
-  version ← version_in parts
-  Ok (SeeCarry clerk session version)
-route_in target.Carry parts = do
-  clerk ← clerk_in parts
-  n ← write_in parts
-  session ← session_in parts
-  Ok (Carry clerk n session)
-
--- ---- who asks
-
--- the steward's writes
-abbrev pub IsOfSteward : Target → Type 0
-IsOfSteward target.AddClerk = ⊤
-IsOfSteward target.AddSchema = ⊤
-IsOfSteward target.AddMaster = ⊤
-IsOfSteward target.AddRulebook = ⊤
-IsOfSteward target.AddEdition = ⊤
-IsOfSteward target.AddRegion = ⊤
-IsOfSteward target.AddDerived = ⊤
-IsOfSteward asked = ⊥
-
--- the writes of a clerk that enter sessions
-abbrev pub IsEntering : Target → Type 0
-IsEntering target.Enter = ⊤
-IsEntering target.Batch = ⊤
-IsEntering asked = ⊥
-
--- the writes of a clerk to a session
-abbrev pub IsOfSession : Target → Type 0
-IsOfSession target.Confirm = ⊤
-IsOfSession target.Withdraw = ⊤
-IsOfSession target.Commit = ⊤
-IsOfSession target.Abandon = ⊤
-IsOfSession target.Carry = ⊤
-IsOfSession asked = ⊥
-
--- the looks of a clerk
-abbrev pub IsLook : Target → Type 0
-IsLook target.View = ⊤
-IsLook target.Suggest = ⊤
-IsLook target.Preview = ⊤
-IsLook target.Report = ⊤
-IsLook target.Records = ⊤
-IsLook target.Explain = ⊤
-IsLook target.SeeCarry = ⊤
-IsLook asked = ⊥
+route_in (target.Steward asked) parts = do
+  number ← write_in parts
+  made_in (steward_form number asked) parts
+route_in (target.Clerk asked) parts = do
+  caller ← read_at clerk parts
+  number ← write_in parts
+  made_in (clerk_form caller number asked) parts
+route_in (target.Look asked) parts = do
+  caller ← read_at clerk parts
+  made_in (look_form caller asked) parts
+route_in (target.Desk asked) parts = made_in (desk_form asked) parts

@@ -1,5 +1,5 @@
 -- What is refused without the machine, and with which response.
-use Rattle.std.specs.Prelude.{ℕ, Bool, true, false, not, ◌&&◌, List, codes, Option, Some, None, is_some, Result, Ok}
+use Rattle.std.specs.Prelude.{ℕ, Bool, true, false, not, ◌&&◌, List, ◌++◌, codes, Option, Some, None, is_some, Result, Ok}
 use Rattle.std.specs.Prelude.{Err, if◌then◌else◌}
 use Rattle.std.specs.Str.{bytes_eq}
 use Rattle.httparse.specs.Grammar.{RequestHead}
@@ -11,6 +11,7 @@ use Rattle.http_cut.specs.declared.step.BadRest.TheVariants as rest
 use Rattle.http_cut.specs.Cut.{WholeRequest}
 use Rattle.http_cut.specs.Head.{head_body}
 use Rattle.http_cut.specs.Routes.{Match, method_of, route_of}
+use Rattle.desk_json.specs.Refusals.{no_memory, unavailable}
 use Rattle.http_desk.specs.declared.refusal.Refused.{Refused}
 use Rattle.http_desk.specs.declared.refusal.Refused.TheVariants as refused
 use Rattle.http_desk.specs.declared.status.Status.{Status}
@@ -71,16 +72,20 @@ status_of refused.BodyLong = status.ContentTooLarge
 status_of refused.Unavailable = status.ServiceUnavailable
 status_of refused.NoMemory = status.InsufficientStorage
 
+-- the word for a refusal
+abbrev pub word_of : Refused → List ℕ
+word_of refused.NoRoute = codes "no_route"
+word_of refused.OtherMethod = codes "method"
+word_of refused.NoLength = codes "length"
+word_of refused.BadHead = codes "head"
+word_of refused.Chunked = codes "chunked"
+word_of refused.BodyLong = codes "body"
+word_of refused.Unavailable = unavailable
+word_of refused.NoMemory = no_memory
+
 -- the body of a refusal's response: a JSON object that names why
 abbrev pub body_of : Refused → List ℕ
-body_of refused.NoRoute = codes "{\"error\":\"no_route\"}"
-body_of refused.OtherMethod = codes "{\"error\":\"method\"}"
-body_of refused.NoLength = codes "{\"error\":\"length\"}"
-body_of refused.BadHead = codes "{\"error\":\"head\"}"
-body_of refused.Chunked = codes "{\"error\":\"chunked\"}"
-body_of refused.BodyLong = codes "{\"error\":\"body\"}"
-body_of refused.Unavailable = codes "{\"error\":\"unavailable\"}"
-body_of refused.NoMemory = codes "{\"error\":\"no_memory\"}"
+body_of refusal = codes "{\"error\":\"" ++ word_of refusal ++ codes "\"}"
 
 -- a refusal's response, which closes the stream or not, to a request whose method may be HEAD
 abbrev pub refusal_text : Refused → Bool → Bool → List ℕ

@@ -1,15 +1,18 @@
 //! The parameters of a target, and its route with them.
 ghost use Rattle.std.specs.Prelude.{◌≤◌, ◌<◌, ◌^◌, IfOk};
 ghost use Rattle.http_cut.specs.declared.digits.TheConstants.{NUMBER_DIGITS};
+ghost use Rattle.http_cut.specs.declared.route.Route.TheVariants as targets;
 ghost use Rattle.http_desk.specs.Checked.{Finds};
-ghost use Rattle.http_desk.specs.Parameters.{IsEntering, IsLook, IsOfSession, IsOfSteward};
 ghost use Rattle.http_desk.specs.Parameters.{number_at, route_in, text_at, write_in};
 
 use crate::declined::Declined;
 use crate::refusal::Refused;
 use desk_base::Str;
 use desk_json::Route;
-use http_cut::{NUMBER_DIGITS, Route as Target, RouteMatch, WRITE_DIGITS, positive};
+use http_cut::{
+    ClerkRoute, DeskRoute, LookRoute, NUMBER_DIGITS, Route as Target, RouteMatch, StewardRoute,
+    WRITE_DIGITS, positive,
+};
 use std::alloc::Global;
 
 /// The route that a target asks for, with its parameters.
@@ -17,167 +20,156 @@ pub fn route_in(alloc: Global, found: &RouteMatch<'_, '_>) -> Result<Route, Decl
     ensures { Finds result (route_in found.now.0 found.now.1) }
 {
     match found.route() {
-        Target::AddClerk
-        | Target::AddSchema
-        | Target::AddMaster
-        | Target::AddRulebook
-        | Target::AddEdition
-        | Target::AddRegion
-        | Target::AddDerived => steward_route(alloc, found),
-        Target::Enter | Target::Batch => entering_route(alloc, found),
-        Target::Confirm | Target::Withdraw | Target::Commit | Target::Abandon | Target::Carry =>
-            session_route(alloc, found),
-        Target::View
-        | Target::Suggest
-        | Target::Preview
-        | Target::Report
-        | Target::Records
-        | Target::Explain
-        | Target::SeeCarry => look_route(alloc, found),
-        Target::DeskReport => Ok(Route::DeskReport),
-        Target::DeskDerive => Ok(Route::DeskDerive {
-            edition: text_at(alloc, found, "edition")?,
-            version: number_at(found, "version")?,
-        }),
+        Target::Steward(asked) => steward_route(alloc, found, asked),
+        Target::Clerk(asked) => clerk_route(alloc, found, asked),
+        Target::Look(asked) => look_route(alloc, found, asked),
+        Target::Desk(asked) => desk_route(alloc, found, asked),
     }
 }
 
 /// The route of a write of the steward.
-fn steward_route(alloc: Global, found: &RouteMatch<'_, '_>) -> Result<Route, Declined>
-    requires { IsOfSteward found.now.0 }
-    ensures { Finds result (route_in found.now.0 found.now.1) }
+fn steward_route(
+    alloc: Global,
+    found: &RouteMatch<'_, '_>,
+    asked: StewardRoute,
+) -> Result<Route, Declined>
+    ensures { Finds result (route_in (targets.Steward asked) found.now.1) }
 {
-    match found.route() {
-        Target::AddClerk => Ok(Route::AddClerk {
-            n: write_in(found)?,
-        }),
-        Target::AddSchema => Ok(Route::AddSchema {
-            n: write_in(found)?,
-        }),
-        Target::AddMaster => Ok(Route::AddMaster {
-            n: write_in(found)?,
+    let n = write_in(found)?;
+    match asked {
+        StewardRoute::AddClerk => Ok(Route::AddClerk { n }),
+        StewardRoute::AddSchema => Ok(Route::AddSchema { n }),
+        StewardRoute::AddMaster => Ok(Route::AddMaster {
+            n,
             name: text_at(alloc, found, "name")?,
         }),
-        Target::AddRulebook => Ok(Route::AddRulebook {
-            n: write_in(found)?,
+        StewardRoute::AddRulebook => Ok(Route::AddRulebook {
+            n,
             name: text_at(alloc, found, "name")?,
             schema: text_at(alloc, found, "schema")?,
             version: number_at(found, "version")?,
         }),
-        Target::AddEdition => Ok(Route::AddEdition {
-            n: write_in(found)?,
+        StewardRoute::AddEdition => Ok(Route::AddEdition {
+            n,
             name: text_at(alloc, found, "name")?,
         }),
-        Target::AddRegion => Ok(Route::AddRegion {
-            n: write_in(found)?,
+        StewardRoute::AddRegion => Ok(Route::AddRegion {
+            n,
             edition: text_at(alloc, found, "edition")?,
             version: number_at(found, "version")?,
         }),
-        Target::AddDerived => Ok(Route::AddDerived {
-            n: write_in(found)?,
+        StewardRoute::AddDerived => Ok(Route::AddDerived {
+            n,
             edition: text_at(alloc, found, "edition")?,
             version: number_at(found, "version")?,
         }),
-        // The steward has no other writes.
-        _ => unreachable!(),
     }
 }
 
-/// The route of a write of a clerk that enters sessions.
-fn entering_route(alloc: Global, found: &RouteMatch<'_, '_>) -> Result<Route, Declined>
-    requires { IsEntering found.now.0 }
-    ensures { Finds result (route_in found.now.0 found.now.1) }
+/// The route of a write of a clerk.
+fn clerk_route(
+    alloc: Global,
+    found: &RouteMatch<'_, '_>,
+    asked: ClerkRoute,
+) -> Result<Route, Declined>
+    ensures { Finds result (route_in (targets.Clerk asked) found.now.1) }
 {
-    match found.route() {
-        Target::Enter => Ok(Route::Enter {
-            clerk: text_at(alloc, found, "clerk")?,
-            n: write_in(found)?,
+    let clerk = text_at(alloc, found, "clerk")?;
+    let n = write_in(found)?;
+    match asked {
+        ClerkRoute::Enter => Ok(Route::Enter {
+            clerk,
+            n,
             edition: text_at(alloc, found, "edition")?,
         }),
-        Target::Batch => Ok(Route::Batch {
-            clerk: text_at(alloc, found, "clerk")?,
-            n: write_in(found)?,
+        ClerkRoute::Confirm => Ok(Route::Confirm {
+            clerk,
+            n,
+            session: number_at(found, "session")?,
+        }),
+        ClerkRoute::Withdraw => Ok(Route::Withdraw {
+            clerk,
+            n,
+            session: number_at(found, "session")?,
+        }),
+        ClerkRoute::Commit => Ok(Route::Commit {
+            clerk,
+            n,
+            session: number_at(found, "session")?,
+        }),
+        ClerkRoute::Abandon => Ok(Route::Abandon {
+            clerk,
+            n,
+            session: number_at(found, "session")?,
+        }),
+        ClerkRoute::Batch => Ok(Route::Batch {
+            clerk,
+            n,
             edition: text_at(alloc, found, "edition")?,
         }),
-        // No other write enters any.
-        _ => unreachable!(),
-    }
-}
-
-/// The route of a write of a clerk to a session.
-fn session_route(alloc: Global, found: &RouteMatch<'_, '_>) -> Result<Route, Declined>
-    requires { IsOfSession found.now.0 }
-    ensures { Finds result (route_in found.now.0 found.now.1) }
-{
-    match found.route() {
-        Target::Confirm => Ok(Route::Confirm {
-            clerk: text_at(alloc, found, "clerk")?,
-            n: write_in(found)?,
+        ClerkRoute::Carry => Ok(Route::Carry {
+            clerk,
+            n,
             session: number_at(found, "session")?,
         }),
-        Target::Withdraw => Ok(Route::Withdraw {
-            clerk: text_at(alloc, found, "clerk")?,
-            n: write_in(found)?,
-            session: number_at(found, "session")?,
-        }),
-        Target::Commit => Ok(Route::Commit {
-            clerk: text_at(alloc, found, "clerk")?,
-            n: write_in(found)?,
-            session: number_at(found, "session")?,
-        }),
-        Target::Abandon => Ok(Route::Abandon {
-            clerk: text_at(alloc, found, "clerk")?,
-            n: write_in(found)?,
-            session: number_at(found, "session")?,
-        }),
-        Target::Carry => Ok(Route::Carry {
-            clerk: text_at(alloc, found, "clerk")?,
-            n: write_in(found)?,
-            session: number_at(found, "session")?,
-        }),
-        // There are no other writes to a session.
-        _ => unreachable!(),
     }
 }
 
 /// The route of a look of a clerk.
-fn look_route(alloc: Global, found: &RouteMatch<'_, '_>) -> Result<Route, Declined>
-    requires { IsLook found.now.0 }
-    ensures { Finds result (route_in found.now.0 found.now.1) }
+fn look_route(
+    alloc: Global,
+    found: &RouteMatch<'_, '_>,
+    asked: LookRoute,
+) -> Result<Route, Declined>
+    ensures { Finds result (route_in (targets.Look asked) found.now.1) }
 {
-    match found.route() {
-        Target::View => Ok(Route::View {
-            clerk: text_at(alloc, found, "clerk")?,
+    let clerk = text_at(alloc, found, "clerk")?;
+    match asked {
+        LookRoute::View => Ok(Route::View {
+            clerk,
             session: number_at(found, "session")?,
         }),
-        Target::Suggest => Ok(Route::Suggest {
-            clerk: text_at(alloc, found, "clerk")?,
+        LookRoute::Suggest => Ok(Route::Suggest {
+            clerk,
             session: number_at(found, "session")?,
         }),
-        Target::Preview => Ok(Route::Preview {
-            clerk: text_at(alloc, found, "clerk")?,
+        LookRoute::Preview => Ok(Route::Preview {
+            clerk,
             session: number_at(found, "session")?,
         }),
-        Target::Report => Ok(Route::Report {
-            clerk: text_at(alloc, found, "clerk")?,
-        }),
-        Target::Records => Ok(Route::Records {
-            clerk: text_at(alloc, found, "clerk")?,
+        LookRoute::Report => Ok(Route::Report { clerk }),
+        LookRoute::Records => Ok(Route::Records {
+            clerk,
             edition: text_at(alloc, found, "edition")?,
             version: number_at(found, "version")?,
         }),
-        Target::Explain => Ok(Route::Explain {
-            clerk: text_at(alloc, found, "clerk")?,
+        LookRoute::Explain => Ok(Route::Explain {
+            clerk,
             session: number_at(found, "session")?,
             name: text_at(alloc, found, "name")?,
         }),
-        Target::SeeCarry => Ok(Route::SeeCarry {
-            clerk: text_at(alloc, found, "clerk")?,
+        LookRoute::SeeCarry => Ok(Route::SeeCarry {
+            clerk,
             session: number_at(found, "session")?,
             version: number_at(found, "version")?,
         }),
-        // A clerk has no other looks.
-        _ => unreachable!(),
+    }
+}
+
+/// The route of what is asked for at the desk.
+fn desk_route(
+    alloc: Global,
+    found: &RouteMatch<'_, '_>,
+    asked: DeskRoute,
+) -> Result<Route, Declined>
+    ensures { Finds result (route_in (targets.Desk asked) found.now.1) }
+{
+    match asked {
+        DeskRoute::DeskReport => Ok(Route::DeskReport),
+        DeskRoute::DeskDerive => Ok(Route::DeskDerive {
+            edition: text_at(alloc, found, "edition")?,
+            version: number_at(found, "version")?,
+        }),
     }
 }
 

@@ -1,7 +1,6 @@
 //! What is answered without the machine.
-ghost use Rattle.std.specs.Prelude.{◌≡◌};
+ghost use Rattle.std.specs.Prelude.{◌≡◌, false, true};
 ghost use Rattle.http_desk.specs.Refusals.{refusal_text, refused_rest};
-ghost use Rattle.http_desk.specs.declared.refusal.Refused.TheVariants as refused;
 
 use http_cut::BadRest;
 
@@ -26,6 +25,38 @@ pub enum Refused {
     NoMemory,
 }
 
+/// The responses of one refusal.
+#[derive(Clone, Copy)]
+struct Texts {
+    staying: &'static str,
+    closing: &'static str,
+    staying_to_head: &'static str,
+    closing_to_head: &'static str,
+}
+
+/// The responses with this status, and a body that names the error and has so many bytes, as they are sent.
+macro_rules! texts_of {
+    ($status:literal, $length:literal, $error:literal) => {
+        Texts {
+            staying: concat!(
+                "HTTP/1.1 ", $status, "\r\nContent-Type: application/json\r\nContent-Length: ", $length,
+                "\r\n\r\n{\"error\":\"", $error, "\"}"
+            ),
+            closing: concat!(
+                "HTTP/1.1 ", $status, "\r\nContent-Type: application/json\r\nContent-Length: ", $length,
+                "\r\nConnection: close\r\n\r\n{\"error\":\"", $error, "\"}"
+            ),
+            staying_to_head: concat!(
+                "HTTP/1.1 ", $status, "\r\nContent-Type: application/json\r\nContent-Length: 0\r\n\r\n"
+            ),
+            closing_to_head: concat!(
+                "HTTP/1.1 ", $status, "\r\nContent-Type: application/json\r\nContent-Length: 0",
+                "\r\nConnection: close\r\n\r\n"
+            ),
+        }
+    };
+}
+
 impl Refused {
     /// The refusal of a bad rest.
     pub fn of_rest(kind: BadRest) -> Refused
@@ -43,134 +74,30 @@ impl Refused {
     pub fn text(self, closing: bool, asks_head: bool) -> &'static str
         ensures { result.now ≡ refusal_text self closing asks_head }
     {
-        match self {
-            Refused::NoRoute => no_route(closing, asks_head),
-            Refused::OtherMethod => other_method(closing, asks_head),
-            Refused::NoLength => no_length(closing, asks_head),
-            Refused::BadHead => bad_head(closing, asks_head),
-            Refused::Chunked => chunked(closing, asks_head),
-            Refused::BodyLong => body_long(closing, asks_head),
-            Refused::Unavailable => unavailable(closing, asks_head),
-            Refused::NoMemory => no_memory(closing, asks_head),
+        let texts = self.texts();
+        match (closing, asks_head) {
+            (false, false) => texts.staying,
+            (true, false) => texts.closing,
+            (false, true) => texts.staying_to_head,
+            (true, true) => texts.closing_to_head,
         }
     }
-}
 
-/// The response with this status, and a body of JSON whose length stands before it, as it is sent.
-macro_rules! text_of {
-    ($status:literal, $length:literal, $body:literal, $closing:expr, $asks_head:expr) => {
-        match ($closing, $asks_head) {
-            (false, false) => concat!(
-                "HTTP/1.1 ", $status, "\r\nContent-Type: application/json\r\nContent-Length: ", $length,
-                "\r\n\r\n", $body
-            ),
-            (true, false) => concat!(
-                "HTTP/1.1 ", $status, "\r\nContent-Type: application/json\r\nContent-Length: ", $length,
-                "\r\nConnection: close\r\n\r\n", $body
-            ),
-            (false, true) => concat!(
-                "HTTP/1.1 ", $status, "\r\nContent-Type: application/json\r\nContent-Length: 0\r\n\r\n"
-            ),
-            (true, true) => concat!(
-                "HTTP/1.1 ", $status, "\r\nContent-Type: application/json\r\nContent-Length: 0",
-                "\r\nConnection: close\r\n\r\n"
-            ),
+    fn texts(self) -> Texts
+        ensures staying { result.staying.now ≡ refusal_text self false false }
+        ensures closing { result.closing.now ≡ refusal_text self true false }
+        ensures staying_to_head { result.staying_to_head.now ≡ refusal_text self false true }
+        ensures closing_to_head { result.closing_to_head.now ≡ refusal_text self true true }
+    {
+        match self {
+            Refused::NoRoute => texts_of!("404 Not Found", "20", "no_route"),
+            Refused::OtherMethod => texts_of!("405 Method Not Allowed", "18", "method"),
+            Refused::NoLength => texts_of!("411 Length Required", "18", "length"),
+            Refused::BadHead => texts_of!("400 Bad Request", "16", "head"),
+            Refused::Chunked => texts_of!("501 Not Implemented", "19", "chunked"),
+            Refused::BodyLong => texts_of!("413 Content Too Large", "16", "body"),
+            Refused::Unavailable => texts_of!("503 Service Unavailable", "23", "unavailable"),
+            Refused::NoMemory => texts_of!("507 Insufficient Storage", "21", "no_memory"),
         }
-    };
-}
-
-fn no_route(closing: bool, asks_head: bool) -> &'static str
-    ensures { result.now ≡ refusal_text refused.NoRoute closing asks_head }
-{
-    text_of!(
-        "404 Not Found",
-        "20",
-        "{\"error\":\"no_route\"}",
-        closing,
-        asks_head
-    )
-}
-
-fn other_method(closing: bool, asks_head: bool) -> &'static str
-    ensures { result.now ≡ refusal_text refused.OtherMethod closing asks_head }
-{
-    text_of!(
-        "405 Method Not Allowed",
-        "18",
-        "{\"error\":\"method\"}",
-        closing,
-        asks_head
-    )
-}
-
-fn no_length(closing: bool, asks_head: bool) -> &'static str
-    ensures { result.now ≡ refusal_text refused.NoLength closing asks_head }
-{
-    text_of!(
-        "411 Length Required",
-        "18",
-        "{\"error\":\"length\"}",
-        closing,
-        asks_head
-    )
-}
-
-fn bad_head(closing: bool, asks_head: bool) -> &'static str
-    ensures { result.now ≡ refusal_text refused.BadHead closing asks_head }
-{
-    text_of!(
-        "400 Bad Request",
-        "16",
-        "{\"error\":\"head\"}",
-        closing,
-        asks_head
-    )
-}
-
-fn chunked(closing: bool, asks_head: bool) -> &'static str
-    ensures { result.now ≡ refusal_text refused.Chunked closing asks_head }
-{
-    text_of!(
-        "501 Not Implemented",
-        "19",
-        "{\"error\":\"chunked\"}",
-        closing,
-        asks_head
-    )
-}
-
-fn body_long(closing: bool, asks_head: bool) -> &'static str
-    ensures { result.now ≡ refusal_text refused.BodyLong closing asks_head }
-{
-    text_of!(
-        "413 Content Too Large",
-        "16",
-        "{\"error\":\"body\"}",
-        closing,
-        asks_head
-    )
-}
-
-fn unavailable(closing: bool, asks_head: bool) -> &'static str
-    ensures { result.now ≡ refusal_text refused.Unavailable closing asks_head }
-{
-    text_of!(
-        "503 Service Unavailable",
-        "23",
-        "{\"error\":\"unavailable\"}",
-        closing,
-        asks_head
-    )
-}
-
-fn no_memory(closing: bool, asks_head: bool) -> &'static str
-    ensures { result.now ≡ refusal_text refused.NoMemory closing asks_head }
-{
-    text_of!(
-        "507 Insufficient Storage",
-        "21",
-        "{\"error\":\"no_memory\"}",
-        closing,
-        asks_head
-    )
+    }
 }

@@ -1,6 +1,7 @@
 use Rattle.std.proofs.Common.{◌≡◌, ◌+◌, ◌<◌, ◌≤◌, ℕ, List, [], ◌∷◌, ◌++◌, length, take, Err, refl, sym, ap, ◌∙◌}
 use Rattle.std.proofs.Common.{subst, arith}
 use Rattle.std.proofs.Common.{append-nil, append_assoc, length-append, rules}
+use Rattle.std.proofs.KnownBytes.{Consumes-kept, Consumes-nil, Consumes-trans}
 use Rattle.http_cut.specs.declared.step.Step.{Step}
 use Rattle.http_cut.specs.declared.intake.TheConstants.{PIECE}
 use Rattle.http_cut.specs.declared.intake.IntakeFault.TheVariants.{Failed, NoMemory}
@@ -10,14 +11,13 @@ use Rattle.http_cut.specs.Taking.{Takes, Loses, Fetches, Gives, Reading, ReadsOn
 use Rattle.http_cut.proofs.Cuts.{request_shorter}
 use Rattle.http_cut.proofs.Reading.{ReadsOn-push, gave}
 use Rattle.http_cut.proofs.Waiting.{open_few, open_now, awaits_on, bad_before, request_ends_in_last}
-use Rattle.http_cut.proofs.Waiting.{Consumes-then, Consumes-none, Consumes-kept}
 use Rattle.http_cut.proofs.intake.next_step.Goals as goal
 
 pub reads-init : goal.reads-init
 reads-init g c =
     let window = c.args.window.now in
     record {
-      takes = record { bytes = []; taken = Consumes-none _; joined = sym (append-nil window) };
+      takes = record { bytes = []; taken = Consumes-nil _; joined = sym (append-nil window) };
       in_turn = ([], (refl, refl));
       step = subst (λ (b : List ℕ). IsStep b c.first_step-step.result) c.bytes.ensures c.first_step-step.ensures;
       few = λ head body rest begins. let shorter = request_shorter window head body rest begins in
@@ -68,7 +68,7 @@ returns-in_err-add-clause-fetched g c =
     let read : List ℕ = take c.in_ok-count.count c.read.new.buf in
     let lost : Loses (g.S.Source.left c.args.source.now) (g.S.Source.left c.read.new.self) = record {
       bytes = so_far.bytes ++ read;
-      taken = Consumes-then _ _ _ so_far.bytes read so_far.taken c.in_ok-count.ensures.bytes.0;
+      taken = Consumes-trans _ _ _ so_far.bytes read so_far.taken c.in_ok-count.ensures.bytes.0;
     } in
     let want : c.from_residual-in_err-add.result ≡ Err NoMemory = search rules in
     subst (Fetches (g.S.Source.left c.args.source.now)
@@ -108,7 +108,7 @@ reads-preserved g c =
     record {
       takes = record {
         bytes = so_far.bytes ++ read;
-        taken = Consumes-then _ _ _ so_far.bytes read so_far.taken c.in_ok-count.ensures.bytes.0;
+        taken = Consumes-trans _ _ _ so_far.bytes read so_far.taken c.in_ok-count.ensures.bytes.0;
         joined = added ∙ (ap (λ (t : List ℕ). t ++ read) so_far.joined
             ∙ append_assoc c.args.window.now so_far.bytes read);
       };
