@@ -47,25 +47,30 @@ Announces_same : (bytes : List ℕ) (head other : RequestHead) (count second : �
     → Announces bytes other second → (head ≡ other) × (count ≡ second)
 Announces_same bytes head other count second x y =
     let same = HasHead_unique bytes head other x.stands y.stands in
-    let both : ◌≡◌ {A = Result (Option ℕ) BadLength} (Ok x.body.0) (Ok y.body.0) =
-    sym x.body.1 ∙ ap head_body same ∙ y.body.1 in
-    let said : x.body.0 ≡ y.body.0 = cc in
-    (same, sym x.body.2 ∙ ap (λ (s : Option ℕ). unwrap_or s 0) said ∙ y.body.2)
+    let (said, is, counts) = x.body in
+    let (said_too, is_too, counts_too) = y.body in
+    let both : ◌≡◌ {A = Result (Option ℕ) BadLength} (Ok said) (Ok said_too) = sym is ∙ ap head_body same ∙ is_too in
+    let saids : said ≡ said_too = cc in
+    (same, sym counts ∙ ap (λ (s : Option ℕ). unwrap_or s 0) saids ∙ counts_too)
 
+-- a head whose length is read has no bad one
 pub has_good_length : (head : RequestHead) (count : ℕ) → HasBody head count → ¬ (SaysBadLength head)
 has_good_length head count (said, is, same) wrong =
     let apart : ◌≡◌ {A = Result (Option ℕ) BadLength} (Ok said) (Err (record {})) = sym is ∙ wrong in
     cc
 
+-- what announces a body is no bad head
 announced_is_not_bad : (rest : List ℕ) (head : RequestHead) (count : ℕ) → Announces rest head count → IsBadHead rest → ⊥
 announced_is_not_bad rest head count x wrong =
     good_is_not_bad rest head x.stands (has_good_length head count x.body) wrong
 
+-- what announces a body is not chunked
 announced_is_not_chunked : (rest : List ℕ) (head : RequestHead) (count : ℕ) → Announces rest head count
     → IsChunkedRest rest → ⊥
 announced_is_not_chunked rest head count x (other, stands, good, says) =
     x.whole (subst IsChunked (sym (HasHead_unique rest head other x.stands stands)) says)
 
+-- one head is not within its limit and over it
 within_limit : (rest : List ℕ) (head other : RequestHead) (count second : ℕ) → Announces rest head count
     → Announces rest other second
     → count ≤ body_limit head.target → body_limit other.target < second → ⊥
@@ -78,12 +83,14 @@ within_limit rest head other count second x y fits over =
 
 -- ---- one request
 
+-- fronts of one length are the same, and so is what follows them
 fronts_same : (a b r q : List ℕ) → length a ≡ length b → a ++ r ≡ b ++ q → (a ≡ b) × (r ≡ q)
 fronts_same a b r q same e = (
   sym (take-append_seam a r) ∙ ap (take (length a)) e ∙ ap (λ (n : ℕ). take n (b ++ q)) same ∙ take-append_seam b q,
   sym (drop-append_seam a r) ∙ ap (drop (length a)) e ∙ ap (λ (n : ℕ). drop n (b ++ q)) same ∙ drop-append_seam b q,
 )
 
+-- one request stands at the front of bytes
 pub BeginsRequest_unique : (bytes : List ℕ) (head other : RequestHead) (body second rest left : List ℕ)
     → BeginsRequest bytes head body rest → BeginsRequest bytes other second left
     → (head ≡ other) × (body ≡ second) × (rest ≡ left)
@@ -92,8 +99,8 @@ BeginsRequest_unique bytes head other body second rest left x y =
     let behind : body ++ rest ≡ second ++ left =
     append-cancel (print_request head) (body ++ rest) (second ++ left)
     (sym x.bytes_are ∙ y.bytes_are ∙ ap (λ (h : RequestHead). print_request h ++ (second ++ left)) (sym same.0)) in
-    let parts = fronts_same body second rest left same.1 behind in
-    (same.0, parts.0, parts.1)
+    let (bodies, rests) = fronts_same body second rest left same.1 behind in
+    (same.0, bodies, rests)
 
 -- a request has bytes
 pub request_shorter : (bytes : List ℕ) (head : RequestHead) (body rest : List ℕ) → BeginsRequest bytes head body rest
@@ -108,9 +115,11 @@ request_shorter bytes head body rest x =
       print_request-some head,
     )
 
+-- bytes with a head are some
 has_bytes : (bytes : List ℕ) (head : RequestHead) → HasHead bytes head → 0 < length bytes
 has_bytes bytes head x =
-    omega (arith, ap length x.reads.1.1, length-append (print_request head) x.reads.0, print_request-some head)
+    let (behind, (well, is)) = x.reads in
+    omega (arith, ap length is, length-append (print_request head) behind, print_request-some head)
 
 -- a head whose body is within its limit begins no bad rest
 pub announced_is_no_bad_rest : (rest : List ℕ) (head : RequestHead) (count : ℕ) (kind : BadRest)
@@ -127,7 +136,7 @@ request_is_not_bad : (bytes : List ℕ) (head : RequestHead) (body rest : List �
 request_is_not_bad bytes head body rest kind x wrong =
     announced_is_no_bad_rest bytes head (length body) kind x.announces x.fits wrong
 
--- and none is awaited
+-- where a whole request stands, none is awaited
 pub request_is_not_open : (bytes : List ℕ) (head : RequestHead) (body rest : List ℕ)
     → BeginsRequest bytes head body rest
     → IsOpen bytes → ⊥
@@ -139,14 +148,17 @@ request_is_not_open bytes head body rest x (inr (other, count, announces, fits, 
     let whole = ap length x.bytes_are in
     omega (arith, length-append (print_request head) (body ++ rest), length-append body rest, same.1)
 
+-- where a whole request stands, the bytes are at no end
 pub request_is_no_end : (bytes : List ℕ) (head : RequestHead) (body rest : List ℕ) (end : End)
     → BeginsRequest bytes head body rest → IsEnd bytes end → ⊥
 request_is_no_end bytes head body rest clean x e = omega (arith, ap length e, request_shorter bytes head body rest x)
 request_is_no_end bytes head body rest (bad kind) x e = request_is_not_bad bytes head body rest kind x e
-request_is_no_end bytes head body rest (truncated n) x e = request_is_not_open bytes head body rest x e.2
+request_is_no_end bytes head body rest (truncated n) x (some, size, is_open) =
+    request_is_not_open bytes head body rest x is_open
 
 -- ---- one end
 
+-- no bytes are no bad rest
 empty_is_not_bad : (rest : List ℕ) (kind : BadRest) → rest ≡ [] → IsBadRest rest kind → ⊥
 empty_is_not_bad rest BadHead e wrong = no_bytes_are_not_bad (subst IsBadHead e wrong)
 empty_is_not_bad rest Chunked e (head, stands, good, says) = omega (arith, ap length e, has_bytes rest head stands)
@@ -156,13 +168,17 @@ empty_is_not_bad rest BodyLong e (head, count, announces, over) =
 -- a rest is bad in one way
 bad_unique : (rest : List ℕ) (a b : BadRest) → IsBadRest rest a → IsBadRest rest b → a ≡ b
 bad_unique rest BadHead BadHead x y = refl
-bad_unique rest BadHead Chunked x y = absurd (good_is_not_bad rest y.0 y.1 y.2 x)
-bad_unique rest BadHead BodyLong x y = absurd (announced_is_not_bad rest y.0 y.1 y.2 x)
-bad_unique rest Chunked BadHead x y = absurd (good_is_not_bad rest x.0 x.1 x.2 y)
+bad_unique rest BadHead Chunked x (head, stands, good, says) = absurd (good_is_not_bad rest head stands good x)
+bad_unique rest BadHead BodyLong x (head, count, announces, over) =
+    absurd (announced_is_not_bad rest head count announces x)
+bad_unique rest Chunked BadHead (head, stands, good, says) y = absurd (good_is_not_bad rest head stands good y)
 bad_unique rest Chunked Chunked x y = refl
-bad_unique rest Chunked BodyLong x y = absurd (announced_is_not_chunked rest y.0 y.1 y.2 x)
-bad_unique rest BodyLong BadHead x y = absurd (announced_is_not_bad rest x.0 x.1 x.2 y)
-bad_unique rest BodyLong Chunked x y = absurd (announced_is_not_chunked rest x.0 x.1 x.2 y)
+bad_unique rest Chunked BodyLong x (head, count, announces, over) =
+    absurd (announced_is_not_chunked rest head count announces x)
+bad_unique rest BodyLong BadHead (head, count, announces, over) y =
+    absurd (announced_is_not_bad rest head count announces y)
+bad_unique rest BodyLong Chunked (head, count, announces, over) y =
+    absurd (announced_is_not_chunked rest head count announces y)
 bad_unique rest BodyLong BodyLong x y = refl
 
 -- a bad rest awaits nothing
@@ -177,19 +193,21 @@ bad_is_not_open rest Chunked x (inr (head, count, announces, fits, short)) =
 bad_is_not_open rest BodyLong x (inr (head, count, announces, fits, short)) =
     announced_is_no_bad_rest rest head count BodyLong announces fits x
 
+-- a rest has one end
 end_unique : (rest : List ℕ) (a b : End) → IsEnd rest a → IsEnd rest b → a ≡ b
 end_unique rest clean clean x y = refl
 end_unique rest clean (bad kind) x y = absurd (empty_is_not_bad rest kind x y)
 end_unique rest clean (truncated n) x y = absurd (y.0 x)
 end_unique rest (bad kind) clean x y = absurd (empty_is_not_bad rest kind y x)
 end_unique rest (bad kind) (bad other) x y = ap bad (bad_unique rest kind other x y)
-end_unique rest (bad kind) (truncated n) x y = absurd (bad_is_not_open rest kind x y.2)
+end_unique rest (bad kind) (truncated n) x (some, size, is_open) = absurd (bad_is_not_open rest kind x is_open)
 end_unique rest (truncated n) clean x y = absurd (x.0 y)
-end_unique rest (truncated n) (bad kind) x y = absurd (bad_is_not_open rest kind y x.2)
+end_unique rest (truncated n) (bad kind) (some, size, is_open) y = absurd (bad_is_not_open rest kind y is_open)
 end_unique rest (truncated n) (truncated m) x y = ap truncated (x.1 ∙ sym y.1)
 
 -- ---- one cut
 
+-- the requests before an end are the same, and so is the end
 Begins_unique : (bytes : List ℕ) (requests others : List WholeRequest) (rest left : List ℕ) (end last : End)
     → Begins bytes requests rest → IsEnd rest end → Begins bytes others left → IsEnd left last
     → (requests ≡ others) × (rest ≡ left)
@@ -199,12 +217,14 @@ Begins_unique bytes [] (other ∷ others) rest left end last x ends y lasts =
 Begins_unique bytes (request ∷ requests) [] rest left end last x ends y lasts =
     absurd (request_is_no_end bytes request.0 request.1 x.0 last x.1 (subst (λ (r : List ℕ). IsEnd r last)
     (sym y) lasts))
-Begins_unique bytes ((head, body) ∷ requests) ((other, second) ∷ others) rest left end last x ends y lasts =
-    let front = BeginsRequest_unique bytes head other body second x.0 y.0 x.1 y.1 in
-    let tails = Begins_unique x.0 requests others rest left end last x.2 ends
-    (subst (λ (b : List ℕ). Begins b others left) (sym front.2) y.2) lasts in
+Begins_unique bytes ((head, body) ∷ requests) ((other, second) ∷ others) rest left end last (behind, one, more) ends
+    (behind_too, one_too, more_too) lasts =
+    let (heads, bodies, same) = BeginsRequest_unique bytes head other body second behind behind_too one one_too in
+    let tails = Begins_unique behind requests others rest left end last more ends
+    (subst (λ (b : List ℕ). Begins b others left) (sym same) more_too) lasts in
     (cc, tails.1)
 
+-- bytes have one cut
 pub IsCut_unique : (bytes : List ℕ) (requests others : List WholeRequest) (rest left : List ℕ) (end last : End)
     → IsCut bytes requests rest end → IsCut bytes others left last → (requests ≡ others) × (rest ≡ left) × (end ≡ last)
 IsCut_unique bytes requests others rest left end last x y =
@@ -219,15 +239,18 @@ pub Begins-push : (bytes : List ℕ) (requests : List WholeRequest) (middle : Li
     → Begins bytes (requests ++ request ∷ []) rest
 Begins-push bytes [] middle request rest same whole =
     (rest, subst (λ (all : List ℕ). BeginsRequest all request.0 request.1 rest) (sym same) whole, refl)
-Begins-push bytes (first ∷ requests) middle request rest h whole =
-    (h.0, h.1, Begins-push h.0 requests middle request rest h.2 whole)
+Begins-push bytes (first ∷ requests) middle request rest (behind, one, more) whole =
+    (behind, one, Begins-push behind requests middle request rest more whole)
 
 -- the requests stay as bytes come
 pub Begins-more : (bytes : List ℕ) (requests : List WholeRequest) (rest more : List ℕ) → Begins bytes requests rest
     → Begins (bytes ++ more) requests (rest ++ more)
 Begins-more bytes [] rest more same = ap (λ (all : List ℕ). all ++ more) same
-Begins-more bytes (first ∷ requests) rest more h =
-    (h.0 ++ more, BeginsRequest-append bytes more first.0 first.1 h.0 h.1, Begins-more h.0 requests rest more h.2)
+Begins-more bytes (first ∷ requests) rest more (behind, one, others) = (
+  behind ++ more,
+  BeginsRequest-append bytes more first.0 first.1 behind one,
+  Begins-more behind requests rest more others,
+)
 
 -- bytes that are open end in a kind
 pub open_end : (bytes : List ℕ) → IsOpen bytes → (end : End) × IsEnd bytes end

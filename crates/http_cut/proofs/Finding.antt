@@ -86,8 +86,8 @@ spells_nothing : (pattern target : List ℕ) → target ≡ [] → Spells patter
 spells_nothing [] target none spelled = refl
 spells_nothing (x ∷ pattern) target none spelled =
     elim (spells_cases x pattern target spelled) [
-      | inl p ↦ absurd (omega (arith, ap length (sym p.1 ∙ none)))
-      | inr p ↦ absurd (p.4 (empty p.0 p.1 (sym p.3 ∙ none)))
+      | inl (rest, is, small, spells) ↦ absurd (omega (arith, ap length (sym is ∙ none)))
+      | inr (word, rest, is_param, is, some, free, spells) ↦ absurd (some (empty word rest (sym is ∙ none)))
     ]
   where
     empty : (word rest : List ℕ) → word ++ rest ≡ [] → word ≡ []
@@ -322,17 +322,17 @@ module _ {K : Type 0} where
   param_some rows key b path (y ∷ pattern) (x ∷ word) rest segmented plain has found is some free behind =
       let slash : y ≡ 47 = eqb-true y 47 (Has-segmented rows (y ∷ pattern) key segmented has) in
       elim (spells_cases y pattern rest behind) [
-        | inl p ↦
+        | inl (left, at_slash, small, spelled) ↦
             let whole : b ∷ path ≡ x ∷ (word ++ rest) = is in
             let head : x ≡ b = cc in
-            param_at_slash rows key b path pattern word p.0 segmented plain
+            param_at_slash rows key b path pattern word left segmented plain
             (subst (λ (v : ℕ). Has rows (v ∷ pattern) key) slash has)
             (subst (λ (v : ℕ). Finds rows key b path (v ∷ pattern)) slash found)
-            (is ∙ ap (λ (v : ℕ). (v ∷ word) ++ rest) head ∙ ap (λ (t : List ℕ). (b ∷ word) ++ t) (p.1
-            ∙ ap (λ (v : ℕ). v ∷ p.0) slash))
+            (is ∙ ap (λ (v : ℕ). (v ∷ word) ++ rest) head ∙ ap (λ (t : List ℕ). (b ∷ word) ++ t) (at_slash
+            ∙ ap (λ (v : ℕ). v ∷ left) slash))
             (subst (λ (v : ℕ). has_slash (v ∷ word) ≡ false) head free)
-            (subst (λ (v : ℕ). Spells (v ∷ pattern) (v ∷ p.0)) slash (byte y p.2 p.3))
-        | inr p ↦ absurd (omega (arith, slash, p.2))
+            (subst (λ (v : ℕ). Spells (v ∷ pattern) (v ∷ left)) slash (byte y small spelled))
+        | inr (other, left, is_param, are, filled, clear, spelled) ↦ absurd (omega (arith, slash, is_param))
       ]
 
   -- a walk finds a row where the path spells one
@@ -350,19 +350,20 @@ module _ {K : Type 0} where
       absurd (omega (arith, ap length (spells_only (b ∷ path) spelled)))
   seek_some (b ∷ path) zero rows (x ∷ pattern) key plain has spelled =
       elim (spells_cases x pattern (b ∷ path) spelled) [
-        | inl p ↦
-            let is : b ∷ path ≡ x ∷ p.0 = p.1 in
+        | inl (rest, is_byte, small, spells_rest) ↦
+            let is : b ∷ path ≡ x ∷ rest = is_byte in
             let head : x ≡ b = cc in
-            let tail : p.0 ≡ path = cc in
+            let tail : rest ≡ path = cc in
             or_else-left _ _ (seek_some path 0 (step b rows) pattern key (step-plain b rows plain)
             (step-Has b rows pattern key (subst (λ (t : ℕ). Has rows (t ∷ pattern) key) head has))
-            (subst (Spells pattern) tail p.3))
-        | inr p ↦
+            (subst (Spells pattern) tail spells_rest))
+        | inr (word, rest, is_param, is, some, free, spells_rest) ↦
             or_else-right (seek 0 (step b rows) path) _ (or_else-left _ _
-            (param_some (step param_token rows) key b path pattern p.0 p.1 (step-segmented rows plain)
+            (param_some (step param_token rows) key b path pattern word rest (step-segmented rows plain)
             (step-plain param_token rows plain)
-            (step-Has param_token rows pattern key (subst (λ (t : ℕ). Has rows (t ∷ pattern) key) p.2 has))
-            (λ skip others are among behind. seek_some path skip others pattern key are among behind) p.3 p.4 p.5 p.6))
+            (step-Has param_token rows pattern key (subst (λ (t : ℕ). Has rows (t ∷ pattern) key) is_param has))
+            (λ skip others are among behind. seek_some path skip others pattern key are among behind) is some free
+            spells_rest))
       ]
 
 -- ---- the table
@@ -379,8 +380,9 @@ Among-contained (y ∷ ys) x (suc k, below, e) = inr (Among-contained ys x (k, o
 contained-Among : {A : Type 0} (xs : List A) (x : A) → Among xs x → Contains xs x
 contained-Among [] x among = absurd among
 contained-Among (y ∷ ys) x (inl e) = (0, omega arith, e)
-contained-Among (y ∷ ys) x (inr among) = let rest =
-    contained-Among ys x among in (suc rest.0, omega (arith, rest.1), rest.2)
+contained-Among (y ∷ ys) x (inr among) =
+    let (place, within, is) = contained-Among ys x among in
+    (suc place, omega arith, is)
 
 list_all-at : {A : Type 0} (test : A → Bool) (xs : List A) (x : A) → list_all test xs ≡ true → Among xs x → test x
     ≡ true
@@ -545,18 +547,18 @@ found_spells : (target : List ℕ) (found : RouteOf Route) → IsText target →
     → (text : List ℕ) × Among patterns (text, found.value) × Spells (tokens_of text) target
 unfolding route_rows
 found_spells target found text e =
-    let row = seek_found target 0 route_rows found text e in
-    let plain = Has-plain route_rows row.0 found table_plain row.1 in
-    elim (rows_from patterns [] row.0 found row.1) [
+    let (pattern, has, matches) = seek_found target 0 route_rows found text e in
+    let plain = Has-plain route_rows pattern found table_plain has in
+    elim (rows_from patterns [] pattern found has) [
       | inl (written, among, same) ↦ (
         written,
         among,
-        subst (λ (t : List ℕ). Spells t target) (sym same)
-            (spells row.2 plain.plain),
+        subst (λ (t : List ℕ). Spells t target) (sym same) (spells matches plain.plain),
       )
       | inr none ↦ absurd none
     ]
 
+-- a target that has a match spells the pattern of its route
 pub match_is_spelled : (target : List ℕ) (found : Match) → IsText target → match_of target ≡ Some found
     → SpellsRoute found.0 target
 match_is_spelled target found text e = by (first route_rows target) refl e
@@ -566,16 +568,13 @@ match_is_spelled target found text e = by (first route_rows target) refl e
         → SpellsRoute found.0 target
     by None is wrong = cc
     by (Some row) is same =
-        let spelled = found_spells target row text is in
+        let (written, among, spelled) = found_spells target row text is in
         let value : row.value ≡ found.0 = ap (λ (m : Option Match). option_map_or
         (λ (x : Match). x.0) m row.value) same in
-        subst (λ (r : Route). SpellsRoute r target) value (
-          spelled.0,
-          contained-Among patterns
-              (spelled.0, row.value) spelled.1,
-          spelled.2,
-        )
+        subst (λ (r : Route). SpellsRoute r target) value
+        (written, contained-Among patterns (written, row.value) among, spelled)
 
+-- a target that spells a pattern has a row
 is_found : (target written : List ℕ) (route : Route) → Among patterns (written, route)
     → Spells (tokens_of written) target
     → is_some (first route_rows target) ≡ true
@@ -584,6 +583,7 @@ is_found target written route among spelled =
     let row = rows_to patterns [] written route table_reads among in
     seek_some target 0 route_rows (tokens_of written) row.0 (all_plain route_rows table_plain) row.1 spelled
 
+-- a target that spells the pattern of a route has it as its match
 pub spelled_is_match : (target : List ℕ) (route : Route) → IsText target → SpellsRoute route target
     → (parts : List (List ℕ × List ℕ)) × (match_of target ≡ Some (route, parts))
 spelled_is_match target route text (written, among, spelled) =
@@ -594,9 +594,9 @@ spelled_is_match target route text (written, among, spelled) =
         → (parts : List (List ℕ × List ℕ)) × (match_of target ≡ Some (route, parts))
     by None is some = cc
     by (Some row) is some =
-        let other = found_spells target row text is in
-        let same = one_pattern patterns (other.0, row.value) (written, route) target table_differs table_tokens other.1
-        (Among-contained patterns (written, route) among) other.2 spelled in
+        let (other, other_among, other_spelled) = found_spells target row text is in
+        let same = one_pattern patterns (other, row.value) (written, route) target table_differs table_tokens
+        other_among (Among-contained patterns (written, route) among) other_spelled spelled in
         let value : row.value ≡ route = ap (λ (p : List ℕ × Route). p.1) same in
         let parts : List (List ℕ × List ℕ) = parts_of row target in
         let whole : ◌≡◌ {A = Option Match} (Some (row.value, parts)) (Some (route, parts)) =

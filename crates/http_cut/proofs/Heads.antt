@@ -46,10 +46,11 @@ HasHead_same bytes more head other x y = HasHead_unique (bytes ++ more) head oth
 HasHead_front : (bytes more : List ℕ) (head : RequestHead) → HasHead (bytes ++ more) head
     → HasHead bytes head ⊎ ((rest : List ℕ) × (print_request head ≡ bytes ++ rest))
 HasHead_front bytes more head x =
-    elim (overlap bytes more (print_request head) x.reads.0 x.reads.1.1) [
-      | inl p ↦ inr (p.0, p.1)
-      | inr p ↦ inl (record {
-        reads = (p.0 ∷ p.1, (x.reads.1.0, p.2));
+    let (behind, (well, is)) = x.reads in
+    elim (overlap bytes more (print_request head) behind is) [
+      | inl (rest, whole, others) ↦ inr (rest, whole)
+      | inr (byte, rest, whole, others) ↦ inl (record {
+        reads = (byte ∷ rest, (well, whole));
         few_bytes = x.few_bytes;
         few_fields = x.few_fields;
       })
@@ -133,11 +134,13 @@ NeverHasHead-append bytes more (none, inl long) =
   where
     whole : (head : RequestHead) (rest : List ℕ) → HasHead (bytes ++ more) head → length rest ≤ 0
         → print_request head ≡ bytes ++ rest → HasHead bytes head
-    whole head [] x short e = record {
-      reads = ([], (x.reads.1.0, sym (append-nil bytes) ∙ sym e ∙ sym (append-nil (print_request head))));
-      few_bytes = x.few_bytes;
-      few_fields = x.few_fields;
-    }
+    whole head [] x short e =
+        let (behind, (well, is)) = x.reads in
+        record {
+          reads = ([], (well, sym (append-nil bytes) ∙ sym e ∙ sym (append-nil (print_request head))));
+          few_bytes = x.few_bytes;
+          few_fields = x.few_fields;
+        }
     whole head (b ∷ rest) x short e = absurd (omega arith)
 
     by : (head : RequestHead) → HasHead (bytes ++ more) head
@@ -158,7 +161,9 @@ NeverHasHead-append bytes more (none, inr (never, outside)) = (
     by : (head : RequestHead) → HasHead (bytes ++ more) head
         → HasHead bytes head ⊎ ((rest : List ℕ) × (print_request head ≡ bytes ++ rest)) → ⊥
     by head x (inl stands) = none head stands
-    by head x (inr (rest, e)) = never (part_may bytes rest head x.reads.1.0 x.few_fields e)
+    by head x (inr (rest, e)) =
+        let (behind, (well, is)) = x.reads in
+        never (part_may bytes rest head well x.few_fields e)
 
 -- a bad head is one whatever follows
 pub IsBadHead-append : (bytes more : List ℕ) → IsBadHead bytes → IsBadHead (bytes ++ more)
@@ -187,13 +192,8 @@ pub no_bytes_are_not_bad : IsBadHead [] → ⊥
 no_bytes_are_not_bad (inl (none, inl long)) = absurd (omega arith)
 no_bytes_are_not_bad (inl (none, inr (never, outside))) = never no_bytes_may
 no_bytes_are_not_bad (inr (head, stands, bad)) =
-    omega (
-      arith,
-      ap length stands.reads.1.1,
-      length-append
-          (print_request head) stands.reads.0,
-      print_request-some head,
-    )
+    let (behind, (well, is)) = stands.reads in
+    omega (arith, ap length is, length-append (print_request head) behind, print_request-some head)
 
 -- ---- what httparse says
 
@@ -222,5 +222,6 @@ pub stands_asks : (bytes : List ℕ) (head : RequestHead) (asks : Bool) → HasH
     → (IsTrue asks ↔ (head.method ≡ codes "HEAD")) → IsTrue asks ↔ AsksHead bytes
 stands_asks bytes head asks x is = (
   λ e. (head, x, is.0 e),
-  λ other. is.1 (ap (λ (h : RequestHead). h.method) (HasHead_unique bytes head other.0 x other.1) ∙ other.2),
+  λ (other, stands, method). is.1 (ap (λ (h : RequestHead). h.method) (HasHead_unique bytes head other x stands)
+      ∙ method),
 )

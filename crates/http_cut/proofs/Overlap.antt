@@ -7,6 +7,7 @@ Overlap xs ys us vs =
     ((w : List ℕ) × (us ≡ xs ++ w) × (ys ≡ w ++ vs)) ⊎ ((b : ℕ) × (w : List ℕ) × (xs ≡ us ++ b ∷ w) × (vs
     ≡ b ∷ w ++ ys))
 
+-- two cuts of a list overlap
 pub overlap : (xs ys us vs : List ℕ) → xs ++ ys ≡ us ++ vs → Overlap xs ys us vs
 overlap [] ys us vs e = inl (us, refl, e)
 overlap (x ∷ xs) ys [] vs e = inr (x, xs, refl, sym e)
@@ -14,6 +15,6 @@ overlap (x ∷ xs) ys (u ∷ us) vs e =
     let tails : xs ++ ys ≡ us ++ vs = cc in
     let heads : x ≡ u = cc in
     elim (overlap xs ys us vs tails) [
-      | inl p ↦ inl (p.0, cc, p.2)
-      | inr p ↦ inr (p.0, p.1, cc, p.3)
+      | inl (w, us_are, ys_are) ↦ inl (w, cc, ys_are)
+      | inr (b, w, xs_are, vs_are) ↦ inr (b, w, cc, vs_are)
     ]

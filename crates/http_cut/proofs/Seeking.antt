@@ -144,22 +144,22 @@ module _ {K : Type 0} where
           (cond w (0, []) (length (b ∷ path), rows))).1 path ≡ Some key
           → (pattern : List ℕ) × Has rows pattern key × Matches (param_token ∷ pattern) (b ∷ path)
       by true w some slash e =
-          let row = found (length seg - length suffix - 1) (with_suffix suffix rows) e in
-          let ends = Has-with_suffix suffix rows row.0 key row.1 in (
-            row.0,
-            ends.0,
-            behind_suffix row.0 ends.1 (ltb-true 0 (length suffix) some)
-                (shorter (ltb-true 0 (length suffix) some)) row.2,
+          let (pattern, has, matches) = found (length seg - length suffix - 1) (with_suffix suffix rows) e in
+          let (has_it, ends) = Has-with_suffix suffix rows pattern key has in (
+            pattern,
+            has_it,
+            behind_suffix pattern ends (ltb-true 0 (length suffix) some)
+                (shorter (ltb-true 0 (length suffix) some)) matches,
           )
       by false true none slash e = let row = found (0 - 1) [] e in absurd row.1
       by false false none slash e =
-          let row = found (length (b ∷ path) - 1) rows e in
+          let (pattern, has, matches) = found (length (b ∷ path) - 1) rows e in
           let empty : drop (length (b ∷ path) - 1) path ≡ [] = drop_all _ path (omega arith) in
-          let whole : row.0 ≡ [] = matches_end row.0 _ empty row.2 in
+          let whole : pattern ≡ [] = matches_end pattern _ empty matches in
           let nothing : drop (length (b ∷ path)) (b ∷ path) ≡ [] =
           drop_all (length (b ∷ path)) (b ∷ path) (omega arith) in (
             [],
-            subst (λ (pattern : List ℕ). Has rows pattern key) whole row.1,
+            subst (λ (one : List ℕ). Has rows one key) whole has,
             param (segment-some b path) (ap has_slash (take_all (length (b ∷ path)) (b ∷ path) (omega arith))
                 ∙ slash) (subst (Matches []) (sym nothing) end),
           )
@@ -174,13 +174,13 @@ module _ {K : Type 0} where
   seek_found (b ∷ path) zero rows key text e =
       elim (or_else-cases _ _ key e) [
         | inl here ↦
-            let row = seek_found path 0 (step b rows) key text.1 here in
-            (b ∷ row.0, Has-step b rows row.0 key row.1, literal b text.0 row.2)
+            let (pattern, has, matches) = seek_found path 0 (step b rows) key text.1 here in
+            (b ∷ pattern, Has-step b rows pattern key has, literal b text.0 matches)
         | inr other ↦ elim (or_else-cases _ _ key other) [
           | inl part ↦
-              let row = param_found (step param_token rows) key b path
+              let (pattern, has, matches) = param_found (step param_token rows) key b path
               (λ skip others found. seek_found path skip others key text.1 found) part in
-              (param_token ∷ row.0, Has-step param_token rows row.0 key row.1, row.2)
+              (param_token ∷ pattern, Has-step param_token rows pattern key has, matches)
           | inr rest ↦ (
             catch_all_token ∷ [],
             Has-step catch_all_token rows [] key

@@ -87,25 +87,25 @@ differ_apart (a ∷ first) (b ∷ second) target plain other apart x y =
           let e : a ≡ b = eqb-true a b same in
           let tails : differ first second ≡ true = rw same at apart in
           elim (spells_cases a first target x) [
-            | inl p ↦ elim (spells_cases b second target y) [
-              | inl q ↦
-                  let is : a ∷ p.0 ≡ b ∷ q.0 = sym p.1 ∙ q.1 in
-                  let ends : p.0 ≡ q.0 = cc in
-                  differ_apart first second q.0 (and_parts _ _ plain).1 (and_parts _ _ other).1 tails
-                  (subst (Spells first) ends p.3) q.3
-              | inr q ↦ omega (arith, e, p.2, q.2)
+            | inl (rest, is, small, spells) ↦ elim (spells_cases b second target y) [
+              | inl (left, is_too, small_too, spells_too) ↦
+                  let both : a ∷ rest ≡ b ∷ left = sym is ∙ is_too in
+                  let ends : rest ≡ left = cc in
+                  differ_apart first second left (and_parts _ _ plain).1 (and_parts _ _ other).1 tails
+                  (subst (Spells first) ends spells) spells_too
+              | inr (word, left, is_param, are, some, free, spells_too) ↦ omega (arith, e, small, is_param)
             ]
-            | inr p ↦ elim (spells_cases b second target y) [
-              | inl q ↦ omega (arith, e, p.2, q.2)
-              | inr q ↦
-                  let ends = parts_same p.0 q.0 p.1 q.1 p.5 q.5
-                  (spells_segment first p.1 (behind_param first (subst (λ (t : ℕ). is_plain (t ∷ first)
-                  ≡ true) p.2 plain)) p.6)
-                  (spells_segment second q.1 (behind_param second (subst (λ (t : ℕ). is_plain (t ∷ second)
-                  ≡ true) q.2 other)) q.6)
-                  (sym p.3 ∙ q.3) in
-                  differ_apart first second q.1 (and_parts _ _ plain).1 (and_parts _ _ other).1 tails
-                  (subst (Spells first) ends p.6) q.6
+            | inr (word, rest, is_param, are, some, free, spells) ↦ elim (spells_cases b second target y) [
+              | inl (left, is_too, small_too, spells_too) ↦ omega (arith, e, is_param, small_too)
+              | inr (part_too, left, is_param_too, are_too, some_too, free_too, spells_too) ↦
+                  let ends = parts_same word part_too rest left free free_too
+                  (spells_segment first rest (behind_param first (subst (λ (t : ℕ). is_plain (t ∷ first) ≡ true)
+                  is_param plain)) spells)
+                  (spells_segment second left (behind_param second (subst (λ (t : ℕ). is_plain (t ∷ second) ≡ true)
+                  is_param_too other)) spells_too)
+                  (sym are ∙ are_too) in
+                  differ_apart first second left (and_parts _ _ plain).1 (and_parts _ _ other).1 tails
+                  (subst (Spells first) ends spells) spells_too
             ]
           ]
       | inr apart_here ↦
@@ -113,13 +113,13 @@ differ_apart (a ∷ first) (b ∷ second) target plain other apart x y =
           let a_byte : a < 256 = ltb-true a param_token both.0 in
           let b_byte : b < 256 = ltb-true b param_token both.1 in
           elim (spells_cases a first target x) [
-            | inl p ↦ elim (spells_cases b second target y) [
-              | inl q ↦
-                  let is : a ∷ p.0 ≡ b ∷ q.0 = sym p.1 ∙ q.1 in
+            | inl (rest, is, small, spells) ↦ elim (spells_cases b second target y) [
+              | inl (left, is_too, small_too, spells_too) ↦
+                  let heads : a ∷ rest ≡ b ∷ left = sym is ∙ is_too in
                   let head : a ≡ b = cc in
                   both_ways (a == b) apart_here (eq-eqb a b head)
-              | inr q ↦ omega (arith, q.2)
+              | inr (word, left, is_param, are, some, free, spells_too) ↦ omega (arith, is_param)
             ]
-            | inr p ↦ omega (arith, p.2)
+            | inr (word, rest, is_param, are, some, free, spells) ↦ omega (arith, is_param)
           ]
     ]

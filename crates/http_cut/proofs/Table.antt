@@ -128,7 +128,7 @@ IsText-bytes (b ∷ bytes) small = (small 0, IsText-bytes bytes (λ i. small (su
 pub AllText-route : (target : List ℕ) (route : RouteOf Route) → IsUtf8 target → ((i : ℕ) → get_or target i 0 < 256)
     → first route_rows target ≡ Some route → AllText (parts_of route target)
 AllText-route target route utf8 small e =
-    let row = seek_found target 0 route_rows route (IsText-bytes target small) e in
-    let plain = Has-plain route_rows row.0 route table_plain row.1 in
+    let (pattern, has, matches) = seek_found target 0 route_rows route (IsText-bytes target small) e in
+    let plain = Has-plain route_rows pattern route table_plain has in
     subst (λ (p : List ℕ). AllText (walk p route.text target route.names 0 0)) (sym plain.same)
-    (AllText-walk row.0 route.text target route.names row.2 plain.plain (omega (arith, plain.short)) utf8 plain.names)
+    (AllText-walk pattern route.text target route.names matches plain.plain (omega (arith, plain.short)) utf8 plain.names)

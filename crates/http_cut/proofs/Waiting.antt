@@ -148,9 +148,9 @@ pub request_ends_in_last : (bytes more : List ℕ) (head : RequestHead) (body re
 request_ends_in_last bytes more head body rest awaits x =
     elim (overlap bytes more (print_request head ++ body) rest (x.bytes_are
     ∙ sym (append_assoc (print_request head) body rest))) [
-      | inl p ↦ by p.0 p.1 p.2
-      | inr p ↦ absurd (request_is_not_open bytes head body (p.0 ∷ p.1) (request_within bytes more head body rest
-          (p.0 ∷ p.1) x p.2) awaits)
+      | inl (w, whole, same) ↦ by w whole same
+      | inr (b, w, is, same) ↦ absurd (request_is_not_open bytes head body (b ∷ w) (request_within bytes more head body
+          rest (b ∷ w) x is) awaits)
     ]
   where
     by : (w : List ℕ) → print_request head ++ body ≡ bytes ++ w → more ≡ w ++ rest → length rest < length more
