@@ -1,14 +1,13 @@
 -- The records and the derived rows that the machine replies have a text for each attribute.
 use Rattle.std.proofs.Common.{◌≡◌, ◌∙◌, ◌⊎◌, inl, inr, ℕ, suc, ◌+◌, ◌-◌, ◌≤◌, true, false, List, [], ◌∷◌}
 use Rattle.std.proofs.Common.{length}
-use Rattle.std.proofs.Common.{map, refl, sym, ap, subst, arith, Option, Some, None, Result, Ok, Err}
-use Rattle.std.specs.Prelude.{◌==◌, All, IfSome, drop, filter, flat_map, option_map, slice_get, slice_index_or, take}
+use Rattle.std.proofs.Common.{refl, sym, ap, subst, arith, Option, Some, None, Result, Ok, Err}
+use Rattle.std.specs.Prelude.{◌==◌, All, IfSome, drop, filter, flat_map, slice_get, slice_index_or, take}
 use Rattle.std.specs.Prelude.{zip, ⊤}
 use Rattle.std.specs.List.{range_with_len}
 use Rattle.std.specs.Option.{option_map_or}
 use Rattle.std.proofs.lemmas.Bool.{cases_Bool, eqb-true}
 use Rattle.std.proofs.lemmas.List.Elements.{All-cons, All-filter, All-map, filter_passes}
-use Rattle.std.proofs.lemmas.Option.{option_and_then_some}
 use Rattle.desk_words.specs.declared.change.Change.{Change}
 use Rattle.desk_words.specs.declared.clerk_work.ClerkWork.{ClerkWork}
 use Rattle.desk_words.specs.declared.command.Command.{Command}
@@ -31,11 +30,9 @@ use Rattle.desk_words.specs.declared.steward_work.StewardWork.{StewardWork}
 use Rattle.desk_words.specs.Changes.{changed, changed_all}
 use Rattle.desk_words.specs.Tables.{Published, Rows, list_at, published_of}
 use Rattle.desk_valid.specs.declared.bound.Bound.{Bound}
-use Rattle.desk_valid.specs.Bindings.{binding, bound_at, bound_in, bound_of, names_of, parts_of}
-use Rattle.desk_valid.specs.Readings.{all_of, master_at, read, rules_at, width_at}
+use Rattle.desk_valid.specs.Bindings.{bound_at}
 use Rattle.desk_valid.specs.Rows.Record.{IsRecordRow}
 use Rattle.desk_valid.specs.Valid.{AreValid}
-use Rattle.desk_valid.proofs.Named.{option_map-Some}
 use Rattle.desk_sheets.specs.Derived.{IsFull as IsWide}
 use Rattle.desk_sheets.specs.Records.{IsFull}
 use Rattle.machine_core.specs.declared.machine.Weighed.{Weighed}
@@ -58,6 +55,7 @@ use Rattle.machine_core.specs.Machine.{machine, making_changes, making_of, stewa
 use Rattle.machine_core.specs.Own.{Own, after, own_of}
 use Rattle.machine_core.specs.Ticket.{use_of}
 use Rattle.machine_core.specs.Weighing.{IsSettleable, IsWeighed}
+use Rattle.machine_core.proofs.Widths.{width-bound}
 use Rattle.machine_core.proofs.Chains.{Gives-bind_ok, done-value}
 use Rattle.machine_core.proofs.Deriving.{derived_sheet-full}
 
@@ -239,23 +237,6 @@ All-zip (number ∷ numbers) (row ∷ rows) P each =
 certainly_found : {A : Type 0} (found : Option A) (value : A) → Gives (certainly found) (Ok value) → found ≡ Some value
 certainly_found None value gives = absurd gives
 certainly_found (Some other) value gives = cc
-
--- an edition has as many attributes as its kit has names of them
-width-bound : (published : Published) (edition : ℕ) (bound : Bound) → bound_at published edition ≡ Some bound
-    → width_at published edition ≡ Some (length bound.names.attributes)
-width-bound published edition bound is =
-    option_and_then_some (bound_in published) (slice_get published.editions edition) bound is (λ row stands made.
-    option_and_then_some (λ parts. bound_of parts row.folded) (parts_of published row) bound made (λ parts whole named.
-    let kit = option_map-Some (λ kit. let one : Bound = record { kit = kit; names = names_of parts } in one)
-    (read (binding parts row.folded)) bound named in
-    option_and_then_some (λ rules. option_map (λ masters. record { rules = rules; masters = masters })
-    (all_of (map (master_at published) row.masters))) (rules_at published row.rulebook) parts whole (λ rules found rest.
-    let masters = option_map-Some (λ masters. record { rules = rules; masters = masters })
-    (all_of (map (master_at published) row.masters)) parts rest in
-    let names : length rules.schema.attributes ≡ length bound.names.attributes =
-    ap (λ one. length one.rules.schema.attributes) masters.2 ∙ ap (λ (one : Bound). length one.names.attributes)
-    kit.2 in
-    rw (stands, found, names) refl)))
 
 -- the session of a number from 1 on
 session_stands : (sessions : List SessionRow) (number : ℕ) (session : SessionRow) → 1 ≤ number

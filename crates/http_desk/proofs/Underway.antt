@@ -70,10 +70,12 @@ module _ {S : Type 0} (calls : S → S → ℕ → Result ℕ Failed → Type 0)
     pub room : TakesRest takes taking (length (texts answers))
     pub turns : TakesTurns calls source last answers held
 
+-- how the serving of a stream goes on, whatever it is that is served
+module _ {S : Type 0} {calls : S → S → ℕ → Result ℕ Failed → Type 0} {source : S} where
   -- nothing was done yet
-  pub Serving-none : (steady : Type 0) (takes : ℕ → Type 0) (limit : ℕ) (old : Scene) → IfTold old.told old.tables
-      → Serving source [] steady takes takes limit old old 0 []
-  Serving-none steady takes limit old told = record {
+  pub Serving-none : {steady : Type 0} {takes : ℕ → Type 0} {limit : ℕ} {old : Scene} → IfTold old.told old.tables
+      → Serving calls source source [] steady takes takes limit old old 0 []
+  Serving-none {takes} {limit} {old} told = record {
     taken = [];
     answers = [];
     progress = Progress-none limit old told;
@@ -86,70 +88,62 @@ module _ {S : Type 0} (calls : S → S → ℕ → Result ℕ Failed → Type 0)
   }
 
   -- bytes are taken
-  pub Serving-takes : (last : S) (held : List ℕ) (steady : Type 0) (takes taking : ℕ → Type 0) (limit : ℕ) (old mid
-      new : Scene) (count : ℕ)
-      (window now : List ℕ) → Serving last held steady takes taking limit old mid count window → Takes mid.left
-      new.left window now
+  pub Serving-takes : {last : S} {held : List ℕ} {steady : Type 0} {takes taking : ℕ → Type 0} {limit : ℕ}
+      {old mid : Scene} (new : Scene) {count : ℕ} {window now : List ℕ}
+      → Serving calls source last held steady takes taking limit old mid count window
+      → Takes mid.left new.left window now
       → mid.read_faults ≤ new.read_faults → new.written ≡ mid.written → new.write_faults ≡ mid.write_faults
       → new.tables ≡ mid.tables → new.told ≡ mid.told → new.uses ≡ mid.uses
-      → Serving last held steady takes taking limit old new count now
-  Serving-takes last held steady takes taking limit old mid new count window now s taken later written write_faults
-      tables told
-      uses = record {
-        taken = s.taken ++ taken.bytes;
-        answers = s.answers;
-        progress = subst (λ (w : List ℕ). Progress limit old new (s.taken ++ taken.bytes) s.answers w) (sym
-            taken.joined)
-            (Progress-takes limit old mid new s.taken s.answers window taken.bytes s.progress taken.taken tables told
-            uses);
-        counted = s.counted;
-        written = rw written s.written;
-        later = record {
-          read_faults = omega (arith, s.later.read_faults);
-          write_faults = rw write_faults s.later.write_faults;
-          told = rw told s.later.told;
-        };
-        settled = s.settled;
-        room = s.room;
-        turns = s.turns;
-      }
+      → Serving calls source last held steady takes taking limit old new count now
+  Serving-takes {limit} {old} {mid} new {window} s taken later written write_faults tables told uses = record {
+    taken = s.taken ++ taken.bytes;
+    answers = s.answers;
+    progress = subst (λ (w : List ℕ). Progress limit old new (s.taken ++ taken.bytes) s.answers w) (sym taken.joined)
+        (Progress-takes limit old mid new s.taken s.answers window taken.bytes s.progress taken.taken tables told uses);
+    counted = s.counted;
+    written = rw written s.written;
+    later = record {
+      read_faults = omega (arith, s.later.read_faults);
+      write_faults = rw write_faults s.later.write_faults;
+      told = rw told s.later.told;
+    };
+    settled = s.settled;
+    room = s.room;
+    turns = s.turns;
+  }
 
   -- a request is answered, and its text is still to be written
-  pub Serving-weighs : (last : S) (held : List ℕ) (steady : Type 0) (takes taking : ℕ → Type 0) (limit : ℕ) (old mid
-      new : Scene) (count : ℕ)
-      (window : List ℕ) (request : WholeRequest) (behind text : List ℕ) (keeps : Type 0)
-      (s : Serving last held steady takes taking limit old mid count window) → BeginsRequest window request.0
-      request.1 behind
+  pub Serving-weighs : {last : S} {held : List ℕ} {steady : Type 0} {takes taking : ℕ → Type 0} {limit : ℕ}
+      {old mid : Scene} (new : Scene) {count : ℕ} {window : List ℕ} (request : WholeRequest) {behind text : List ℕ}
+      {keeps : Type 0} (s : Serving calls source last held steady takes taking limit old mid count window)
+      → BeginsRequest window request.0 request.1 behind
       → (h : IsAnswered keeps mid.tables (command_for request) ((count + 1) == limit) (asks_head request) new.tables
-      text
-      mid.uses new.uses)
+      text mid.uses new.uses)
       → IfTold new.told new.tables → new.left ≡ mid.left
       → Progress limit old new s.taken (s.answers ++ answered request h ∷ []) behind
-  Serving-weighs last held steady takes taking limit old mid new count window request behind text keeps s whole h
-      told left =
+  Serving-weighs {limit} {old} {mid} new {window} request {behind} s whole h told left =
       Progress-answers limit old mid new s.taken s.answers window (answered request h) behind s.progress whole
       (rw s.counted h.answers) h.failed h.called left refl told
 
   -- a request is answered, and its text is written
-  pub Serving-answers : (last read : S) (held : List ℕ) (given : List (Reading S)) (steady keeps : Type 0) (takes
-      taking took : ℕ → Type 0) (limit : ℕ) (old mid new : Scene)
-      (count : ℕ) (window : List ℕ) (request : WholeRequest) (behind text : List ℕ)
-      → Serving last held steady takes taking limit old mid count window → ReadsOn calls last held given read window
+  pub Serving-answers : {last read : S} {held : List ℕ} (given : List (Reading S)) {steady keeps : Type 0}
+      {takes taking took : ℕ → Type 0} {limit : ℕ} {old mid new : Scene} {count : ℕ} {window : List ℕ}
+      (request : WholeRequest) {behind text : List ℕ}
+      → Serving calls source last held steady takes taking limit old mid count window
+      → ReadsOn calls last held given read window
       → BeginsRequest window request.0 request.1 behind
       → IsAnswered keeps mid.tables (command_for request) ((count + 1) == limit) (asks_head request) new.tables text
       mid.uses new.uses
       → IfTold new.told new.tables → TellsNoMore mid.told new.told → new.left ≡ mid.left
       → Appends mid.written new.written text
       → new.read_faults ≡ mid.read_faults → mid.write_faults ≤ new.write_faults → (steady → keeps)
-      → TakesRest taking took (length text) → Serving read behind steady takes took limit old new (count + 1) behind
-  Serving-answers last read held given steady keeps takes taking took limit old mid new count window request behind
-      text s on whole h told no_more left
-      written read_faults later keeping room = record {
+      → TakesRest taking took (length text)
+      → Serving calls source read behind steady takes took limit old new (count + 1) behind
+  Serving-answers {last} {read} {held} given {takes} {taking} {took} {old} {mid} {new} {window} request {behind}
+      {text} s on whole h told no_more left written read_faults later keeping room = record {
         taken = s.taken;
         answers = s.answers ++ answered request h ∷ [];
-        progress = Serving-weighs last held steady takes taking limit old mid new count window request behind text
-            keeps s whole h
-            told left;
+        progress = Serving-weighs new request s whole h told left;
         counted = length-append s.answers (answered request h ∷ []) ∙ ap (λ (n : ℕ). n + 1) s.counted;
         written = rw (texts-push s.answers (answered request h))
             (Appends-then old.written mid.written new.written (texts s.answers) text s.written written);
@@ -161,5 +155,6 @@ module _ {S : Type 0} (calls : S → S → ℕ → Result ℕ Failed → Type 0)
         settled = λ is. rw (failures-push s.answers (answered request h), s.settled is, h.settled (keeping is)) refl;
         room = rw (texts-push s.answers (answered request h), length-append (texts s.answers) text)
             (TakesRest-then takes taking took (length (texts s.answers)) (length text) s.room room);
-        turns = TakesTurns-push last read s.answers (answered request h) held given window behind s.turns on whole;
+        turns = TakesTurns-push calls source last read s.answers (answered request h) held given window behind s.turns
+            on whole;
       }

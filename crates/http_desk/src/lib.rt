@@ -21,6 +21,8 @@ mod serving;
 mod status;
 mod text;
 
+pub use declined::Declined;
+pub use parameters::route_in;
 pub use refusal::Refused;
 pub use responses::response;
 pub use serving::{Ended, serve_link, serve_stream};
