@@ -24,6 +24,7 @@ use Rattle.http_desk.specs.Commands.{command_for}
 use Rattle.http_desk.specs.Replies.{declined_text, reply_text}
 use Rattle.http_desk.specs.Scenes.{Scene}
 use Rattle.http_desk.specs.Streams.{Streams, IsOwnEnd, AnswersAll}
+use Rattle.http_desk.proofs.Checked.{Ok-same}
 use Rattle.http_desk.proofs.Cutting.{Begins-first, Begins-one}
 
 -- the machine gives one step
@@ -38,12 +39,9 @@ step_one rows command reply other changes others h k =
 asked_one : (before : Rows) (asks : Checked Command) (reply other : Reply) (changes others : List Change)
     → IsAsked before asks reply changes → IsAsked before asks other others → (reply ≡ other) × (changes ≡ others)
 asked_one before asks reply other changes others h k =
-    let commands : h.command ≡ k.command = ok_same (sym h.is ∙ k.is) in
+    let commands : h.command ≡ k.command = Ok-same (sym h.is ∙ k.is) in
     step_one before h.command reply other changes others h.step
     (subst (λ (c : Command). IsStep before c other others) (sym commands) k.step)
-  where
-    ok_same : {x y : Command} → ◌≡◌ {A = Checked Command} (Ok x) (Ok y) → x ≡ y
-    ok_same e = cc
 
 -- what is declined is no command
 declined_not_asked : (before : Rows) (asks : Checked Command) (why : Declined) (reply : Reply) (changes : List Change)
@@ -57,24 +55,24 @@ Answers-one : (before : Rows) (asks : Checked Command) (closing asks_head : Bool
     (after then : Rows) (text words : List ℕ) → IsDue outcome → IsDue other
     → Answers before asks closing asks_head outcome after text → Answers before asks closing asks_head other then words
     → (outcome ≡ other) × (after ≡ then) × (text ≡ words)
-Answers-one before asks closing asks_head (Declines why) (Declines other) after then text words m n h k =
-    let same : why ≡ other = err_same (sym h.0 ∙ k.0) in (
+Answers-one before asks closing asks_head (Declines why) (Declines other) after then text words m n (asked, stays, is)
+    (asked_too, stays_too, is_too) =
+    let both : ◌≡◌ {A = Checked Command} (Err why) (Err other) = sym asked ∙ asked_too in
+    let same : why ≡ other = cc in (
       ap Declines same,
-      h.1 ∙ sym k.1,
-      h.2 ∙ ap (λ (w : Declined). declined_text w closing asks_head) same ∙ sym k.2,
+      stays ∙ sym stays_too,
+      is ∙ ap (λ (w : Declined). declined_text w closing asks_head) same ∙ sym is_too,
     )
-  where
-    err_same : {x y : Declined} → ◌≡◌ {A = Checked Command} (Err x) (Err y) → x ≡ y
-    err_same e = cc
 Answers-one before asks closing asks_head (Declines why) (Replied reply changes) after then text words m n h k =
     absurd (declined_not_asked before asks why reply changes h.0 k.0)
 Answers-one before asks closing asks_head (Replied reply changes) (Declines why) after then text words m n h k =
     absurd (declined_not_asked before asks why reply changes k.0 h.0)
-Answers-one before asks closing asks_head (Replied reply changes) (Replied other others) after then text words m n h k =
-    let same = asked_one before asks reply other changes others h.0 k.0 in (
-      λ i. Replied (same.0 i) (same.1 i),
-      h.1 ∙ ap (changed_all before) same.1 ∙ sym k.1,
-      h.2 ∙ ap (λ (r : Reply). reply_text r closing asks_head) same.0 ∙ sym k.2,
+Answers-one before asks closing asks_head (Replied reply changes) (Replied other others) after then text words m n
+    (asked, leaves, is) (asked_too, leaves_too, is_too) =
+    let (replies, changed) = asked_one before asks reply other changes others asked asked_too in (
+      λ i. Replied (replies i) (changed i),
+      leaves ∙ ap (changed_all before) changed ∙ sym leaves_too,
+      is ∙ ap (λ (r : Reply). reply_text r closing asks_head) replies ∙ sym is_too,
     )
 Answers-one before asks closing asks_head Unavailable other after then text words m n h k = absurd m
 Answers-one before asks closing asks_head NoMemory other after then text words m n h k = absurd m
@@ -97,11 +95,11 @@ Served-one limit count before (a ∷ answers) (b ∷ others) same m n h k =
     let moved = subst (λ (r : WholeRequest). Answers before (command_for r) closing (asks_head r) b.outcome b.tables
     b.text)
     (sym first) k.0 in
-    let one = Answers-one before (command_for a.request) closing (asks_head a.request) a.outcome b.outcome a.tables
-    b.tables a.text b.text m.0 n.0 h.0 moved in
-    let head : a ≡ b = λ i. record { request = first i; outcome = one.0 i; tables = one.1 i; text = one.2 i } in
+    let (outcomes, tables, words) = Answers-one before (command_for a.request) closing (asks_head a.request) a.outcome
+    b.outcome a.tables b.tables a.text b.text m.0 n.0 h.0 moved in
+    let head : a ≡ b = λ i. record { request = first i; outcome = outcomes i; tables = tables i; text = words i } in
     let others_are = Served-one limit (count + 1) a.tables answers others tail m.1 n.1 h.1
-    (subst (λ (t : Rows). Served limit (count + 1) t others) (sym one.1) k.1) in
+    (subst (λ (t : Rows). Served limit (count + 1) t others) (sym tables) k.1) in
     ap (λ (x : Answered). x ∷ answers) head ∙ ap (λ (l : List Answered). b ∷ l) others_are
 
 -- ---- ends
@@ -150,9 +148,9 @@ whole : (limit : ℕ) (old new : Scene) (end : Ended) (s : Streams limit old new
     → Whole limit old new end s
 whole limit old new ended.Clean s own = inr ((λ e. cc), s.ends.0)
 whole limit old new ended.Limit s own = inl (refl, s.ends.0)
-whole limit old new ended.BadHead s own = inr ((λ e. cc), s.ends.0.0)
-whole limit old new ended.Chunked s own = inr ((λ e. cc), s.ends.0.0)
-whole limit old new ended.BodyLong s own = inr ((λ e. cc), s.ends.0.0)
+whole limit old new ended.BadHead s own = let ((all, few), text) = s.ends in inr ((λ e. cc), all)
+whole limit old new ended.Chunked s own = let ((all, few), text) = s.ends in inr ((λ e. cc), all)
+whole limit old new ended.BodyLong s own = let ((all, few), text) = s.ends in inr ((λ e. cc), all)
 whole limit old new (ended.Truncated count) s own = inr ((λ e. cc), s.ends.0)
 whole limit old new ended.ReadFault s own = absurd own
 whole limit old new ended.WriteFault s own = absurd own
@@ -197,20 +195,20 @@ same_requests limit old new early late end other one two own its same =
                   (front limit old new end one) begins,
               reached.0 ∙ sym too.0,
             )
-        | inr all ↦
+        | inr (other_end, (cut, few)) ↦
             absurd (not_both limit two.bytes one.answers two.answers behind behind_too (cut_end other) reached.1
-            begins_too all.1.0 all.1.1)
+            begins_too cut few)
       ]
-      | inr all ↦ elim (whole limit early late other two its) [
+      | inr (other_end, (cut, few)) ↦ elim (whole limit early late other two its) [
         | inl reached ↦
             absurd (not_both limit one.bytes two.answers one.answers behind_too behind (cut_end end) reached.1 begins
-            all.1.0 all.1.1)
-        | inr too ↦
-            let cut = IsCut_unique one.bytes (requests one.answers) (requests two.answers) behind behind_too
-            (cut_end end) (cut_end other) all.1.0
-            (subst (λ (b : List ℕ). IsCut b (requests two.answers) behind_too (cut_end other)) (sym same) too.1.0) in (
-              cut.0,
-              sym (ended_of-cut_end end own all.0) ∙ ap ended_of cut.2 ∙ ended_of-cut_end other its too.0,
+            cut few)
+        | inr (other_too, (cut_too, few_too)) ↦
+            let (all, rests, ends) = IsCut_unique one.bytes (requests one.answers) (requests two.answers) behind
+            behind_too (cut_end end) (cut_end other) cut
+            (subst (λ (b : List ℕ). IsCut b (requests two.answers) behind_too (cut_end other)) (sym same) cut_too) in (
+              all,
+              sym (ended_of-cut_end end own other_end) ∙ ap ended_of ends ∙ ended_of-cut_end other its other_too,
             )
       ]
     ]

@@ -1,11 +1,24 @@
 -- How a request that is settled raises the keeper's counts.
-use Rattle.std.proofs.Common.{◌≢◌, inl, inr, ℕ, List, [], ◌∷◌, Ok, Err, refl, arith}
+use Rattle.std.proofs.Common.{◌≡◌, ◌≢◌, inl, inr, ℕ, List, [], ◌∷◌, Result, Ok, Err, refl, subst, arith}
+use Rattle.std.specs.Prelude.{OnErr}
 use Rattle.desk_words.specs.declared.change.Change.{Change}
+use Rattle.machine_core.specs.declared.machine.SettleFail.{SettleFail}
 use Rattle.machine_core.specs.declared.machine.SettleFail.TheVariants.{Unavailable, NoMemory}
-use Rattle.machine_core.specs.Weighing.{CallsOnce}
+use Rattle.machine_core.specs.Weighing.{CallsOnce, CountsUnavailable}
 use Rattle.http_desk.specs.Answered.{one_call}
 use Rattle.http_desk.specs.Scenes.{RoseWithin}
 use Rattle.http_desk.proofs.Progress.{not_raised, raised_once}
+
+-- what was not kept, for this reason, was to change something, and the counts are as they are then
+pub unsettled : {T : Type 0} {result : Result T SettleFail} {why : SettleFail} {changes : List Change}
+    {before now : ℕ} (faults then : ℕ) → result ≡ Err why → (changes ≡ [] → OnErr result ⊥)
+    → CallsOnce changes before now result → CountsUnavailable faults then result
+    → (changes ≢ []) × CallsOnce {T = T} changes before now (Err why) × CountsUnavailable {T = T} faults then (Err why)
+unsettled {T} {changes} {before} {now} faults then is idle calls counts = (
+  λ none. subst (λ (r : Result T SettleFail). OnErr r ⊥) is (idle none),
+  subst (λ (r : Result T SettleFail). CallsOnce changes before now r) is calls,
+  subst (λ (r : Result T SettleFail). CountsUnavailable faults then r) is counts,
+)
 
 module _ {T : Type 0} (before now : ℕ) where
   -- what was kept took one call, and none where nothing was changed

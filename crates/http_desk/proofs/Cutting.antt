@@ -19,12 +19,12 @@ Begins-first bytes [] all rest last end same h ends =
 Begins-first bytes (first ∷ requests) [] rest last end h same ends =
     absurd (request_is_no_end last first.0 first.1 h.0 end
     (subst (λ (b : List ℕ). BeginsRequest b first.0 first.1 h.0) same h.1) ends)
-Begins-first bytes ((head, body) ∷ requests) ((other, second) ∷ all) rest last end h k ends =
-    let one = BeginsRequest_unique bytes head other body second h.0 k.0 h.1 k.1 in
-    let next = Begins-first h.0 requests all rest last end h.2
-    (subst (λ (b : List ℕ). Begins b all last) (sym one.2) k.2) ends in
-    let tails : all ≡ requests ++ next.0 = next.1 in
-    (next.0, cc, next.2)
+Begins-first bytes ((head, body) ∷ requests) ((other, second) ∷ all) rest last end (behind, one, others)
+    (behind_too, one_too, others_too) ends =
+    let (heads, bodies, same) = BeginsRequest_unique bytes head other body second behind behind_too one one_too in
+    let (more, tails, begins) = Begins-first behind requests all rest last end others
+    (subst (λ (b : List ℕ). Begins b all last) (sym same) others_too) ends in
+    (more, cc, begins)
 
 -- as many requests at the front of bytes are the same
 pub Begins-one : (bytes : List ℕ) (requests others : List WholeRequest) (rest last : List ℕ)
@@ -32,10 +32,11 @@ pub Begins-one : (bytes : List ℕ) (requests others : List WholeRequest) (rest 
 Begins-one bytes [] [] rest last size h k = refl
 Begins-one bytes [] (b ∷ others) rest last size h k = absurd (omega arith)
 Begins-one bytes (a ∷ requests) [] rest last size h k = absurd (omega arith)
-Begins-one bytes ((head, body) ∷ requests) ((other, second) ∷ others) rest last size h k =
-    let one = BeginsRequest_unique bytes head other body second h.0 k.0 h.1 k.1 in
-    let next : requests ≡ others = Begins-one h.0 requests others rest last (omega arith) h.2
-    (subst (λ (b : List ℕ). Begins b others last) (sym one.2) k.2) in
+Begins-one bytes ((head, body) ∷ requests) ((other, second) ∷ others) rest last size (behind, one, more)
+    (behind_too, one_too, more_too) =
+    let (heads, bodies, same) = BeginsRequest_unique bytes head other body second behind behind_too one one_too in
+    let next : requests ≡ others = Begins-one behind requests others rest last (omega arith) more
+    (subst (λ (b : List ℕ). Begins b others last) (sym same) more_too) in
     cc
 
 -- ---- rests
@@ -57,6 +58,6 @@ asks_then bytes more BodyLong (head, count, announces, over) asks = head_asks by
 pub AsksHead-append : (bytes more : List ℕ) (kind : BadRest) → IsBadRest bytes kind
     → AsksHead bytes ↔ AsksHead (bytes ++ more)
 AsksHead-append bytes more kind wrong = (
-  λ asks. (asks.0, HasHead-append bytes more asks.0 asks.1, asks.2),
+  λ (head, stands, is). (head, HasHead-append bytes more head stands, is),
   λ asks. asks_then bytes more kind wrong asks,
 )

@@ -13,7 +13,7 @@ use Rattle.http_desk.proofs.Checked.{Ok-same, bind-Ok}
 pub derive_numbered : (edition : List ℕ) (version : ℕ) (body : List ℕ) (command : Command)
     → desk_derive edition version body ≡ Ok command → IsNumbered command
 derive_numbered edition version body command e =
-    let fields = bind-Ok (object_in keys body) _ command e in
-    let master = bind-Ok (at_key (codes "master") as_str fields.0) _ command fields.2 in
-    let pairs = bind-Ok (at_key (codes "pairs") string_pairs_in fields.0) _ command master.2 in
-    subst IsNumbered (Ok-same pairs.2) tt
+    let (fields, read, rest) = bind-Ok (object_in keys body) _ command e in
+    let (master, told, others) = bind-Ok (at_key (codes "master") as_str fields) _ command rest in
+    let (pairs, listed, same) = bind-Ok (at_key (codes "pairs") string_pairs_in fields) _ command others in
+    subst IsNumbered (Ok-same same) tt

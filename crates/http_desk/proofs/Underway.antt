@@ -1,6 +1,6 @@
 -- What holds before each request of a stream, and how it goes on.
 use Rattle.std.proofs.Common.{◌≡◌, ◌∙◌, ℕ, ◌+◌, ◌≤◌, ◌==◌, Bool, List, [], ◌∷◌, ◌++◌, length, refl, ap, sym, subst}
-use Rattle.std.proofs.Common.{arith, length-append, Result}
+use Rattle.std.proofs.Common.{arith, length-append, Option, Result, Ok}
 use Rattle.std.proofs.lemmas.List.{map-append}
 use Rattle.desk_base.specs.declared.error.Failed.{Failed}
 use Rattle.std.specs.Io.KnownBytes.{Appends}
@@ -8,7 +8,9 @@ use Rattle.desk_base.proofs.Growth.{Appends-then}
 use Rattle.desk_words.specs.Tables.{Rows}
 use Rattle.keeper_core.specs.Keeping.{IfTold, TellsNoMore, Uses}
 use Rattle.http_cut.specs.Cut.{WholeRequest, BeginsRequest}
-use Rattle.http_cut.specs.Taking.{Reading, ReadsOn, Takes}
+use Rattle.http_cut.specs.declared.step.Step.{Step}
+use Rattle.http_cut.specs.Looks.{IsStep}
+use Rattle.http_cut.specs.Taking.{Fetches, Reading, ReadsNoFurther, ReadsOn, Takes}
 use Rattle.http_desk.specs.Answered.{Answered, IsAnswered, TakesRest, asks_head, failures, texts}
 use Rattle.http_desk.specs.Commands.{command_for}
 use Rattle.http_desk.specs.Scenes.{Scene, Later}
@@ -39,8 +41,9 @@ module _ {S : Type 0} (calls : S → S → ℕ → Result ℕ Failed → Type 0)
     whole,
     (refl, refl),
   )
-  AreTurns-push old last read held rest (first ∷ turns) turn window behind h on whole =
-      (h.0, h.1, h.2, h.3, h.4, AreTurns-push h.0 last read h.2 rest turns turn window behind h.5 on whole)
+  AreTurns-push old last read held rest (first ∷ turns) turn window behind
+      (seen, held_then, left, reads, begins, more) on whole =
+      (seen, held_then, left, reads, begins, AreTurns-push seen last read left rest turns turn window behind more on whole)
 
   -- so the answers of turns are
   pub TakesTurns-push : (last read : S) (answers : List Answered) (a : Answered) (held : List ℕ) (given : List
@@ -69,6 +72,10 @@ module _ {S : Type 0} (calls : S → S → ℕ → Result ℕ Failed → Type 0)
     pub settled : steady → failures answers ≡ 0
     pub room : TakesRest takes taking (length (texts answers))
     pub turns : TakesTurns calls source last answers held
+
+-- the scene where the source was read, and has so many bytes left and so many faults
+abbrev pub read_to : Scene → Option (List ℕ) → ℕ → Scene
+read_to scene left faults = record scene { left = left; read_faults = faults }
 
 -- how the serving of a stream goes on, whatever it is that is served
 module _ {S : Type 0} {calls : S → S → ℕ → Result ℕ Failed → Type 0} {source : S} where
@@ -111,6 +118,20 @@ module _ {S : Type 0} {calls : S → S → ℕ → Result ℕ Failed → Type 0}
     room = s.room;
     turns = s.turns;
   }
+
+  -- the source is read up to this step
+  pub Serving-reads : {last at : S} {held : List ℕ} {steady : Type 0} {takes taking : ℕ → Type 0} {limit : ℕ}
+      {old mid : Scene} {left : Option (List ℕ)} (faults : ℕ) {count : ℕ} {window now : List ℕ} {one step : Step}
+      → one ≡ step → Serving calls source last held steady takes taking limit old mid count window
+      → Fetches mid.left left window now (Ok one) → ReadsNoFurther calls last at window now (Ok one)
+      → mid.read_faults ≤ faults
+      → Serving calls source last held steady takes taking limit old (read_to mid left faults) count now
+      × IsStep now step × ReadsNoFurther calls last at window now (Ok step)
+  Serving-reads {last} {at} {mid} {left} faults {window} {now} is s fetched order later = (
+    Serving-takes (read_to mid left faults) s fetched.0 later refl refl refl refl refl,
+    subst (IsStep now) is fetched.1,
+    subst (λ (found : Step). ReadsNoFurther calls last at window now (Ok found)) is order,
+  )
 
   -- a request is answered, and its text is still to be written
   pub Serving-weighs : {last : S} {held : List ℕ} {steady : Type 0} {takes taking : ℕ → Type 0} {limit : ℕ}

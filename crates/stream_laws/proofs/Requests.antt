@@ -19,42 +19,16 @@ use Rattle.http_cut.specs.Routes.{Match, method_of, route_of}
 use Rattle.httparse.specs.Grammar.{RequestHead}
 use Rattle.http_desk.specs.Answered.{Answered, Answers, Outcome, Declines, Replied, Unavailable, NoMemory, Served}
 use Rattle.http_desk.specs.Answered.{asks_head, last_tables}
-use Rattle.http_desk.specs.Checked.{Checked, ◌>>=◌, or_bad_body, or_refused}
+use Rattle.http_desk.specs.Checked.{Checked, or_refused}
 use Rattle.http_desk.specs.Commands.{command_at, command_for, digest_of}
-use Rattle.http_desk.specs.Parameters.{route_in}
 use Rattle.http_desk.specs.declared.refusal.Refused.TheVariants as refused
 use Rattle.http_desk.specs.Refusals.{asked, asked_of, method_name, says_length, wants_length}
-use Rattle.http_desk.proofs.Numbered.{numbered}
-use Rattle.desk_json.specs.declared.route.Route.{Route}
-use Rattle.desk_json.specs.Checked.{Checked as Read}
-use Rattle.desk_json.specs.Commands.{command_in}
+use Rattle.http_desk.proofs.Checked.{Ok-same, bind-Ok}
+use Rattle.http_desk.proofs.Numbered.{command_for-numbered}
 use Rattle.machine_laws.specs.Callers.{Caller, asks}
 use Rattle.machine_laws.specs.Events.{AreAnswered, Event, has_changes, is_write_of, tables_after}
 use Rattle.machine_laws.proofs.Listed.{next-valid, repeat-listed, stale-listed}
 use Rattle.stream_laws.specs.Requests.{HasWriteOf, event_for, events_of}
-
--- ---- a command is numbered as it may be
-
--- what comes of a value was found, and this came of it
-found-then : {A B : Type 0} (found : Checked A) (next : A → Checked B) (value : B) → (found >>= next) ≡ Ok value
-    → (one : A) × (found ≡ Ok one) × (next one ≡ Ok value)
-found-then (Ok one) next value is = (one, refl, is)
-found-then (Err why) next value is = absurd cc
-
--- a body that was read well
-read-well : (read : Read Command) (command : Command) → or_bad_body read ≡ Ok command → read ≡ Ok command
-read-well (Ok one) command is = cc
-read-well (Err fault) command is = absurd cc
-
-command-numbered : (request : WholeRequest) (command : Command) → command_for request ≡ Ok command
-    → IsNumbered command
-command-numbered (head, body) command is =
-    let digest : Digest = digest_of head.target body in
-    let at : Match → Checked Command = λ found. command_at found digest body in
-    let in_body : Route → Checked Command = λ route. or_bad_body (command_in route digest body) in
-    let target = found-then (or_refused (asked (head, body))) at command is in
-    let route = found-then (route_in target.0.0 target.0.1) in_body command target.2 in
-    numbered target.0 route.0 digest body command route.1 (read-well (command_in route.0 digest body) command route.2)
 
 -- ---- equal paths and bodies
 
@@ -78,24 +52,20 @@ asked-route head (Some one) found is =
 pub same-command : (one other : WholeRequest) (command also : Command) → one.0.target ≡ other.0.target
     → one.1 ≡ other.1 → command_for one ≡ Ok command → command_for other ≡ Ok also → command ≡ also
 same-command (head, body) (other, text) command also target_same body_same is is_too =
-    let at : Match → Checked Command = λ found. command_at found (digest_of head.target body) body in
-    let at_too : Match → Checked Command = λ found. command_at found (digest_of other.target text) text in
-    let found = found-then (or_refused (asked (head, body))) at command is in
-    let found_too = found-then (or_refused (asked (other, text))) at_too also is_too in
-    let route : route_of head.target ≡ Some found.0 = asked-route head (route_of head.target) found.0 found.1 in
-    let route_too : route_of other.target ≡ Some found_too.0 =
-    asked-route other (route_of other.target) found_too.0 found_too.1 in
-    let matched : Some found.0 ≡ Some found_too.0 = sym route ∙ ap route_of target_same ∙ route_too in
-    let Asks : Match → Type 0 = λ one. command_at one (digest_of other.target text) text ≡ Ok command in
-    let first : command_at found.0 (digest_of other.target text) text ≡ Ok command =
-    rw (sym target_same, sym body_same) found.2 in
-    one_value (subst Asks (one_match matched) first) found_too.2
+    let digest : Digest = digest_of other.target text in
+    let (found, asks, gives) =
+    bind-Ok (or_refused (asked (head, body))) (λ one. command_at one (digest_of head.target body) body) command is in
+    let (found_too, asks_too, gives_too) =
+    bind-Ok (or_refused (asked (other, text))) (λ one. command_at one digest text) also is_too in
+    let route : route_of head.target ≡ Some found = asked-route head (route_of head.target) found asks in
+    let route_too : route_of other.target ≡ Some found_too =
+    asked-route other (route_of other.target) found_too asks_too in
+    let matched : Some found ≡ Some found_too = sym route ∙ ap route_of target_same ∙ route_too in
+    let first : command_at found digest text ≡ Ok command = rw (sym target_same, sym body_same) gives in
+    Ok-same (sym (subst (λ one. command_at one digest text ≡ Ok command) (one_match matched) first) ∙ gives_too)
   where
     one_match : {match other : Match} → Some match ≡ Some other → match ≡ other
     one_match is = cc
-
-    one_value : {checked : Checked Command} → checked ≡ Ok command → checked ≡ Ok also → command ≡ also
-    one_value is also_is = cc
 
 -- ---- one request
 
@@ -139,7 +109,7 @@ module _ (limit : ℕ) where
   stream-answered count before [] served = tt
   stream-answered count before (a ∷ answers) (served, rest) =
       one-answered (command_for a.request) ((count + 1) == limit) (asks_head a.request) a.tables a.text before a.outcome
-      (events_of answers) (command-numbered a.request) served (stream-answered (count + 1) a.tables answers rest)
+      (events_of answers) (command_for-numbered a.request) served (stream-answered (count + 1) a.tables answers rest)
 
   pub stream-leaves : (count : ℕ) (before : Rows) (answers : List Answered) → Served limit count before answers
       → tables_after before (events_of answers) ≡ last_tables before answers

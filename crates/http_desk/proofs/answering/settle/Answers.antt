@@ -1,11 +1,10 @@
-use Rattle.std.proofs.Common.{◌≡◌, ◌≢◌, [], Err, Result, refl, rules, subst}
-use Rattle.std.specs.Prelude.{OnErr}
+use Rattle.std.proofs.Common.{◌≡◌, Err, Result, refl, rules, subst}
 use Rattle.desk_words.specs.declared.reply.Reply.{Reply}
 use Rattle.machine_core.specs.declared.machine.SettleFail.{SettleFail}
 use Rattle.machine_core.specs.declared.machine.SettleFail.TheVariants as fail
-use Rattle.machine_core.specs.Weighing.{CallsOnce, CountsUnavailable, NeverUnavailable}
+use Rattle.machine_core.specs.Weighing.{NeverUnavailable}
 use Rattle.http_desk.specs.Answered.{NoMemory, Replied, Unavailable}
-use Rattle.http_desk.proofs.Counting.{called_failed, called_in_want, called_kept}
+use Rattle.http_desk.proofs.Counting.{called_failed, called_in_want, called_kept, unsettled}
 use Rattle.http_desk.proofs.answering.settle.Goals as goal
 
 -- what was weighed was kept
@@ -24,12 +23,9 @@ pub returns-in-Err-Unavailable-clause-answered : goal.returns-in-Err-Unavailable
 returns-in-Err-Unavailable-clause-answered g c =
     λ asks asked same.
     let is : c.settle.result ≡ Err fail.Unavailable = search rules in
-    let some : c.args.weighed.changes ≢ [] =
-    λ none. subst (λ (r : Result Reply SettleFail). OnErr r ⊥) is (c.settle.ensures.idle_too none) in
-    let called = subst (λ (r : Result Reply SettleFail). CallsOnce c.args.weighed.changes
-    (g.K.Keeper.calls c.args.keeper.now) (g.K.Keeper.calls c.settle.new.keeper) r) is c.settle.ensures.called in
-    let counts = subst (λ (r : Result Reply SettleFail). CountsUnavailable (g.K.Keeper.faults c.args.keeper.now)
-    (g.K.Keeper.faults c.settle.new.keeper) r) is c.settle.ensures.faults in
+    let (some, called, counts) =
+    unsettled (g.K.Keeper.faults c.args.keeper.now) (g.K.Keeper.faults c.settle.new.keeper) is c.settle.ensures.idle_too
+    c.settle.ensures.called c.settle.ensures.faults in
     record {
       outcome = Unavailable;
       answers = ((c.args.weighed.reply, c.args.weighed.changes, asked, some), search rules, search rules);
@@ -45,12 +41,9 @@ pub returns-clause-answered : goal.returns-clause-answered
 returns-clause-answered g c =
     λ asks asked same.
     let is : c.settle.result ≡ Err fail.NoMemory = search rules in
-    let some : c.args.weighed.changes ≢ [] =
-    λ none. subst (λ (r : Result Reply SettleFail). OnErr r ⊥) is (c.settle.ensures.idle_too none) in
-    let called = subst (λ (r : Result Reply SettleFail). CallsOnce c.args.weighed.changes
-    (g.K.Keeper.calls c.args.keeper.now) (g.K.Keeper.calls c.settle.new.keeper) r) is c.settle.ensures.called in
-    let counts = subst (λ (r : Result Reply SettleFail). CountsUnavailable (g.K.Keeper.faults c.args.keeper.now)
-    (g.K.Keeper.faults c.settle.new.keeper) r) is c.settle.ensures.faults in
+    let (some, called, counts) =
+    unsettled (g.K.Keeper.faults c.args.keeper.now) (g.K.Keeper.faults c.settle.new.keeper) is c.settle.ensures.idle_too
+    c.settle.ensures.called c.settle.ensures.faults in
     record {
       outcome = NoMemory;
       answers = (search rules, search rules);

@@ -1,8 +1,7 @@
-use Rattle.std.proofs.Common.{◌≡◌, ◌∙◌, ap, inl, inr, List, refl, subst, true, ℕ}
+use Rattle.std.proofs.Common.{◌≡◌, inl, inr, List, refl, subst, true, ℕ}
 use Rattle.std.proofs.Math.Nat.{lt_of_not-le}
 use Rattle.std.specs.Io.KnownBytes.{Appends}
 use Rattle.desk_base.specs.Faults.{AppendsPart}
-use Rattle.http_desk.specs.declared.refusal.Refused.{Refused}
 use Rattle.http_desk.specs.Answered.{HasNoRoom}
 use Rattle.http_desk.specs.Refusals.{refused_rest, refusal_text}
 use Rattle.http_desk.proofs.serving.refuse.Goals as goal
@@ -11,8 +10,7 @@ use Rattle.http_desk.proofs.serving.refuse.Goals as goal
 pub returns-in-Ok : goal.returns-in-Ok
 returns-in-Ok g c =
     let same : c.as_bytes.result.now ≡ refusal_text (refused_rest c.args.kind) true c.args.asks_head =
-    c.as_bytes.ensures.value ∙ c.text-text.ensures
-    ∙ ap (λ (r : Refused). refusal_text r true c.args.asks_head) c.of_rest.ensures in
+    cc (c.as_bytes.ensures.value, c.text-text.ensures, c.of_rest.ensures) in
     record {
       later = c.write_all.ensures.cause.later;
       ends = inl (
@@ -27,8 +25,7 @@ returns-in-Ok g c =
 pub returns-in-Err : goal.returns-in-Err
 returns-in-Err g c =
     let same : c.as_bytes.result.now ≡ refusal_text (refused_rest c.args.kind) true c.args.asks_head =
-    c.as_bytes.ensures.value ∙ c.text-text.ensures
-    ∙ ap (λ (r : Refused). refusal_text r true c.args.asks_head) c.of_rest.ensures in
+    cc (c.as_bytes.ensures.value, c.text-text.ensures, c.of_rest.ensures) in
     record {
       later = c.write_all.ensures.cause.later;
       ends = inr (

@@ -1,15 +1,12 @@
-use Rattle.std.proofs.Common.{◌+◌, ◌==◌, ℕ, List, refl, ap, subst, arith, Ok, Err}
+use Rattle.std.proofs.Common.{ℕ, refl, ap, subst, arith, Ok, Err}
 use Rattle.std.proofs.Common.{length-drop}
 use Rattle.httparse.specs.Spans.{span_bytes}
 use Rattle.http_cut.specs.declared.intake.IntakeFault.{IntakeFault}
 use Rattle.http_cut.specs.declared.step.Step.{Step}
 use Rattle.http_cut.specs.Cut.{WholeRequest}
 use Rattle.http_cut.specs.Looks.{IsStep}
-use Rattle.http_cut.specs.Taking.{ReadsNoFurther}
 use Rattle.http_cut.proofs.Waiting.{open_now}
-use Rattle.http_desk.specs.Answered.{Responds}
-use Rattle.http_desk.specs.Scenes.{Scene, scene}
-use Rattle.http_desk.proofs.Underway.{Serving-none, Serving-takes, Serving-answers}
+use Rattle.http_desk.proofs.Underway.{Serving-none, Serving-reads, Serving-answers}
 use Rattle.http_desk.proofs.Ends.{ends_limit, found_whole, ends_source, ends_intake, ends_refused, ends_write_fault}
 use Rattle.http_desk.proofs.serving.serve.Goals as goal
 
@@ -38,20 +35,11 @@ skip-requires g c =
 -- the request at the front was answered
 pub requests-preserved : goal.requests-preserved
 requests-preserved g c =
-    let at = scene g.S.Source.left g.S.Source.read_faults g.W.Sink.written g.W.Sink.write_faults g.M.Machine.rows
-    g.K.Keeper.tables g.K.Keeper.calls g.K.Keeper.faults in
-    let read : Scene = at c.next_step.new.source c.requests.sink c.requests.machine c.requests.keeper in
-    let window : List ℕ = c.next_step.new.self in
-    let serving = Serving-takes read c.requests.invariant.serving c.in-Ok.ensures.fetched.0 c.next_step.ensures.later
-    refl refl refl refl refl in
-    let (head, shows, begins) = subst (IsStep window) c.in-Whole.is c.in-Ok.ensures.fetched.1 in
-    let (given, on) = found_whole (subst (λ (s : Step). ReadsNoFurther g.S.Source.reads c.requests.source
-    c.next_step.new.source c.requests.intake window (Ok s)) c.in-Whole.is c.in-Ok.ensures.order) in
-    let request : WholeRequest = (head, span_bytes window c.in-Whole.request.body) in
-    let responds : Responds (g.K.Keeper.is_steady c.requests.keeper) (g.W.Sink.takes c.requests.sink)
-    (g.W.Sink.takes c.respond.new.sink) (g.M.Machine.rows c.requests.machine)
-    ((c.requests.answered + 1) == c.args.limit) request (g.M.Machine.rows c.respond.new.machine) _ _ _ _
-    (Ok c.in-Ok-respond.field-0) = c.in-Ok-respond.ensures.responds head shows in
+    let (serving, (head, shows, begins), found) = Serving-reads (g.S.Source.read_faults c.next_step.new.source) c.in-Whole.is
+    c.requests.invariant.serving c.in-Ok.ensures.fetched c.in-Ok.ensures.order c.next_step.ensures.later in
+    let (given, on) = found_whole found in
+    let request : WholeRequest = (head, span_bytes c.next_step.new.self c.in-Whole.request.body) in
+    let responds = c.in-Ok-respond.ensures.responds head shows in
     record {
       serving = rw c.skip.ensures (Serving-answers given request serving on begins responds.answered
           c.respond.ensures.told c.respond.ensures.no_more refl responds.written refl
@@ -61,26 +49,17 @@ requests-preserved g c =
       within = omega arith;
       few =
           let few = c.in-Ok.ensures.behind c.in-Whole.request (ap (λ (s : Step). Ok s) c.in-Whole.is) in
-          rw c.skip.ensures (omega (arith, few, length-drop c.in-Whole.request.body.end window));
+          rw c.skip.ensures (omega (arith, few, length-drop c.in-Whole.request.body.end c.next_step.new.self));
     }
 
 -- its response was written in part
 pub returns-in-Err-respond : goal.returns-in-Err-respond
 returns-in-Err-respond g c =
-    let at = scene g.S.Source.left g.S.Source.read_faults g.W.Sink.written g.W.Sink.write_faults g.M.Machine.rows
-    g.K.Keeper.tables g.K.Keeper.calls g.K.Keeper.faults in
-    let read : Scene = at c.next_step.new.source c.requests.sink c.requests.machine c.requests.keeper in
-    let window : List ℕ = c.next_step.new.self in
-    let serving = Serving-takes read c.requests.invariant.serving c.in-Ok.ensures.fetched.0 c.next_step.ensures.later
-    refl refl refl refl refl in
-    let (head, shows, begins) = subst (IsStep window) c.in-Whole.is c.in-Ok.ensures.fetched.1 in
-    let (given, on) = found_whole (subst (λ (s : Step). ReadsNoFurther g.S.Source.reads c.requests.source
-    c.next_step.new.source c.requests.intake window (Ok s)) c.in-Whole.is c.in-Ok.ensures.order) in
-    let request : WholeRequest = (head, span_bytes window c.in-Whole.request.body) in
-    let responds : Responds (g.K.Keeper.is_steady c.requests.keeper) (g.W.Sink.takes c.requests.sink)
-    (g.W.Sink.takes c.respond.new.sink) (g.M.Machine.rows c.requests.machine)
-    ((c.requests.answered + 1) == c.args.limit) request (g.M.Machine.rows c.respond.new.machine) _ _ _ _
-    (Err c.in-Err-respond.field-0) = c.in-Err-respond.ensures.responds head shows in
+    let (serving, (head, shows, begins), found) = Serving-reads (g.S.Source.read_faults c.next_step.new.source) c.in-Whole.is
+    c.requests.invariant.serving c.in-Ok.ensures.fetched c.in-Ok.ensures.order c.next_step.ensures.later in
+    let (given, on) = found_whole found in
+    let request : WholeRequest = (head, span_bytes c.next_step.new.self c.in-Whole.request.body) in
+    let responds = c.in-Err-respond.ensures.responds head shows in
     ends_write_fault given request serving c.requests-test.true on begins responds.answered c.respond.ensures.told
     c.respond.ensures.no_more refl responds.part c.in-Err-respond.ensures.cause.failed responds.full
     c.requests.invariant.keeps refl c.respond.ensures.cause.later
@@ -98,32 +77,18 @@ returns-in-Err g c =
 -- the source ended
 pub returns-in-NeedMore : goal.returns-in-NeedMore
 returns-in-NeedMore g c =
-    let at = scene g.S.Source.left g.S.Source.read_faults g.W.Sink.written g.W.Sink.write_faults g.M.Machine.rows
-    g.K.Keeper.tables g.K.Keeper.calls g.K.Keeper.faults in
-    let read : Scene = at c.next_step.new.source c.requests.sink c.requests.machine c.requests.keeper in
-    let window : List ℕ = c.next_step.new.self in
     let least : ℕ = c.in-NeedMore.field-0 in
-    let serving = Serving-takes read c.requests.invariant.serving c.in-Ok.ensures.fetched.0 c.next_step.ensures.later
-    refl refl refl refl refl in
-    let (short, waits) = subst (IsStep window) c.in-NeedMore.is c.in-Ok.ensures.fetched.1 in
-    let found = subst (λ (s : Step). ReadsNoFurther g.S.Source.reads c.requests.source c.next_step.new.source
-    c.requests.intake window (Ok s)) c.in-NeedMore.is c.in-Ok.ensures.order in
-    ends_source c.end_of.result least serving c.requests-test.true (open_now window least short waits)
+    let (serving, (short, waits), found) = Serving-reads (g.S.Source.read_faults c.next_step.new.source) c.in-NeedMore.is
+    c.requests.invariant.serving c.in-Ok.ensures.fetched c.in-Ok.ensures.order c.next_step.ensures.later in
+    ends_source c.end_of.result least serving c.requests-test.true (open_now c.next_step.new.self least short waits)
     (c.in-Ok.ensures.end least (ap (λ (s : Step). Ok s) c.in-NeedMore.is)) found
     (rw c.bytes.ensures at c.end_of.ensures)
 
 -- a bad rest was refused
 pub returns-in-Bad : goal.returns-in-Bad
 returns-in-Bad g c =
-    let at = scene g.S.Source.left g.S.Source.read_faults g.W.Sink.written g.W.Sink.write_faults g.M.Machine.rows
-    g.K.Keeper.tables g.K.Keeper.calls g.K.Keeper.faults in
-    let read : Scene = at c.next_step.new.source c.requests.sink c.requests.machine c.requests.keeper in
-    let window : List ℕ = c.next_step.new.self in
-    let serving = Serving-takes read c.requests.invariant.serving c.in-Ok.ensures.fetched.0 c.next_step.ensures.later
-    refl refl refl refl refl in
-    let (wrong, asks) = subst (IsStep window) c.in-Bad.is c.in-Ok.ensures.fetched.1 in
-    let found = subst (λ (s : Step). ReadsNoFurther g.S.Source.reads c.requests.source c.next_step.new.source
-    c.requests.intake window (Ok s)) c.in-Bad.is c.in-Ok.ensures.order in
+    let (serving, (wrong, asks), found) = Serving-reads (g.S.Source.read_faults c.next_step.new.source) c.in-Bad.is
+    c.requests.invariant.serving c.in-Ok.ensures.fetched c.in-Ok.ensures.order c.next_step.ensures.later in
     ends_refused c.in-Bad.kind c.in-Bad.asks_head serving c.requests-test.true
     (c.in-Ok.ensures.behind_bad c.in-Bad.kind c.in-Bad.asks_head (ap (λ (s : Step). Ok s) c.in-Bad.is)) found wrong asks
     c.refuse.ensures refl refl refl refl refl
