@@ -14,7 +14,7 @@ use Rattle.http_desk.specs.Answered.{NoMemory, Served, asks_head, last_tables, r
 use Rattle.http_desk.specs.Commands.{command_for}
 use Rattle.machine_laws.proofs.Accepted.{step-valid}
 use Rattle.fixdesk_run.specs.Make.{AllAnswered, AreAccepted, IsAccepted, IsMade, IsSummary, IsTold, request_count}
-use Rattle.fixdesk_run.proofs.Asking.{IsNumbered-asked}
+use Rattle.http_desk.proofs.Numbered.{command_for-numbered}
 use Rattle.fixdesk_run.proofs.Turns.{step-turn}
 
 -- the turn of tables
@@ -55,7 +55,7 @@ module _ (before : Rows) (valid : AreValid before) (request : WholeRequest) (clo
       → Answers before (command_for request) closing (asks_head request) outcome after text → AreValid after
   stays_valid (Declines why) (declined, same, is) = subst AreValid (sym same) valid
   stays_valid (Replied reply changes) (asked, leaves, is) = subst AreValid (sym leaves)
-      (step-valid before asked.command reply changes valid (IsNumbered-asked request asked.command asked.is)
+      (step-valid before asked.command reply changes valid (command_for-numbered request asked.command asked.is)
       asked.step).1
   stays_valid Unavailable (asked, same, is) = subst AreValid (sym same) valid
   stays_valid NoMemory (same, is) = subst AreValid (sym same) valid

@@ -1,5 +1,4 @@
 pub mod Accepted
-pub mod Asking
 pub mod Determined
 pub mod Limits
 pub mod OneSummary
@@ -8,6 +7,5 @@ pub mod Replies
 pub mod Reports
 pub mod Served
 pub mod Summaries
-pub mod Taking
 pub mod Turns
 pub mod Visiting

@@ -1,6 +1,6 @@
 use Rattle.std.proofs.Common.{◌++◌, ◌≤◌, ◌-◌, rules, take, length, arith, length-append, length-take}
 use Rattle.fixdesk_run.specs.Input.{most, TakesPart}
-use Rattle.fixdesk_run.proofs.Taking.{Consumes-then}
+use Rattle.std.proofs.KnownBytes.{Consumes-trans}
 use Rattle.fixdesk_run.proofs.input.take_pieces.Goals as goal
 
 -- what was read last is lost, and was taken all the same
@@ -13,7 +13,7 @@ returns-in_err-extend_from_slice-clause-part g c =
     simp (length-append, length-take) (omega (arith, room, size, c.pieces.invariant.bounded)) in
     let part : TakesPart (g.S.Source.left c.args.input.now) (g.S.Source.left c.read.new.self) = record {
       bytes = c.pieces.bytes.items ++ read;
-      taken = Consumes-then _ _ _ _ _ c.pieces.invariant.taken c.in_ok-count.ensures.bytes.0;
+      taken = Consumes-trans _ _ _ _ _ c.pieces.invariant.taken c.in_ok-count.ensures.bytes.0;
       bounded = few;
     } in
     search (rules, part)
