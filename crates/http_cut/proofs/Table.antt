@@ -1,6 +1,6 @@
 -- The rows of the table: their patterns are plain, and so their parts are texts.
-use Rattle.std.proofs.Common.{◌≡◌, ℕ, zero, suc, ◌<◌, List, [], ◌∷◌, length, take, Some, Result, Ok, Err, Bool, true, false, cond}
-use Rattle.std.proofs.Common.{◌&&◌, refl, sym, subst, arith, ltb, inl, inr, get_or}
+use Rattle.std.proofs.Common.{◌≡◌, ℕ, zero, suc, ◌<◌, List, [], ◌∷◌, length, take, Some, Result, Ok, Err, Bool}
+use Rattle.std.proofs.Common.{true, false, cond, ◌&&◌, refl, sym, subst, arith, ltb, inl, inr, get_or}
 use Rattle.std.specs.Prelude.{⊤}
 use Rattle.std.specs.Borrow.{Bor}
 use Rattle.std.specs.List.{list_all}
@@ -131,4 +131,5 @@ AllText-route target route utf8 small e =
     let (pattern, has, matches) = seek_found target 0 route_rows route (IsText-bytes target small) e in
     let plain = Has-plain route_rows pattern route table_plain has in
     subst (λ (p : List ℕ). AllText (walk p route.text target route.names 0 0)) (sym plain.same)
-    (AllText-walk pattern route.text target route.names matches plain.plain (omega (arith, plain.short)) utf8 plain.names)
+    (AllText-walk pattern route.text target route.names matches plain.plain (omega (arith, plain.short)) utf8
+    plain.names)

@@ -1,6 +1,6 @@
 -- The route of a target, and its parameters: what `matchit` states for one table of patterns.
-use Rattle.std.specs.Prelude.{◌≡◌, ◌≢◌, ◌<◌, ◌++◌, false, ℕ, Bool, true, ◌&&◌, List, [], ◌∷◌, codes, map, Contains, Option}
-use Rattle.std.specs.Prelude.{Some, None, is_some, option_map, Result, Ok, Err, if◌then◌else◌}
+use Rattle.std.specs.Prelude.{◌≡◌, ◌≢◌, ◌<◌, ◌++◌, false, ℕ, Bool, true, ◌&&◌, List, [], ◌∷◌, codes, map, Contains}
+use Rattle.std.specs.Prelude.{Option, Some, None, is_some, option_map, Result, Ok, Err, if◌then◌else◌}
 use Rattle.std.specs.Borrow.{Bor}
 use Rattle.std.specs.Str.{is_utf8}
 use Rattle.desk_base.specs.declared.limits.TheConstants.{MAX_LONG_BODY, MAX_BATCH_BODY, MAX_BODY}

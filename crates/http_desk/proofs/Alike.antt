@@ -10,7 +10,6 @@ use Rattle.desk_words.specs.Changes.{changed_all}
 use Rattle.desk_words.specs.Tables.{Rows}
 use Rattle.machine_core.specs.Machine.{IsStep, answered, machine}
 use Rattle.machine_core.proofs.Chains.{Gives-unique}
-use Rattle.http_cut.specs.declared.step.BadRest.{BadRest}
 use Rattle.http_cut.specs.declared.step.BadRest.TheVariants as bad_rest
 use Rattle.http_cut.specs.Cut.{WholeRequest, Begins, End, clean, bad, truncated, IsCut}
 use Rattle.http_cut.proofs.Cuts.{Begins-more, IsCut_unique}
@@ -23,7 +22,7 @@ use Rattle.http_desk.specs.Checked.{Checked}
 use Rattle.http_desk.specs.Commands.{command_for}
 use Rattle.http_desk.specs.Replies.{declined_text, reply_text}
 use Rattle.http_desk.specs.Scenes.{Scene}
-use Rattle.http_desk.specs.Streams.{Streams, IsOwnEnd, AnswersAll}
+use Rattle.http_desk.specs.Streams.{Streams, IsOwnEnd, AnswersAll, bad_end}
 use Rattle.http_desk.proofs.Checked.{Ok-same}
 use Rattle.http_desk.proofs.Cutting.{Begins-first, Begins-one}
 
@@ -116,15 +115,10 @@ cut_end ended.ReadFault = clean
 cut_end ended.WriteFault = clean
 cut_end ended.NoMemory = clean
 
-abbrev bad_ended : BadRest → Ended
-bad_ended bad_rest.BadHead = ended.BadHead
-bad_ended bad_rest.Chunked = ended.Chunked
-bad_ended bad_rest.BodyLong = ended.BodyLong
-
 -- what ends so
 abbrev ended_of : End → Ended
 ended_of clean = ended.Clean
-ended_of (bad kind) = bad_ended kind
+ended_of (bad kind) = bad_end kind
 ended_of (truncated count) = ended.Truncated count
 
 ended_of-cut_end : (end : Ended) → IsOwnEnd end → ¬ (end ≡ ended.Limit) → ended_of (cut_end end) ≡ end

@@ -15,6 +15,7 @@ bind-Ok (Ok found) next value e = (found, refl, e)
 bind-Ok (Err why) next value e = absurd cc
 
 -- a body that was read well
-pub or_bad_body-Ok : {A : Type 0} (read : Result A JsonFault) (value : A) → or_bad_body read ≡ Ok value → read ≡ Ok value
+pub or_bad_body-Ok : {A : Type 0} (read : Result A JsonFault) (value : A) → or_bad_body read ≡ Ok value
+    → read ≡ Ok value
 or_bad_body-Ok (Ok one) value e = cc
 or_bad_body-Ok (Err fault) value e = absurd cc

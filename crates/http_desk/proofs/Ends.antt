@@ -188,8 +188,8 @@ module _ {S : Type 0} {calls : S → S → ℕ → Result ℕ Failed → Type 0}
       let (bytes, after, left) = some_left old.left new.left s.taken s.progress.took in
       let (end, ends) = open_end window is_open in
       let counted = s.counted in
-      ends_after ended.ReadFault s left ((end, record { begins = s.progress.begins; ends = ends }), omega arith, s.written, rose) found
-      (λ is _. unsteady is) (λ e. cc)
+      let cut : IsCut s.taken (requests s.answers) window end = record { begins = s.progress.begins; ends = ends } in
+      ends_after ended.ReadFault s left ((end, cut), omega arith, s.written, rose) found (λ is _. unsteady is) (λ e. cc)
 
   -- bytes that were taken may be lost where there was no memory
   ends_no_memory : {last at : S} {held : List ℕ} {reads : Type 0} {takes taking : ℕ → Type 0} {keeps : Type 0}
@@ -205,7 +205,8 @@ module _ {S : Type 0} {calls : S → S → ℕ → Result ℕ Failed → Type 0}
       let s = Serving-takes new before taken later written write_faults tables told uses in
       let (bytes, after, left) = some_left old.left new.left s.taken s.progress.took in
       let counted = s.counted in
-      ends_after ended.NoMemory s left (omega arith, s.written) (lost (window ++ loses.bytes) found) (λ _ e. cc) (λ e. cc)
+      ends_after ended.NoMemory s left (omega arith, s.written) (lost (window ++ loses.bytes) found) (λ _ e. cc)
+      (λ e. cc)
 
   -- there was no memory to begin
   pub ends_at_once : {reads : Type 0} {takes : ℕ → Type 0} {keeps : Type 0} {limit : ℕ} {old : Scene} → 1 ≤ limit

@@ -223,7 +223,8 @@ match_made path one text e good = by (first route_rows path) refl e
     by (Some row) is shown =
         let same : ◌≡◌ {A = Match} (row.value, parts_of row path) one = some_same shown in
         subst (λ (m : Match). IsMade (route_in m.0 m.1)) same
-        (route_in-made row.value (parts_of row path) (subst (λ (m : Match). has_good_numbers m.1 ≡ true) (sym same) good)
+        (route_in-made row.value (parts_of row path)
+        (subst (λ (m : Match). has_good_numbers m.1 ≡ true) (sym same) good)
         (found_there path row text is))
 
 -- a target that has a route has its parameters

@@ -42,8 +42,14 @@ module _ {S : Type 0} (calls : S → S → ℕ → Result ℕ Failed → Type 0)
     (refl, refl),
   )
   AreTurns-push old last read held rest (first ∷ turns) turn window behind
-      (seen, held_then, left, reads, begins, more) on whole =
-      (seen, held_then, left, reads, begins, AreTurns-push seen last read left rest turns turn window behind more on whole)
+      (seen, held_then, left, reads, begins, more) on whole = (
+        seen,
+        held_then,
+        left,
+        reads,
+        begins,
+        AreTurns-push seen last read left rest turns turn window behind more on whole,
+      )
 
   -- so the answers of turns are
   pub TakesTurns-push : (last read : S) (answers : List Answered) (a : Answered) (held : List ℕ) (given : List

@@ -7,7 +7,7 @@ use Rattle.http_cut.specs.declared.intake.TheConstants.{PIECE}
 use Rattle.http_cut.specs.declared.intake.IntakeFault.TheVariants.{Failed, NoMemory}
 use Rattle.http_cut.specs.Cut.{IsOpen, BeginsRequest, IsBadRest}
 use Rattle.http_cut.specs.Looks.{IsStep, Awaits}
-use Rattle.http_cut.specs.Taking.{Takes, Loses, Fetches, Gives, Reading, ReadsOn, ReadsNoFurther}
+use Rattle.http_cut.specs.Taking.{Takes, Loses, Fetches, Reading, ReadsOn, ReadsNoFurther}
 use Rattle.http_cut.proofs.Cuts.{request_shorter}
 use Rattle.http_cut.proofs.Reading.{ReadsOn-push, gave}
 use Rattle.http_cut.proofs.Waiting.{open_few, open_now, awaits_on, bad_before, request_ends_in_last}
@@ -97,10 +97,9 @@ reads-preserved g c =
     let within = c.in_ok-count.ensures.within in
     let size : length read ≤ 65536 = omega arith in
     let one : Reading _ = record { source = c.read.new.self; piece = read } in
-    let gives : Gives g.S.Source.reads c.reads.source one =
-    gave g.S.Source.reads c.reads.source c.read.new.self (length c.reads.piece) c.in_ok-count.count c.read.new.buf
-    (c.reads.auto.piece ∙ c.requires.piece) (omega arith) c.in_ok-count.ensures.reads c.in_ok-count.ensures.within
-    c.if-count-eq0.false in
+    let gives = gave g.S.Source.reads c.reads.source c.read.new.self (length c.reads.piece) c.in_ok-count.count
+    c.read.new.buf (c.reads.auto.piece ∙ c.requires.piece) (omega arith) c.in_ok-count.ensures.reads
+    c.in_ok-count.ensures.within c.if-count-eq0.false in
     let on = subst (λ (w : List ℕ). ReadsOn g.S.Source.reads c.args.source.now c.args.window.now
     (c.reads.invariant.in_turn.0 ++ one ∷ []) c.read.new.self w) (sym added)
     (ReadsOn-push g.S.Source.reads c.args.source.now c.reads.source c.args.window.now window
@@ -153,10 +152,9 @@ returns-in_err-add-clause-order g c =
     let waits = subst (λ (s : Step). IsStep c.reads.window s) c.in-NeedMore.is c.reads.invariant.step in
     let awaits : IsOpen c.reads.window = open_now c.reads.window c.in-NeedMore.least waits.0 waits.1 in
     let one : Reading _ = record { source = c.read.new.self; piece = read } in
-    let gives : Gives g.S.Source.reads c.reads.source one =
-    gave g.S.Source.reads c.reads.source c.read.new.self (length c.reads.piece) c.in_ok-count.count c.read.new.buf
-    (c.reads.auto.piece ∙ c.requires.piece) (omega arith) c.in_ok-count.ensures.reads c.in_ok-count.ensures.within
-    c.if-count-eq0.false in
+    let gives = gave g.S.Source.reads c.reads.source c.read.new.self (length c.reads.piece) c.in_ok-count.count
+    c.read.new.buf (c.reads.auto.piece ∙ c.requires.piece) (omega arith) c.in_ok-count.ensures.reads
+    c.in_ok-count.ensures.within c.if-count-eq0.false in
     let want : c.from_residual-in_err-add.result ≡ Err NoMemory = search rules in
     let reading : ReadsNoFurther g.S.Source.reads c.args.source.now c.read.new.self c.args.window.now c.add.new.self
     (Err NoMemory) = record {

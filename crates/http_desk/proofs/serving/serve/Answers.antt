@@ -35,8 +35,9 @@ skip-requires g c =
 -- the request at the front was answered
 pub requests-preserved : goal.requests-preserved
 requests-preserved g c =
-    let (serving, (head, shows, begins), found) = Serving-reads (g.S.Source.read_faults c.next_step.new.source) c.in-Whole.is
-    c.requests.invariant.serving c.in-Ok.ensures.fetched c.in-Ok.ensures.order c.next_step.ensures.later in
+    let (serving, (head, shows, begins), found) = Serving-reads (g.S.Source.read_faults c.next_step.new.source)
+    c.in-Whole.is c.requests.invariant.serving c.in-Ok.ensures.fetched c.in-Ok.ensures.order
+    c.next_step.ensures.later in
     let (given, on) = found_whole found in
     let request : WholeRequest = (head, span_bytes c.next_step.new.self c.in-Whole.request.body) in
     let responds = c.in-Ok-respond.ensures.responds head shows in
@@ -55,8 +56,9 @@ requests-preserved g c =
 -- its response was written in part
 pub returns-in-Err-respond : goal.returns-in-Err-respond
 returns-in-Err-respond g c =
-    let (serving, (head, shows, begins), found) = Serving-reads (g.S.Source.read_faults c.next_step.new.source) c.in-Whole.is
-    c.requests.invariant.serving c.in-Ok.ensures.fetched c.in-Ok.ensures.order c.next_step.ensures.later in
+    let (serving, (head, shows, begins), found) = Serving-reads (g.S.Source.read_faults c.next_step.new.source)
+    c.in-Whole.is c.requests.invariant.serving c.in-Ok.ensures.fetched c.in-Ok.ensures.order
+    c.next_step.ensures.later in
     let (given, on) = found_whole found in
     let request : WholeRequest = (head, span_bytes c.next_step.new.self c.in-Whole.request.body) in
     let responds = c.in-Err-respond.ensures.responds head shows in
@@ -78,8 +80,9 @@ returns-in-Err g c =
 pub returns-in-NeedMore : goal.returns-in-NeedMore
 returns-in-NeedMore g c =
     let least : ℕ = c.in-NeedMore.field-0 in
-    let (serving, (short, waits), found) = Serving-reads (g.S.Source.read_faults c.next_step.new.source) c.in-NeedMore.is
-    c.requests.invariant.serving c.in-Ok.ensures.fetched c.in-Ok.ensures.order c.next_step.ensures.later in
+    let (serving, (short, waits), found) = Serving-reads (g.S.Source.read_faults c.next_step.new.source)
+    c.in-NeedMore.is c.requests.invariant.serving c.in-Ok.ensures.fetched c.in-Ok.ensures.order
+    c.next_step.ensures.later in
     ends_source c.end_of.result least serving c.requests-test.true (open_now c.next_step.new.self least short waits)
     (c.in-Ok.ensures.end least (ap (λ (s : Step). Ok s) c.in-NeedMore.is)) found
     (rw c.bytes.ensures at c.end_of.ensures)
@@ -87,8 +90,9 @@ returns-in-NeedMore g c =
 -- a bad rest was refused
 pub returns-in-Bad : goal.returns-in-Bad
 returns-in-Bad g c =
-    let (serving, (wrong, asks), found) = Serving-reads (g.S.Source.read_faults c.next_step.new.source) c.in-Bad.is
-    c.requests.invariant.serving c.in-Ok.ensures.fetched c.in-Ok.ensures.order c.next_step.ensures.later in
+    let (serving, (wrong, asks), found) = Serving-reads (g.S.Source.read_faults c.next_step.new.source)
+    c.in-Bad.is c.requests.invariant.serving c.in-Ok.ensures.fetched c.in-Ok.ensures.order
+    c.next_step.ensures.later in
     ends_refused c.in-Bad.kind c.in-Bad.asks_head serving c.requests-test.true
     (c.in-Ok.ensures.behind_bad c.in-Bad.kind c.in-Bad.asks_head (ap (λ (s : Step). Ok s) c.in-Bad.is)) found wrong asks
     c.refuse.ensures refl refl refl refl refl
