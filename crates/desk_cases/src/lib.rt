@@ -4,6 +4,7 @@
 //! one, and hands its files to `try_files`.
 #![tactic(auto)]
 
+mod answer;
 mod case;
 mod escapes;
 mod fault;
@@ -11,6 +12,7 @@ mod judging;
 mod reading;
 mod trying;
 
+pub use answer::Answer;
 pub use case::{Case, Part, add_once};
 pub use fault::CaseFault;
 pub use judging::{Difference, differences};

@@ -7,12 +7,11 @@
 
 mod base;
 mod files;
-mod judging;
 mod lists;
 mod schemas;
 mod sheets;
 
-use desk_cases::{Case, Part, Subject, try_files};
+use desk_cases::{Answer, Case, Part, Subject, try_files};
 use std::alloc::Global;
 use std::test::Fail;
 
@@ -22,38 +21,38 @@ struct Readers;
 
 impl Subject for Readers {
     fn reads(&self, kind: &str, _case: &Case, part: &Part) -> bool {
-        match (kind, part.name.as_str()) {
-            ("adapter" | "text", name) => name == "bytes",
-            ("file" | "judge", name) => name == "file",
-            ("grid", name) => name == "cells",
-            ("list", name) => name == "numbers",
-            ("places", name) => matches!(name, "texts" | "sought" | "listed"),
-            ("word", name) => name == "text",
-            ("source", name) => matches!(name, "cut" | "fails" | "calls"),
-            ("sink", name) => matches!(name, "cut" | "room" | "fails"),
-            ("schema", name) => name == "toml",
-            (_, name) => name == "sheet",
+        match part.name.as_str() {
+            "bytes" | "file" | "cells" | "numbers" | "texts" | "sought" | "listed" | "text" => true,
+            "cut" | "fails" | "calls" | "toml" | "sheet" => true,
+            name => kind == "sink" && name == "room",
         }
     }
 
     fn answer(&mut self, alloc: Global, kind: &str, case: &Case) -> Result<Vec<Part>, Fail> {
-        match kind {
-            "adapter" => lists::adapter(alloc, case),
-            "file" => files::file(alloc, case),
-            "grid" => lists::grid(alloc, case),
-            "judge" => judging::judge(alloc, case),
-            "list" => lists::list(alloc, case),
-            "places" => lists::places(alloc, case),
-            "text" => base::text(alloc, case),
-            "word" => base::word(alloc, case),
-            "source" => base::source(alloc, case),
-            "sink" => base::sink(alloc, case),
-            "schema" => schemas::schema(alloc, case),
-            "sheet" => sheets::sheet(alloc, case),
-            "sheet_size" => sheets::sheet_size(alloc, case),
-            "sheet_cells" => sheets::sheet_cells(alloc, case),
-            _ => Err(Fail::new("a file of cases has an unknown kind")),
-        }
+        let mut answer = Answer::new(alloc);
+        add_answer(kind, case, &mut answer)?;
+        Ok(answer.into_parts())
+    }
+}
+
+/// Adds the answer to a case of this kind.
+fn add_answer(kind: &str, case: &Case, answer: &mut Answer) -> Result<(), Fail> {
+    match kind {
+        "adapter" => lists::adapter(case, answer),
+        "file" => files::file(case, answer),
+        "grid" => lists::grid(case, answer),
+        "judge" => files::judge(case, answer),
+        "list" => lists::list(case, answer),
+        "places" => lists::places(case, answer),
+        "text" => base::text(case, answer),
+        "word" => base::word(case, answer),
+        "source" => base::source(case, answer),
+        "sink" => base::sink(case, answer),
+        "schema" => schemas::schema(case, answer),
+        "sheet" => sheets::sheet(case, answer),
+        "sheet_size" => sheets::sheet_size(case, answer),
+        "sheet_cells" => sheets::sheet_cells(case, answer),
+        _ => Err(Fail::new("a file of cases has an unknown kind")),
     }
 }
 

@@ -1,34 +1,37 @@
 //! Schemas.
 use desk_base::{Duplicate, Text};
-use desk_cases::{Case, Part};
+use desk_cases::{Answer, Case};
 use schema_core::{Schema, SchemaFault};
-use std::alloc::Global;
+use std::alloc::AllocError;
 use std::test::Fail;
 
 /// The name and the attributes of a copy of the schema that is read, each with a line end; or the fault.
-pub fn schema(alloc: Global, case: &Case) -> Result<Vec<Part>, Fail> {
-    let content = match Schema::read(alloc, case.bytes("toml")?) {
-        Ok(schema) => lines(alloc, &schema.copy()?)?,
-        Err(SchemaFault::NoMemory) => return Err(Fail::new("there was no memory")),
-        Err(fault) => format!(in alloc; "{fault:?}")?,
-    };
-    let mut answer = Vec::new(alloc);
-    answer.push(Part::new(alloc, "wanted", content.as_str().as_bytes())?)?;
-    Ok(answer)
+pub fn schema(case: &Case, answer: &mut Answer) -> Result<(), Fail> {
+    match Schema::read(answer.alloc(), case.bytes("toml")?) {
+        Ok(schema) => add_schema(&schema, answer),
+        Err(SchemaFault::NoMemory) => Err(Fail::new("there was no memory")),
+        Err(fault) => answer.shown("wanted", &fault),
+    }
 }
 
-fn lines(alloc: Global, schema: &Schema) -> Result<String, Fail> {
-    let mut lines = String::new(alloc);
-    add_line(&mut lines, &schema.name)?;
-    for attribute in schema.attributes.as_slice() {
-        add_line(&mut lines, attribute)?;
+fn add_schema(schema: &Schema, answer: &mut Answer) -> Result<(), Fail> {
+    let mut lines = String::new(answer.alloc());
+    let copy = schema.copy()?;
+    add_line(&mut lines, &copy.name)?;
+    add_lines(&mut lines, copy.attributes.as_slice())?;
+    answer.text("wanted", lines.as_str())
+}
+
+/// Adds texts, and a line end behind each.
+pub fn add_lines(lines: &mut String, texts: &[Text]) -> Result<(), AllocError> {
+    for text in texts {
+        add_line(lines, text)?;
     }
-    Ok(lines)
+    Ok(())
 }
 
 /// Adds a text and a line end.
-pub fn add_line(lines: &mut String, text: &Text) -> Result<(), Fail> {
+pub fn add_line(lines: &mut String, text: &Text) -> Result<(), AllocError> {
     lines.push_str(text.as_str())?;
-    lines.push_str("\n")?;
-    Ok(())
+    lines.push_str("\n")
 }

@@ -1,75 +1,77 @@
 //! Sheets of master data.
-use crate::schemas::add_line;
+ghost use Rattle.master_rows.specs.Master.{IsMaster};
+
+use crate::schemas::{add_line, add_lines};
 use desk_base::Duplicate;
-use desk_cases::{Case, Part};
-use master_rows::{Master, SheetFault};
-use std::alloc::Global;
+use desk_cases::{Answer, Case};
+use master_rows::{Master, Outline, SheetFault};
+use std::alloc::AllocError;
 use std::test::Fail;
 
 /// The sheet that a copy of the master is printed as; or the fault, which its outline has to have too.
-pub fn sheet(alloc: Global, case: &Case) -> Result<Vec<Part>, Fail> {
-    let mut answer = Vec::new(alloc);
-    match Master::read(alloc, case.bytes("sheet")?) {
-        Ok(master) => {
-            let printed = master.copy()?.print()?;
-            answer.push(Part::new(alloc, "wanted", printed.as_slice())?)?;
-        }
+pub fn sheet(case: &Case, answer: &mut Answer) -> Result<(), Fail> {
+    match Master::read(answer.alloc(), case.bytes("sheet")?) {
+        Ok(master) => add_print(&master, answer),
         Err(fault) => {
-            if Master::outline(alloc, case.bytes("sheet")?).err() != Some(fault) {
+            if Master::outline(answer.alloc(), case.bytes("sheet")?).err() != Some(fault) {
                 return Err(Fail::new("the outline of a sheet has another fault"));
             }
-            answer.push(told(alloc, fault)?)?;
+            add_fault(fault, answer)
         }
     }
-    Ok(answer)
+}
+
+fn add_print(master: &Master, answer: &mut Answer) -> Result<(), Fail>
+    requires { IsMaster master.now }
+{
+    let copy = master.copy()?;
+    let printed = copy.print()?;
+    answer.bytes("wanted", printed.as_slice())
 }
 
 /// How many columns and rows the outline of the master has; or the fault.
-pub fn sheet_size(alloc: Global, case: &Case) -> Result<Vec<Part>, Fail> {
-    let mut answer = Vec::new(alloc);
-    match Master::outline(alloc, case.bytes("sheet")?) {
-        Ok(outline) => {
-            let columns = outline.columns.len();
-            let size = format!(in alloc; "{columns} columns, {} rows", outline.rows)?;
-            answer.push(Part::new(alloc, "wanted", size.as_str().as_bytes())?)?;
-        }
-        Err(fault) => answer.push(told(alloc, fault)?)?,
+pub fn sheet_size(case: &Case, answer: &mut Answer) -> Result<(), Fail> {
+    match Master::outline(answer.alloc(), case.bytes("sheet")?) {
+        Ok(outline) => add_size(&outline, answer),
+        Err(fault) => add_fault(fault, answer),
     }
-    Ok(answer)
+}
+
+fn add_size(outline: &Outline, answer: &mut Answer) -> Result<(), Fail> {
+    let columns = outline.columns.len();
+    let size = format!(in answer.alloc(); "{columns} columns, {} rows", outline.rows)?;
+    answer.text("wanted", size.as_str())
 }
 
 /// The columns of the master, and each cell with its row and column, counted from 1; or the fault.
-pub fn sheet_cells(alloc: Global, case: &Case) -> Result<Vec<Part>, Fail> {
-    let mut answer = Vec::new(alloc);
-    match Master::read(alloc, case.bytes("sheet")?) {
-        Ok(master) => {
-            let cells = cells(alloc, &master)?;
-            answer.push(Part::new(alloc, "wanted", cells.as_str().as_bytes())?)?;
-        }
-        Err(fault) => answer.push(told(alloc, fault)?)?,
+pub fn sheet_cells(case: &Case, answer: &mut Answer) -> Result<(), Fail> {
+    match Master::read(answer.alloc(), case.bytes("sheet")?) {
+        Ok(master) => add_cells(&master, answer),
+        Err(fault) => add_fault(fault, answer),
     }
-    Ok(answer)
 }
 
-fn cells(alloc: Global, master: &Master) -> Result<String, Fail> {
-    let mut lines = String::new(alloc);
-    for column in master.columns.as_slice() {
-        add_line(&mut lines, column)?;
-    }
+fn add_cells(master: &Master, answer: &mut Answer) -> Result<(), Fail> {
+    let mut lines = String::new(answer.alloc());
+    add_lines(&mut lines, master.columns.as_slice())?;
+    tell_cells(&mut lines, master)?;
+    answer.text("wanted", lines.as_str())
+}
+
+fn tell_cells(lines: &mut String, master: &Master) -> Result<(), AllocError> {
     for row in 0..master.grid.rows() {
         for column in 0..master.grid.columns() {
             let (row_number, column_number) = (u64::from(row) + 1, u64::from(column) + 1);
-            lines.push_str(format!(in alloc; "{row_number} {column_number} ")?.as_str())?;
-            add_line(&mut lines, master.grid.cell(row, column))?;
+            write!(lines, "{row_number} {column_number} ")?;
+            add_line(lines, master.grid.cell(row, column))?;
         }
     }
-    Ok(lines)
+    Ok(())
 }
 
-fn told(alloc: Global, fault: SheetFault) -> Result<Part, Fail> {
+fn add_fault(fault: SheetFault, answer: &mut Answer) -> Result<(), Fail> {
     if fault == SheetFault::NoMemory {
         return Err(Fail::new("there was no memory"));
     }
-    let fault = format!(in alloc; "{fault:?}")?;
-    Ok(Part::new(alloc, "wanted", fault.as_str().as_bytes())?)
+    answer.shown("wanted", &fault)
 }
