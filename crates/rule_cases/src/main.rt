@@ -7,7 +7,7 @@
 mod binding;
 mod texts;
 
-use desk_cases::{Case, Part, Subject, try_files};
+use desk_cases::{Answer, Case, Part, Subject, try_files};
 use std::alloc::Global;
 use std::test::Fail;
 
@@ -21,11 +21,18 @@ impl Subject for Rules {
     }
 
     fn answer(&mut self, alloc: Global, kind: &str, case: &Case) -> Result<Vec<Part>, Fail> {
-        match kind {
-            "read" => texts::answer(alloc, case),
-            "bind" => binding::answer(alloc, case),
-            _ => Err(Fail::new("a file of cases has an unknown kind")),
-        }
+        let mut answer = Answer::new(alloc);
+        add_answer(kind, case, &mut answer)?;
+        Ok(answer.into_parts())
+    }
+}
+
+/// Adds the answer to a case of this kind.
+fn add_answer(kind: &str, case: &Case, answer: &mut Answer) -> Result<(), Fail> {
+    match kind {
+        "read" => texts::told(case, answer),
+        "bind" => binding::told(case, answer),
+        _ => Err(Fail::new("a file of cases has an unknown kind")),
     }
 }
 

@@ -1,32 +1,45 @@
 //! Texts of rules over the attributes that a case lists.
 ghost use Rattle.std.specs.Prelude.{IfOk};
 ghost use Rattle.schema_core.specs.Schemas.{IsSchema};
+ghost use Rattle.rule_text.specs.Rulebooks.{IsRulebook};
 
 use desk_base::Duplicate;
-use desk_cases::{Case, Part};
-use rule_text::{RuleFault, Rulebook, print, read};
+use desk_cases::{Answer, Case};
+use rule_text::{Rulebook, print, read};
 use schema_core::Schema;
-use std::alloc::Global;
+use std::alloc::{AllocError, Global};
 use std::test::Fail;
 
 /// What the text reads as: a rulebook, whose copy is printed where the case has a print, or a fault.
-pub fn answer(alloc: Global, case: &Case) -> Result<Vec<Part>, Fail> {
-    let schema = schema_of(alloc, case)?;
-    let mut answer = Vec::new(alloc);
-    match read(alloc, case.bytes("text")?, &schema) {
-        Ok(rulebook) if case.part("printed").is_some() => {
-            let printed = print(alloc, &rulebook.copy()?, &schema)?;
-            answer.push(Part::new(alloc, "printed", printed.as_slice())?)?;
-        }
-        Ok(_) => answer.push(Part::new(alloc, "wanted", b"a rulebook")?)?,
-        Err(fault) => answer.push(fault_part(alloc, fault)?)?,
-    }
-    Ok(answer)
+pub fn told(case: &Case, answer: &mut Answer) -> Result<(), Fail> {
+    let schema = schema_of(answer.alloc(), case)?;
+    told_of(case, &schema, answer)
 }
 
-fn fault_part(alloc: Global, fault: RuleFault) -> Result<Part, Fail> {
-    let fault = format!(in alloc; "{fault:?}")?;
-    Ok(Part::new(alloc, "wanted", fault.as_str().as_bytes())?)
+fn told_of(case: &Case, schema: &Schema, answer: &mut Answer) -> Result<(), Fail>
+    requires { IsSchema schema.now }
+{
+    match read(answer.alloc(), case.bytes("text")?, schema) {
+        Ok(rulebook) => add_rulebook(case, schema, &rulebook, answer),
+        Err(fault) => answer.shown("wanted", &fault),
+    }
+}
+
+fn add_rulebook(
+    case: &Case,
+    schema: &Schema,
+    rulebook: &Rulebook,
+    answer: &mut Answer,
+) -> Result<(), Fail>
+    requires schema { IsSchema schema.now }
+    requires rulebook { IsRulebook schema.now rulebook.now }
+{
+    if case.part("printed").is_none() {
+        return answer.text("wanted", "a rulebook");
+    }
+    let copy = rulebook.copy()?;
+    let printed = print(answer.alloc(), &copy, schema)?;
+    answer.bytes("printed", printed.as_slice())
 }
 
 /// The schema of the attributes of a case, which are parted by blanks.
@@ -36,11 +49,16 @@ fn schema_of(alloc: Global, case: &Case) -> Result<Schema, Fail>
     let Some(words) = case.text("attributes") else {
         return Err(Fail::new("a case has no attributes"));
     };
-    let mut text = String::from_str(alloc, "name = \"person\"\nattributes = [")?;
-    for word in words.split(' ') {
-        let item = format!(in alloc; "\"{word}\",")?;
-        text.push_str(item.as_str())?;
-    }
-    text.push_str("]\n")?;
+    let mut text = String::new(alloc);
+    tell(&mut text, words)?;
     Ok(Schema::read(alloc, text.as_bytes())?)
+}
+
+/// The text of a schema with these attributes.
+fn tell(text: &mut String, attributes: &str) -> Result<(), AllocError> {
+    text.push_str("name = \"person\"\nattributes = [")?;
+    for word in attributes.split(' ') {
+        write!(text, "\"{word}\",")?;
+    }
+    text.push_str("]\n")
 }
