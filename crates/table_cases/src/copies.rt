@@ -5,7 +5,7 @@ ghost use Rattle.desk_valid.specs.Valid.{AreValid};
 use crate::judging::are_tables;
 use crate::rows::tables;
 use desk_base::{Duplicate, List, Room, Text};
-use desk_cases::Case;
+use desk_cases::{Answer, Case};
 use desk_valid::{Bound, kit_of, valid};
 use desk_words::{
     BatchRow, Change, ClerkRow, EditionRow, MasterRow, RecordRow, RegionRow, RulebookRow,
@@ -17,13 +17,16 @@ use std::fmt::Debug;
 use std::test::Fail;
 
 /// `copied`, where each copy shows what its origin shows.
-pub fn told(alloc: Global, case: &Case) -> Result<String, Fail> {
-    let tables = tables(alloc, case)?;
-    told_of(alloc, &tables)
+pub fn told(case: &Case, answer: &mut Answer) -> Result<(), Fail> {
+    let tables = tables(answer.alloc(), case)?;
+    let tried = try_all(answer.alloc(), &tables);
+    drop(tables);
+    tried?;
+    answer.text("wanted", "copied")
 }
 
-/// `copied`, where these are valid tables, and each copy out of them shows what its origin shows.
-fn told_of(alloc: Global, tables: &Tables) -> Result<String, Fail> {
+/// Fails where these are no valid tables, or a copy out of them shows otherwise than its origin.
+fn try_all(alloc: Global, tables: &Tables) -> Result<(), Fail> {
     if !are_tables(tables) {
         return Err(Fail::new("the rows of a case are no tables"));
     }
@@ -31,18 +34,23 @@ fn told_of(alloc: Global, tables: &Tables) -> Result<String, Fail> {
         return Err(Fail::new("the tables of a case are not valid"));
     }
     try_tables(alloc, tables)?;
-    try_kits(alloc, tables)?;
-    Ok(String::from_str(alloc, "copied")?)
+    try_kits(alloc, tables)
 }
 
 /// Fails where a copy shows otherwise.
 fn is_copied<T: Duplicate + Debug + Drop>(alloc: Global, origin: &T) -> Result<(), Fail> {
-    let shown = format!(in alloc; "{origin:?}")?;
     let copy = origin.copy()?;
-    if format!(in alloc; "{copy:?}")?.as_str() != shown.as_str() {
-        return Err(Fail::new("a copy shows otherwise"));
+    let shown = format!(in alloc; "{copy:?}")?;
+    if shows(alloc, origin, shown.as_str())? {
+        Ok(())
+    } else {
+        Err(Fail::new("a copy shows otherwise"))
     }
-    Ok(())
+}
+
+fn shows<T: Debug>(alloc: Global, value: &T, wanted: &str) -> Result<bool, Fail> {
+    let shown = format!(in alloc; "{value:?}")?;
+    Ok(shown.as_str() == wanted)
 }
 
 /// Fails where a copy of what is handed over shows otherwise.

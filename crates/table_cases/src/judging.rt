@@ -4,30 +4,34 @@ ghost use Rattle.desk_words.specs.Tables.{AreListsOf, AreTables, lists_of, rows_
 
 use crate::rows::tables;
 use desk_base::Room;
-use desk_cases::Case;
+use desk_cases::{Answer, Case};
 use desk_valid::{Bad, Damage, valid};
 use desk_words::Tables;
-use std::alloc::Global;
 use std::test::Fail;
 
 /// `valid`, or the table and the row of the first damage.
-pub fn found(alloc: Global, case: &Case) -> Result<String, Fail> {
-    let tables = tables(alloc, case)?;
-    found_in(alloc, &tables)
+pub fn told(case: &Case, answer: &mut Answer) -> Result<(), Fail> {
+    let tables = tables(answer.alloc(), case)?;
+    let told = told_of(&tables, answer);
+    drop(tables);
+    told
 }
 
 /// `valid`, or the first damage of these tables.
-fn found_in(alloc: Global, tables: &Tables) -> Result<String, Fail> {
+fn told_of(tables: &Tables, answer: &mut Answer) -> Result<(), Fail> {
     if !are_tables(tables) {
         return Err(Fail::new("the rows of a case are no tables"));
     }
-    match valid(alloc, tables) {
-        Ok(()) => Ok(String::from_str(alloc, "valid")?),
-        Err(Bad::Damaged(Damage { table, row })) => {
-            Ok(format!(in alloc; "table {table} row {row}")?)
-        }
+    match valid(answer.alloc(), tables) {
+        Ok(()) => answer.text("wanted", "valid"),
+        Err(Bad::Damaged(damage)) => add_damage(damage, answer),
         Err(Bad::NoMemory) => Err(Fail::new("there was no memory")),
     }
+}
+
+fn add_damage(damage: Damage, answer: &mut Answer) -> Result<(), Fail> {
+    let text = format!(in answer.alloc(); "table {} row {}", damage.table, damage.row)?;
+    answer.text("wanted", text.as_str())
 }
 
 /// The most rows of a list in a case.

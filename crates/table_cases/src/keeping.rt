@@ -2,7 +2,7 @@
 use crate::judging::are_tables;
 use crate::rows::tables;
 use desk_base::{List, Text};
-use desk_cases::Case;
+use desk_cases::{Answer, Case};
 use desk_words::{Change, ClerkRow, Tables};
 use keeper_core::{KeepFail, Keeper, MemKeeper};
 use std::alloc::Global;
@@ -10,20 +10,35 @@ use std::test::Fail;
 
 /// What the calls of a case answer, with a space between: `failed`, `done` for a commit, and for a load the number of
 /// the steward's last request in the tables that were loaded. The k-th call, where it commits, makes that number k.
-pub fn answers(alloc: Global, case: &Case) -> Result<String, Fail> {
-    let mut keeper = keeper(alloc, case)?;
-    answers_of(alloc, &mut keeper, case.text("calls").unwrap_or(""))
+pub fn told(case: &Case, answer: &mut Answer) -> Result<(), Fail> {
+    let mut keeper = keeper(answer.alloc(), case)?;
+    let told = add_answers(&mut keeper, case.text("calls").unwrap_or(""), answer);
+    drop(keeper);
+    told
 }
 
 /// What a keeper answers to these calls.
-fn answers_of(alloc: Global, keeper: &mut MemKeeper, calls: &str) -> Result<String, Fail> {
-    let mut answers = String::new(alloc);
+fn add_answers(keeper: &mut MemKeeper, calls: &str, answer: &mut Answer) -> Result<(), Fail> {
+    let mut answers = String::new(answer.alloc());
+    tell_all(&mut answers, keeper, calls, answer.alloc())?;
+    answer.text("wanted", answers.as_str())
+}
+
+fn tell_all(
+    answers: &mut String,
+    keeper: &mut MemKeeper,
+    calls: &str,
+    alloc: Global,
+) -> Result<(), Fail> {
     let mut number = 0u64;
     for call in calls.split_whitespace() {
         number = number.saturating_add(1);
-        tell(alloc, &mut answers, keeper, call, number)?;
+        if number > 1 {
+            answers.push_str(" ")?;
+        }
+        tell(answers, keeper, call, number, alloc)?;
     }
-    Ok(answers)
+    Ok(())
 }
 
 /// The keeper of a case, with its tables.
@@ -31,27 +46,11 @@ fn keeper(alloc: Global, case: &Case) -> Result<MemKeeper, Fail> {
     let (calls, faults) = (count(alloc, case, "made")?, count(alloc, case, "failed")?);
     let fails = List::from_vec(case.numbers(alloc, "fails")?);
     let tables = tables(alloc, case)?;
-    if are_tables(&tables) {
-        Ok(MemKeeper::after_calls(tables, fails, calls, faults))
-    } else {
-        Err(Fail::new("the rows of a case are no tables"))
+    if !are_tables(&tables) {
+        drop(tables);
+        return Err(Fail::new("the rows of a case are no tables"));
     }
-}
-
-/// Tells what a call answers behind the others.
-fn tell(
-    alloc: Global,
-    answers: &mut String,
-    keeper: &mut MemKeeper,
-    call: &str,
-    number: u64,
-) -> Result<(), Fail> {
-    let answer = answer(alloc, keeper, call, number)?;
-    if number > 1 {
-        answers.push_str(" ")?;
-    }
-    answers.push_str(answer.as_str())?;
-    Ok(())
+    Ok(MemKeeper::after_calls(tables, fails, calls, faults))
 }
 
 /// How many calls were made or failed before those of the case, none where it doesn't say.
@@ -62,46 +61,59 @@ fn count(alloc: Global, case: &Case, name: &str) -> Result<u64, Fail> {
     }
 }
 
-/// What a call answers.
-fn answer(alloc: Global, keeper: &mut MemKeeper, call: &str, number: u64) -> Result<String, Fail> {
+/// Tells what a call answers.
+fn tell(
+    answers: &mut String,
+    keeper: &mut MemKeeper,
+    call: &str,
+    number: u64,
+    alloc: Global,
+) -> Result<(), Fail> {
     match call {
-        "load" => loaded(alloc, keeper),
-        "commit" => committed(alloc, keeper, number),
+        "load" => load(answers, keeper),
+        "commit" => commit(answers, keeper, number, alloc),
         _ => Err(Fail::new("a keeper has no such call")),
     }
 }
 
-fn loaded(alloc: Global, keeper: &mut MemKeeper) -> Result<String, Fail> {
+fn load(answers: &mut String, keeper: &mut MemKeeper) -> Result<(), Fail> {
     match keeper.load() {
-        Ok(tables) => last(alloc, &tables),
-        Err(fail) => failed(alloc, fail),
+        Ok(tables) => {
+            let last = last_of(&tables);
+            drop(tables);
+            Ok(write!(answers, "{last}")?)
+        }
+        Err(fail) => tell_failed(answers, fail),
     }
 }
 
 /// The number of the steward's last request in these tables.
-fn last(alloc: Global, tables: &Tables) -> Result<String, Fail> {
-    let last = tables
-        .clerks
-        .as_slice()
-        .first()
-        .map_or(0, |steward| steward.last);
-    Ok(format!(in alloc; "{last}")?)
+fn last_of(tables: &Tables) -> u64 {
+    let steward = tables.clerks.as_slice().first();
+    steward.map_or(0, |steward| steward.last)
 }
 
-fn committed(alloc: Global, keeper: &mut MemKeeper, number: u64) -> Result<String, Fail> {
+fn commit(
+    answers: &mut String,
+    keeper: &mut MemKeeper,
+    number: u64,
+    alloc: Global,
+) -> Result<(), Fail> {
     let mut steward = ClerkRow::new(Text::of(alloc, "steward")?);
     steward.last = number;
     let mut changes = List::new(alloc);
     changes.push(Change::Clerk(0, steward))?;
-    match keeper.commit(&changes) {
-        Ok(()) => Ok(String::from_str(alloc, "done")?),
-        Err(fail) => failed(alloc, fail),
+    let committed = keeper.commit(&changes);
+    drop(changes);
+    match committed {
+        Ok(()) => Ok(answers.push_str("done")?),
+        Err(fail) => tell_failed(answers, fail),
     }
 }
 
-fn failed(alloc: Global, fail: KeepFail) -> Result<String, Fail> {
+fn tell_failed(answers: &mut String, fail: KeepFail) -> Result<(), Fail> {
     match fail {
-        KeepFail::Failed => Ok(String::from_str(alloc, "failed")?),
+        KeepFail::Failed => Ok(answers.push_str("failed")?),
         KeepFail::NoMemory => Err(Fail::new("there was no memory")),
     }
 }

@@ -11,7 +11,7 @@ mod keeping;
 mod own;
 mod rows;
 
-use desk_cases::{Case, Part, Subject, try_files};
+use desk_cases::{Answer, Case, Part, Subject, try_files};
 use std::alloc::Global;
 use std::test::Fail;
 
@@ -25,15 +25,19 @@ impl Subject for Desk {
     }
 
     fn answer(&mut self, alloc: Global, kind: &str, case: &Case) -> Result<Vec<Part>, Fail> {
-        let found = match kind {
-            "tables" => judging::found(alloc, case)?,
-            "copies" => copies::told(alloc, case)?,
-            "keeper" => keeping::answers(alloc, case)?,
-            _ => return Err(Fail::new("a file of cases has an unknown kind")),
-        };
-        let mut answer = Vec::new(alloc);
-        answer.push(Part::new(alloc, "wanted", found.as_str().as_bytes())?)?;
-        Ok(answer)
+        let mut answer = Answer::new(alloc);
+        add_answer(kind, case, &mut answer)?;
+        Ok(answer.into_parts())
+    }
+}
+
+/// Adds the answer to a case of this kind.
+fn add_answer(kind: &str, case: &Case, answer: &mut Answer) -> Result<(), Fail> {
+    match kind {
+        "tables" => judging::told(case, answer),
+        "copies" => copies::told(case, answer),
+        "keeper" => keeping::told(case, answer),
+        _ => Err(Fail::new("a file of cases has an unknown kind")),
     }
 }
 

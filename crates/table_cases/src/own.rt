@@ -32,12 +32,15 @@ fn session(alloc: Global, line: &str) -> Result<SessionRow, Fail> {
     let (typed, line) = field(line)?;
     let (confirmed, line) = field(line)?;
     let (reached, batch) = field(line)?;
+    let (edition, stage, batch) = (number(edition)?, stage(reached)?, number(batch)?);
+    let typed = texts(alloc, typed)?;
+    let confirmed = flags(alloc, confirmed)?;
     Ok(SessionRow {
-        edition: number(edition)?,
-        typed: texts(alloc, typed)?,
-        confirmed: flags(alloc, confirmed)?,
-        stage: stage(reached)?,
-        batch: number(batch)?,
+        edition,
+        typed,
+        confirmed,
+        stage,
+        batch,
     })
 }
 

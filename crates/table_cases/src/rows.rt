@@ -1,7 +1,7 @@
 //! The rows of the first six tables.
 use crate::fields::{act, attributes, body, field, number, numbers, text, texts};
 use crate::own::own_row;
-use desk_base::{List, Room};
+use desk_base::{List, Room, Text};
 use desk_cases::Case;
 use desk_words::{
     ClerkRow, Digest, EditionRow, MasterRow, RegionRow, RulebookRow, SchemaRow, Tables,
@@ -24,8 +24,13 @@ pub fn tables(alloc: Global, case: &Case) -> Result<Tables, Fail> {
         records: Room::new(alloc),
         batches: Room::new(alloc),
     };
-    fill(alloc, &mut tables, case)?;
-    Ok(tables)
+    match fill(alloc, &mut tables, case) {
+        Ok(()) => Ok(tables),
+        Err(fail) => {
+            drop(tables);
+            Err(fail)
+        }
+    }
 }
 
 /// Puts each row of a case into its table.
@@ -70,12 +75,14 @@ fn clerk_row(alloc: Global, line: &str) -> Result<ClerkRow, Fail> {
     let (Ok(last), Ok(byte)) = (last.parse(), byte.parse()) else {
         return Err(Fail::new("a clerk has a field that is no number"));
     };
+    let (act, target) = (act(done)?, number(target)?);
+    let name = text(alloc, name)?;
     Ok(ClerkRow {
-        name: text(alloc, name)?,
+        name,
         last,
         digest: Digest { bytes: [byte; 32] },
-        act: act(done)?,
-        target: number(target)?,
+        act,
+        target,
     })
 }
 
@@ -83,9 +90,10 @@ fn clerk_row(alloc: Global, line: &str) -> Result<ClerkRow, Fail> {
 fn schema(alloc: Global, tables: &mut Tables, line: &str) -> Result<(), Fail> {
     let (name, line) = field(line)?;
     let (version, rest) = field(line)?;
+    let version = number(version)?;
     let row = SchemaRow {
         name: text(alloc, name)?,
-        version: number(version)?,
+        version,
         body: body(alloc, rest)?,
     };
     tables.schemas.push(row)?;
@@ -96,9 +104,10 @@ fn schema(alloc: Global, tables: &mut Tables, line: &str) -> Result<(), Fail> {
 fn master(alloc: Global, tables: &mut Tables, line: &str) -> Result<(), Fail> {
     let (name, line) = field(line)?;
     let (version, rest) = field(line)?;
+    let version = number(version)?;
     let row = MasterRow {
         name: text(alloc, name)?,
-        version: number(version)?,
+        version,
         body: body(alloc, rest)?,
     };
     tables.masters.push(row)?;
@@ -110,10 +119,11 @@ fn rulebook(alloc: Global, tables: &mut Tables, line: &str) -> Result<(), Fail> 
     let (name, line) = field(line)?;
     let (version, line) = field(line)?;
     let (schema, rest) = field(line)?;
+    let (version, schema) = (number(version)?, number(schema)?);
     let row = RulebookRow {
         name: text(alloc, name)?,
-        version: number(version)?,
-        schema: number(schema)?,
+        version,
+        schema,
         body: body(alloc, rest)?,
     };
     tables.rulebooks.push(row)?;
@@ -126,10 +136,11 @@ fn edition(alloc: Global, tables: &mut Tables, line: &str) -> Result<(), Fail> {
     let (version, line) = field(line)?;
     let (rulebook, line) = field(line)?;
     let (masters, folded) = field(line)?;
+    let (version, rulebook) = (number(version)?, number(rulebook)?);
     let row = EditionRow {
         name: text(alloc, name)?,
-        version: number(version)?,
-        rulebook: number(rulebook)?,
+        version,
+        rulebook,
         masters: numbers(alloc, masters)?,
         folded: attributes(alloc, folded)?,
     };
@@ -141,17 +152,19 @@ fn edition(alloc: Global, tables: &mut Tables, line: &str) -> Result<(), Fail> {
 fn region(alloc: Global, tables: &mut Tables, line: &str) -> Result<(), Fail> {
     let (edition, line) = field(line)?;
     let (attrs, tableau) = field(line)?;
+    let edition = number(edition)?;
+    let region = Region {
+        attrs: attributes(alloc, attrs)?,
+        rows: tableau_of(alloc, tableau)?,
+    };
+    tables.regions.push(RegionRow { edition, region })?;
+    Ok(())
+}
+
+fn tableau_of(alloc: Global, tableau: &str) -> Result<List<List<Text>>, Fail> {
     let mut rows = List::new(alloc);
     for row in tableau.split("|") {
         rows.push(texts(alloc, row)?)?;
     }
-    let row = RegionRow {
-        edition: number(edition)?,
-        region: Region {
-            attrs: attributes(alloc, attrs)?,
-            rows,
-        },
-    };
-    tables.regions.push(row)?;
-    Ok(())
+    Ok(rows)
 }
