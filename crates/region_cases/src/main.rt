@@ -12,7 +12,7 @@ mod runs;
 mod steps;
 mod telling;
 
-use desk_cases::{Case, Part, Subject, try_files};
+use desk_cases::{Answer, Case, Part, Subject, try_files};
 use std::alloc::Global;
 use std::test::Fail;
 
@@ -29,13 +29,20 @@ impl Subject for Suggester {
     }
 
     fn answer(&mut self, alloc: Global, kind: &str, case: &Case) -> Result<Vec<Part>, Fail> {
-        match kind {
-            "reason" => reasons::told(alloc, case),
-            "region" => telling::told(alloc, case),
-            "run" => runs::told(alloc, case),
-            "step" => steps::told(alloc, case),
-            _ => Err(Fail::new("a file of cases has an unknown kind")),
-        }
+        let mut answer = Answer::new(alloc);
+        add_answer(kind, case, &mut answer)?;
+        Ok(answer.into_parts())
+    }
+}
+
+/// Adds the answer to a case of this kind.
+fn add_answer(kind: &str, case: &Case, answer: &mut Answer) -> Result<(), Fail> {
+    match kind {
+        "reason" => reasons::told(case, answer),
+        "region" => telling::told(case, answer),
+        "run" => runs::told(case, answer),
+        "step" => steps::told(case, answer),
+        _ => Err(Fail::new("a file of cases has an unknown kind")),
     }
 }
 

@@ -5,53 +5,46 @@ ghost use Rattle.fix_model.specs.States.{Fits};
 ghost use Rattle.fix_explain.specs.Reasons.{IsFixed};
 
 use crate::record::record_of;
-use crate::runs::steps;
-use crate::telling::{or_none, word, work_for};
+use crate::runs::add_steps;
+use crate::telling::{add_words, work_for};
 use case_json::Case as Record;
-use desk_base::{Duplicate, List, Steps, Text, place_of};
-use desk_cases::{Case, Part};
+use desk_base::{Duplicate, Steps, Text, place_of};
+use desk_cases::{Answer, Case};
 use fix_engine::{apply, least};
 use fix_explain::{reason, uses};
 use fix_model::{ListBook, State, Step};
-use std::alloc::Global;
 use std::test::Fail;
 
-/// The steps of a reason and the attributes that they use.
-#[derive(Drop)]
-struct Explanation {
-    steps: List<Step>,
-    uses: List<u16>,
-}
-
 /// The steps of the reason and the attributes that they use, or that the attribute is not fixed.
-pub fn told(alloc: Global, case: &Case) -> Result<Vec<Part>, Fail> {
+pub fn told(case: &Case, answer: &mut Answer) -> Result<(), Fail> {
     let Record {
         attributes,
         kit,
-        state,
-    } = record_of(alloc, case)?;
+        mut state,
+    } = record_of(answer.alloc(), case)?;
     reasoned(
-        alloc,
         case,
         attributes.as_slice(),
         &ListBook::new(kit),
-        state,
+        &mut state,
+        answer,
     )
 }
 
 /// The same of the attribute that the case names, over a book.
 fn reasoned(
-    alloc: Global,
     case: &Case,
     attributes: &[Text],
     book: &ListBook,
-    state: State,
-) -> Result<Vec<Part>, Fail>
-    requires { Fits book.now state }
+    state: &mut State,
+    answer: &mut Answer,
+) -> Result<(), Fail>
+    requires { Fits book.now state.old }
 {
     let attribute = attribute_of(case, attributes)?;
-    let explained = explained(alloc, book, state, attribute)?;
-    parts(alloc, attributes, explained)
+    let mut work = work_for(answer.alloc(), book)?;
+    least::<(), ListBook>(&mut work, book, state, &mut Steps::new(()));
+    explained(attributes, book, state, work.first(), attribute, answer)
 }
 
 /// The attribute that the case names.
@@ -65,23 +58,25 @@ fn attribute_of(case: &Case, attributes: &[Text]) -> Result<u16, Fail> {
     }
 }
 
-/// Why the first run from the state fixes the attribute, or none where it does not.
+/// Why the first run from the state fixes the attribute, or that it does not.
 fn explained(
-    alloc: Global,
+    attributes: &[Text],
     book: &ListBook,
-    mut state: State,
+    state: &State,
+    run: &[Step],
     attribute: u16,
-) -> Result<Option<Explanation>, Fail>
-    requires { Fits book.now state }
+    answer: &mut Answer,
+) -> Result<(), Fail>
+    requires fits { Fits book.now state.now }
+    requires run { IsRun book.now state.now run.now }
 {
-    let mut work = work_for(alloc, book)?;
-    least::<(), ListBook>(&mut work, book, &mut state, &mut Steps::new(()));
-    if !is_fixed(book, &state, work.first(), attribute)? {
-        return Ok(None);
+    if !is_fixed(book, state, run, attribute)? {
+        return answer.text("reason", "not fixed");
     }
-    let steps = reason::<(), ListBook>(alloc, book, &state, work.first(), attribute)?;
-    let uses = uses::<(), ListBook>(alloc, book, &state, steps.as_slice())?;
-    Ok(Some(Explanation { steps, uses }))
+    let steps = reason::<(), ListBook>(answer.alloc(), book, state, run, attribute)?;
+    add_steps("reason", steps.as_slice(), answer)?;
+    let uses = uses::<(), ListBook>(answer.alloc(), book, state, steps.as_slice())?;
+    add_words("uses", attributes, uses.as_slice(), answer)
 }
 
 /// Whether the run fixes the attribute.
@@ -93,32 +88,4 @@ fn is_fixed(book: &ListBook, state: &State, run: &[Step], attribute: u16) -> Res
     let mut end = state.copy()?;
     apply::<(), ListBook>(book, &mut end, run);
     Ok(end.fixed_by(attribute).is_some())
-}
-
-/// What was explained, in parts.
-fn parts(
-    alloc: Global,
-    attributes: &[Text],
-    explained: Option<Explanation>,
-) -> Result<Vec<Part>, Fail> {
-    let mut parts = Vec::new(alloc);
-    let Some(explained) = explained else {
-        parts.push(Part::new(alloc, "reason", b"not fixed")?)?;
-        return Ok(parts);
-    };
-    let told = steps(alloc, explained.steps.as_slice())?;
-    let words = words(alloc, attributes, explained.uses.as_slice())?;
-    parts.push(Part::new(alloc, "reason", or_none(told.as_str()).as_bytes())?)?;
-    parts.push(Part::new(alloc, "uses", or_none(words.as_str()).as_bytes())?)?;
-    Ok(parts)
-}
-
-/// The words of attributes, each behind a space.
-fn words(alloc: Global, attributes: &[Text], listed: &[u16]) -> Result<String, Fail> {
-    let mut line = String::new(alloc);
-    for attribute in listed {
-        line.push_str(" ")?;
-        line.push_str(word(attributes, *attribute))?;
-    }
-    Ok(line)
 }

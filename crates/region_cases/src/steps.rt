@@ -6,24 +6,30 @@ ghost use Rattle.fix_model.specs.Valid.{IsValid};
 use crate::record::record_of;
 use case_json::Case as Record;
 use desk_base::Steps;
-use desk_cases::{Case, Part};
+use desk_cases::{Answer, Case};
 use fix_model::{Book, ListBook, Step, fires};
 use std::alloc::Global;
 use std::test::Fail;
 
 /// Whether the step of the case fires, and whether some row agrees with the record at the rule's covered keys.
-pub fn told(alloc: Global, case: &Case) -> Result<Vec<Part>, Fail> {
-    let step = step(alloc, case)?;
-    let record = record_of(alloc, case)?;
-    if usize::from(step.rule) >= record.kit.rules.len() {
+pub fn told(case: &Case, answer: &mut Answer) -> Result<(), Fail> {
+    let step = step(answer.alloc(), case)?;
+    let record = record_of(answer.alloc(), case)?;
+    told_of(record, step, answer)
+}
+
+/// The same of a record.
+fn told_of(given: Record, step: Step, answer: &mut Answer) -> Result<(), Fail>
+    requires valid { IsValid given.kit }
+    requires fits { Fits given.kit given.state }
+{
+    if usize::from(step.rule) >= given.kit.rules.len() {
         return Err(Fail::new("the step is by no rule"));
     }
-    let is_made = fires(&record.kit, &record.state, step);
-    let agrees = agrees(record, step.rule);
-    let mut parts = Vec::new(alloc);
-    parts.push(Part::truth(alloc, "fires", is_made)?)?;
-    parts.push(Part::truth(alloc, "agrees", agrees)?)?;
-    Ok(parts)
+    let is_made = fires(&given.kit, &given.state, step);
+    let agrees = agrees(given, step.rule);
+    answer.truth("fires", is_made)?;
+    answer.truth("agrees", agrees)
 }
 
 /// Whether some row agrees with the record at the rule's covered keys.

@@ -9,23 +9,23 @@ use crate::record::record_of;
 use crate::regions::{are_regions_of, regions_of};
 use case_json::Case as Record;
 use desk_base::{List, Steps, Text};
-use desk_cases::{Case, Part};
+use desk_cases::{Answer, Case};
 use fix_engine::Work;
 use fix_model::{Book, ListBook, Region, RowVerdict, State};
 use region_suggest::{Suggestion, check, suggest};
-use std::alloc::Global;
+use std::alloc::{AllocError, Global};
 use std::test::Fail;
 
 /// The verdicts of the rows of each region, the rows that are offered, and the attributes that are needed and what each
 /// is hoped to gain.
-pub fn told(alloc: Global, case: &Case) -> Result<Vec<Part>, Fail> {
-    let record = record_of(alloc, case)?;
-    let regions = regions_of(alloc, case, record.attributes.as_slice())?;
-    told_of(alloc, record, regions.as_slice())
+pub fn told(case: &Case, answer: &mut Answer) -> Result<(), Fail> {
+    let record = record_of(answer.alloc(), case)?;
+    let regions = regions_of(answer.alloc(), case, record.attributes.as_slice())?;
+    told_of(record, regions.as_slice(), answer)
 }
 
 /// The same of a record and regions.
-fn told_of(alloc: Global, given: Record, regions: &[Region]) -> Result<Vec<Part>, Fail>
+fn told_of(given: Record, regions: &[Region], answer: &mut Answer) -> Result<(), Fail>
     requires valid { IsValid given.kit }
     requires fits { Fits given.kit given.state }
 {
@@ -35,80 +35,110 @@ fn told_of(alloc: Global, given: Record, regions: &[Region]) -> Result<Vec<Part>
     let Record {
         attributes,
         kit,
-        state,
+        mut state,
     } = given;
     told_over(
-        alloc,
         attributes.as_slice(),
         &ListBook::new(kit),
-        state,
+        &mut state,
         regions,
+        answer,
     )
 }
 
 /// The same over a book.
 fn told_over(
-    alloc: Global,
     attributes: &[Text],
     book: &ListBook,
-    state: State,
+    state: &mut State,
     regions: &[Region],
-) -> Result<Vec<Part>, Fail>
-    requires fits { Fits book.now state }
+    answer: &mut Answer,
+) -> Result<(), Fail>
+    requires fits { Fits book.now state.old }
     requires regions { All (IsRegionOf book.now) regions.now }
     requires few { length regions.now < 2 ^ 32 }
     requires few_rows { All (λ region. length region.rows < 2 ^ 32) regions.now }
 {
-    let verdicts = verdicts(alloc, book, regions)?;
-    let suggestion = suggestion(alloc, book, state, regions)?;
-    parts(alloc, attributes, verdicts, &suggestion)
+    add_verdicts(book, regions, answer)?;
+    let suggestion = suggestion(answer.alloc(), book, state, regions)?;
+    add_suggestion(attributes, &suggestion, answer)
 }
 
-/// The verdicts of the rows of all regions, a line a region.
-fn verdicts(alloc: Global, book: &ListBook, regions: &[Region]) -> Result<String, Fail>
+/// Adds the verdicts of the rows of all regions, a line a region.
+fn add_verdicts(book: &ListBook, regions: &[Region], answer: &mut Answer) -> Result<(), Fail>
     requires { All (IsRegionOf book.now) regions.now }
 {
-    let mut lines = String::new(alloc);
+    let mut lines = String::new(answer.alloc());
+    tell_all(&mut lines, book, regions, answer.alloc())?;
+    answer.text("verdicts", lines.as_str())
+}
+
+fn tell_all(
+    lines: &mut String,
+    book: &ListBook,
+    regions: &[Region],
+    alloc: Global,
+) -> Result<(), Fail>
+    requires { All (IsRegionOf book.now) regions.now }
+{
     'regions: for region in regions {
-        lines.push_str(or_none(line(alloc, book, region)?.as_str()))?;
-        lines.push_str("\n")?;
+        tell_region(lines, book, region, alloc)?;
     }
-    Ok(lines)
+    Ok(())
 }
 
 /// The verdicts of the rows of a region.
-fn line(alloc: Global, book: &ListBook, region: &Region) -> Result<String, Fail>
+fn tell_region(
+    lines: &mut String,
+    book: &ListBook,
+    region: &Region,
+    alloc: Global,
+) -> Result<(), Fail>
+    requires { IsRegionOf book.now region.now }
+{
+    let verdicts = verdicts(alloc, book, region)?;
+    tell_verdicts(lines, verdicts.as_slice())
+}
+
+fn verdicts(alloc: Global, book: &ListBook, region: &Region) -> Result<List<RowVerdict>, Fail>
     requires { IsRegionOf book.now region.now }
 {
     let mut work = work_for(alloc, book)?;
-    let mut counts = Steps::new(());
-    let verdicts = check::<(), ListBook>(alloc, &mut work, book, region, &mut counts)?;
-    let mut line = String::new(alloc);
-    for verdict in verdicts.as_slice() {
-        line.push_str(match verdict {
-            RowVerdict::Certain => " certain",
-            RowVerdict::Partial => " partial",
-            RowVerdict::Conflict => " conflict",
+    Ok(check::<(), ListBook>(alloc, &mut work, book, region, &mut Steps::new(()))?)
+}
+
+fn tell_verdicts(lines: &mut String, verdicts: &[RowVerdict]) -> Result<(), Fail> {
+    let mut between = "";
+    for verdict in verdicts {
+        lines.push_str(between)?;
+        lines.push_str(match verdict {
+            RowVerdict::Certain => "certain",
+            RowVerdict::Partial => "partial",
+            RowVerdict::Conflict => "conflict",
         })?;
+        between = " ";
     }
-    Ok(line)
+    if verdicts.is_empty() {
+        lines.push_str("none")?;
+    }
+    Ok(lines.push_str("\n")?)
 }
 
 /// What is suggested for the record.
 fn suggestion(
     alloc: Global,
     book: &ListBook,
-    mut state: State,
+    state: &mut State,
     regions: &[Region],
 ) -> Result<Suggestion, Fail>
-    requires fits { Fits book.now state }
+    requires fits { Fits book.now state.old }
     requires regions { All (IsRegionOf book.now) regions.now }
     requires few { length regions.now < 2 ^ 32 }
     requires few_rows { All (λ region. length region.rows < 2 ^ 32) regions.now }
 {
     let mut work = work_for(alloc, book)?;
     let mut counts = Steps::new(());
-    Ok(suggest::<(), ListBook>(alloc, &mut work, book, &mut state, regions, &mut counts)?)
+    Ok(suggest::<(), ListBook>(alloc, &mut work, book, state, regions, &mut counts)?)
 }
 
 /// Room for work over the book.
@@ -129,43 +159,57 @@ pub fn or_none(words: &str) -> &str {
 }
 
 /// The word of an attribute.
-pub fn word(attributes: &[Text], attribute: u16) -> &str {
+fn word(attributes: &[Text], attribute: u16) -> &str {
     match attributes.get(usize::from(attribute)) {
         Some(word) => word.as_str(),
         None => "?",
     }
 }
 
-/// What was told, in parts.
-fn parts(
-    alloc: Global,
-    attributes: &[Text],
-    verdicts: String,
-    suggestion: &Suggestion,
-) -> Result<Vec<Part>, Fail> {
-    let mut offers = String::new(alloc);
-    for (region, row) in suggestion.regions.as_slice() {
-        offers.push_str(format!(in alloc; " {region}/{row}")?.as_str())?;
-    }
-    let mut need = String::new(alloc);
-    for attribute in suggestion.need.as_slice() {
-        need.push_str(" ")?;
-        need.push_str(word(attributes, *attribute))?;
-    }
-    let gains = gains(alloc, attributes, &suggestion.gains)?;
-    let mut parts = Vec::new(alloc);
-    parts.push(Part::new(alloc, "verdicts", verdicts.as_bytes())?)?;
-    parts.push(Part::new(alloc, "offers", or_none(offers.as_str()).as_bytes())?)?;
-    parts.push(Part::new(alloc, "need", or_none(need.as_str()).as_bytes())?)?;
-    parts.push(Part::new(alloc, "gains", or_none(gains.as_str()).as_bytes())?)?;
-    Ok(parts)
+/// Adds the word of an attribute behind a space.
+pub fn add_word(line: &mut String, attributes: &[Text], attribute: u16) -> Result<(), AllocError> {
+    line.push_str(" ")?;
+    line.push_str(word(attributes, attribute))
 }
 
-fn gains(alloc: Global, attributes: &[Text], gains: &List<(u16, u16)>) -> Result<String, Fail> {
-    let mut line = String::new(alloc);
-    for (attribute, gain) in gains.as_slice() {
-        let word = word(attributes, *attribute);
-        line.push_str(format!(in alloc; " {word}+{gain}")?.as_str())?;
+/// Adds the words of attributes.
+pub fn add_words(
+    name: &str,
+    attributes: &[Text],
+    listed: &[u16],
+    answer: &mut Answer,
+) -> Result<(), Fail> {
+    let mut line = String::new(answer.alloc());
+    for attribute in listed {
+        add_word(&mut line, attributes, *attribute)?;
     }
-    Ok(line)
+    answer.text(name, or_none(line.as_str()))
+}
+
+/// Adds what is suggested.
+fn add_suggestion(
+    attributes: &[Text],
+    suggestion: &Suggestion,
+    answer: &mut Answer,
+) -> Result<(), Fail> {
+    add_offers(suggestion, answer)?;
+    add_words("need", attributes, suggestion.need.as_slice(), answer)?;
+    add_gains(attributes, suggestion.gains.as_slice(), answer)
+}
+
+fn add_offers(suggestion: &Suggestion, answer: &mut Answer) -> Result<(), Fail> {
+    let mut line = String::new(answer.alloc());
+    for (region, row) in suggestion.regions.as_slice() {
+        write!(line, " {region}/{row}")?;
+    }
+    answer.text("offers", or_none(line.as_str()))
+}
+
+fn add_gains(attributes: &[Text], gains: &[(u16, u16)], answer: &mut Answer) -> Result<(), Fail> {
+    let mut line = String::new(answer.alloc());
+    for (attribute, gain) in gains {
+        let word = word(attributes, *attribute);
+        write!(line, " {word}+{gain}")?;
+    }
+    answer.text("gains", or_none(line.as_str()))
 }
