@@ -3,7 +3,7 @@ use desk_base::{List, Room, Text};
 use desk_cases::Case;
 use desk_words::{Change, ClerkRow, Tables};
 use keeper_core::{Keeper, MemKeeper};
-use std::alloc::Global;
+use std::alloc::{AllocError, Global};
 use std::fmt::Debug;
 use std::test::Fail;
 
@@ -53,36 +53,39 @@ pub fn shown<K: Keeper>(alloc: Global, keeper: &mut K) -> Result<String, Fail> {
 
 /// What tables show.
 fn shown_tables(alloc: Global, tables: &Tables) -> Result<String, Fail> {
-    let mut shown = shown_published(alloc, tables)?;
-    add_lists(alloc, &mut shown, tables.sessions.as_slice())?;
-    add_lists(alloc, &mut shown, tables.records.as_slice())?;
-    add_lists(alloc, &mut shown, tables.batches.as_slice())?;
+    let mut shown = String::new(alloc);
+    tell_published(&mut shown, tables)?;
+    tell_own(&mut shown, tables)?;
     Ok(shown)
 }
 
 /// The clerks, and what stewards published.
-fn shown_published(alloc: Global, tables: &Tables) -> Result<String, Fail> {
-    let mut shown = String::new(alloc);
-    add_rows(alloc, &mut shown, tables.clerks.as_slice())?;
-    add_rows(alloc, &mut shown, tables.schemas.as_slice())?;
-    add_rows(alloc, &mut shown, tables.masters.as_slice())?;
-    add_rows(alloc, &mut shown, tables.rulebooks.as_slice())?;
-    add_rows(alloc, &mut shown, tables.editions.as_slice())?;
-    add_rows(alloc, &mut shown, tables.regions.as_slice())?;
-    Ok(shown)
+fn tell_published(shown: &mut String, tables: &Tables) -> Result<(), AllocError> {
+    tell_rows(shown, tables.clerks.as_slice())?;
+    tell_rows(shown, tables.schemas.as_slice())?;
+    tell_rows(shown, tables.masters.as_slice())?;
+    tell_rows(shown, tables.rulebooks.as_slice())?;
+    tell_rows(shown, tables.editions.as_slice())?;
+    tell_rows(shown, tables.regions.as_slice())
 }
 
-fn add_lists<T: Debug>(alloc: Global, shown: &mut String, lists: &[Room<T>]) -> Result<(), Fail> {
+/// What clerks have of their own.
+fn tell_own(shown: &mut String, tables: &Tables) -> Result<(), AllocError> {
+    tell_lists(shown, tables.sessions.as_slice())?;
+    tell_lists(shown, tables.records.as_slice())?;
+    tell_lists(shown, tables.batches.as_slice())
+}
+
+fn tell_lists<T: Debug>(shown: &mut String, lists: &[Room<T>]) -> Result<(), AllocError> {
     for list in lists {
-        add_rows(alloc, shown, list.as_slice())?;
+        tell_rows(shown, list.as_slice())?;
     }
     Ok(())
 }
 
-fn add_rows<T: Debug>(alloc: Global, shown: &mut String, rows: &[T]) -> Result<(), Fail> {
+fn tell_rows<T: Debug>(shown: &mut String, rows: &[T]) -> Result<(), AllocError> {
     for row in rows {
-        shown.push_str(format!(in alloc; "{row:?}\n")?.as_str())?;
+        writeln!(shown, "{row:?}")?;
     }
-    shown.push_str("\n")?;
-    Ok(())
+    shown.push_str("\n")
 }

@@ -5,14 +5,14 @@ use std::alloc::Global;
 use std::test::Fail;
 
 /// A request and its response.
-#[derive(Debug, Drop)]
+#[derive(Drop)]
 struct Exchange {
     request: Vec<u8>,
     response: Vec<u8>,
 }
 
 /// The requests of the script in their order, with their responses.
-#[derive(Debug, Drop)]
+#[derive(Drop)]
 pub struct Script {
     exchanges: Vec<Exchange>,
 }
@@ -40,9 +40,23 @@ impl Script {
 
     /// The bytes of the first so many requests.
     pub fn first(&self, alloc: Global, count: usize) -> Result<Vec<u8>, Fail> {
+        self.requests(alloc, 0, count)
+    }
+
+    /// The bytes of the requests from this place on, counted from 0, up to that one.
+    pub fn requests(&self, alloc: Global, from: usize, to: usize) -> Result<Vec<u8>, Fail> {
         let mut bytes = Vec::new(alloc);
-        for exchange in self.exchanges.iter().take(count) {
+        for exchange in self.exchanges.iter().take(to).skip(from) {
             bytes.extend_from_slice(exchange.request.as_slice())?;
+        }
+        Ok(bytes)
+    }
+
+    /// The bytes of the responses to them.
+    pub fn responses(&self, alloc: Global, from: usize, to: usize) -> Result<Vec<u8>, Fail> {
+        let mut bytes = Vec::new(alloc);
+        for exchange in self.exchanges.iter().take(to).skip(from) {
+            bytes.extend_from_slice(exchange.response.as_slice())?;
         }
         Ok(bytes)
     }
@@ -77,18 +91,34 @@ impl Script {
         Ok(told)
     }
 
+    /// How many of the script's responses an output begins with.
+    pub fn accepted(&self, output: &[u8]) -> usize {
+        self.taken(output).0
+    }
+
     /// How many of the script's responses an output begins with, and how many bytes of the next one it has behind them;
     /// nothing where something else stands there.
     pub fn progress(&self, output: &[u8]) -> Option<(usize, usize)> {
+        let (count, rest) = self.taken(output);
+        match self.exchanges.get(count) {
+            Some(exchange) => {
+                let response = exchange.response.as_slice();
+                response.starts_with(rest).then_some((count, rest.len()))
+            }
+            None => rest.is_empty().then_some((count, 0)),
+        }
+    }
+
+    /// How many of the script's responses an output begins with, and what stands behind them.
+    fn taken<'o>(&self, output: &'o [u8]) -> (usize, &'o [u8]) {
         let mut rest = output;
         for (count, exchange) in self.exchanges.iter().enumerate() {
-            let response = exchange.response.as_slice();
-            match behind(rest, response) {
+            match behind(rest, exchange.response.as_slice()) {
                 Some(next) => rest = next,
-                None => return response.starts_with(rest).then_some((count, rest.len())),
+                None => return (count, rest),
             }
         }
-        rest.is_empty().then_some((self.exchanges.len(), 0))
+        (self.exchanges.len(), rest)
     }
 
     /// The request at a place, counted from 0, and its response.
