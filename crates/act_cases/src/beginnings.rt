@@ -53,14 +53,14 @@ impl Beginnings {
 
     /// Keeps what a case has left, where its part `named` names it.
     pub fn keep(&mut self, alloc: Global, case: &Case, keeper: MemKeeper) -> Result<(), Fail> {
-        match case.text("named") {
-            Some(name) => self.push(alloc, name, keeper),
-            None => Ok(()),
-        }
-    }
-
-    fn push(&mut self, alloc: Global, name: &str, keeper: MemKeeper) -> Result<(), Fail> {
-        let name = String::from_str(alloc, name)?;
+        let Some(name) = case.text("named") else {
+            drop(keeper);
+            return Ok(());
+        };
+        let Ok(name) = String::from_str(alloc, name) else {
+            drop(keeper);
+            return Err(Fail::new("there was no memory"));
+        };
         Ok(self.left.push(Left { name, keeper })?)
     }
 }

@@ -17,7 +17,7 @@ use crate::beginnings::Beginnings;
 use crate::ends::tell_end;
 use crate::steps::{is_step, make_steps};
 use desk_base::List;
-use desk_cases::{Case, Part, Subject, try_files};
+use desk_cases::{Answer, Case, Part, Subject, try_files};
 use desk_trials::KeptDesk;
 use http_cut::Routes;
 use machine_core::StartFail;
@@ -32,37 +32,45 @@ struct Desks {
 }
 
 impl Desks {
-    /// The answer of a case over its desk, whose keeper is kept where the case names it.
-    fn answer_over(
+    /// Adds the answer to a case.
+    fn add_answer(&mut self, case: &Case, answer: &mut Answer) -> Result<(), Fail> {
+        let fails = List::from_vec(case.numbers(answer.alloc(), "fails")?);
+        let tables = self.beginnings.tables(answer.alloc(), case)?;
+        match KeptDesk::begin(answer.alloc(), tables, fails) {
+            Ok(desk) => self.add_answer_of(desk, case, answer),
+            Err(StartFail::Unavailable) => answer.text("start", "unavailable"),
+            Err(_) => Err(Fail::new("a desk did not begin")),
+        }
+    }
+
+    /// Adds the answer to a case over its desk, whose keeper is kept where the case names it.
+    fn add_answer_of(
         &mut self,
-        alloc: Global,
-        case: &Case,
         mut desk: KeptDesk,
-    ) -> Result<Vec<Part>, Fail> {
-        match answer_of(alloc, &self.routes, case, &mut desk) {
-            Ok(answer) => {
-                self.beginnings.keep(alloc, case, desk.into_keeper())?;
-                Ok(answer)
-            }
+        case: &Case,
+        answer: &mut Answer,
+    ) -> Result<(), Fail> {
+        let told = tell(&self.routes, &mut desk, case, answer);
+        let keeper = desk.into_keeper();
+        match told {
+            Ok(()) => self.beginnings.keep(answer.alloc(), case, keeper),
             Err(fail) => {
-                drop(desk);
+                drop(keeper);
                 Err(fail)
             }
         }
     }
 }
 
-/// The answer of a case over a desk.
-fn answer_of(
-    alloc: Global,
+/// Makes the steps of a case over a desk, and tells what is asked in the end.
+fn tell(
     routes: &Routes,
-    case: &Case,
     desk: &mut KeptDesk,
-) -> Result<Vec<Part>, Fail> {
-    let mut answer = Vec::new(alloc);
-    make_steps(alloc, routes, desk, case, &mut answer)?;
-    tell_end(alloc, desk, case, &mut answer)?;
-    Ok(answer)
+    case: &Case,
+    answer: &mut Answer,
+) -> Result<(), Fail> {
+    make_steps(routes, desk, case, answer)?;
+    tell_end(desk, case, answer)
 }
 
 impl Subject for Desks {
@@ -74,21 +82,10 @@ impl Subject for Desks {
         if kind != "desk" {
             return Err(Fail::new("a file of cases has an unknown kind"));
         }
-        let tables = self.beginnings.tables(alloc, case)?;
-        let fails = List::from_vec(case.numbers(alloc, "fails")?);
-        match KeptDesk::begin(alloc, tables, fails) {
-            Ok(desk) => self.answer_over(alloc, case, desk),
-            Err(StartFail::Unavailable) => no_desk(alloc),
-            Err(_) => Err(Fail::new("a desk did not begin")),
-        }
+        let mut answer = Answer::new(alloc);
+        self.add_answer(case, &mut answer)?;
+        Ok(answer.into_parts())
     }
-}
-
-/// That there is no desk, since the keeper failed.
-fn no_desk(alloc: Global) -> Result<Vec<Part>, Fail> {
-    let mut answer = Vec::new(alloc);
-    answer.push(Part::new(alloc, "start", b"unavailable")?)?;
-    Ok(answer)
 }
 
 fn main(rt: HostRuntime) -> Result<(), Fail> {

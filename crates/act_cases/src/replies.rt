@@ -11,60 +11,59 @@ use std::alloc::Global;
 use std::test::Fail;
 
 /// A word for the reply, and its JSON text; a report, records and derived rows are their text alone.
-pub fn told(alloc: Global, reply: &Reply) -> Result<String, Fail> {
+pub fn tell(text: &mut String, alloc: Global, reply: &Reply) -> Result<(), Fail> {
     match reply {
-        Reply::Report(sheet) => text(alloc, report_text(alloc, sheet)?.as_slice()),
-        Reply::Records(sheet) => records(alloc, sheet),
-        Reply::Derived(sheet) => derived(alloc, sheet),
-        _ => worded(alloc, word_of(reply), text_of(alloc, reply)?.as_slice()),
+        Reply::Report(sheet) => push(text, &report_text(alloc, sheet)?),
+        Reply::Records(sheet) => tell_records(text, alloc, sheet),
+        Reply::Derived(sheet) => tell_derived(text, alloc, sheet),
+        _ => {
+            text.push_str(word_of(reply))?;
+            push(text, &text_of(alloc, reply)?)
+        }
     }
 }
 
 /// A word for a body that is not read, and the text of its fault.
-pub fn unread(alloc: Global, fault: &JsonFault) -> Result<String, Fail> {
-    worded(alloc, "unread", fault_text(alloc, fault)?.as_slice())
+pub fn tell_unread(text: &mut String, alloc: Global, fault: &JsonFault) -> Result<(), Fail> {
+    text.push_str("unread ")?;
+    push(text, &fault_text(alloc, fault)?)
 }
 
-fn records(alloc: Global, sheet: &RecordSheet) -> Result<String, Fail> {
+fn tell_records(text: &mut String, alloc: Global, sheet: &RecordSheet) -> Result<(), Fail> {
     if !is_full(sheet) {
         return Err(Fail::new("a record has not a text for each attribute"));
     }
-    text(alloc, records_text(alloc, sheet)?.as_slice())
+    push(text, &records_text(alloc, sheet)?)
 }
 
-fn derived(alloc: Global, sheet: &DerivedSheet) -> Result<String, Fail> {
+fn tell_derived(text: &mut String, alloc: Global, sheet: &DerivedSheet) -> Result<(), Fail> {
     if !is_wide(sheet) {
         return Err(Fail::new("a derived row has not a text for each attribute"));
     }
-    text(alloc, derived_text(alloc, sheet)?.as_slice())
+    push(text, &derived_text(alloc, sheet)?)
 }
 
+/// A word for a reply, and a space.
 fn word_of(reply: &Reply) -> &'static str {
     match reply {
-        Reply::Made(_) => "made",
-        Reply::Opened(_) => "opened",
-        Reply::View(_) => "view",
-        Reply::Committed { .. } => "committed",
-        Reply::Batched(_) => "batched",
-        Reply::Suggested(_) => "suggested",
-        Reply::Report(_) => "report",
-        Reply::Records(_) => "records",
-        Reply::Explained(_) => "explained",
-        Reply::Derived(_) => "derived",
-        Reply::Carried(_) => "carried",
-        Reply::Refused(_) => "refused",
+        Reply::Made(_) => "made ",
+        Reply::Opened(_) => "opened ",
+        Reply::View(_) => "view ",
+        Reply::Committed { .. } => "committed ",
+        Reply::Batched(_) => "batched ",
+        Reply::Suggested(_) => "suggested ",
+        Reply::Report(_) => "report ",
+        Reply::Records(_) => "records ",
+        Reply::Explained(_) => "explained ",
+        Reply::Derived(_) => "derived ",
+        Reply::Carried(_) => "carried ",
+        Reply::Refused(_) => "refused ",
     }
 }
 
-/// A word and a text, with a space between.
-fn worded(alloc: Global, word: &str, bytes: &[u8]) -> Result<String, Fail> {
-    let text = text(alloc, bytes)?;
-    Ok(format!(in alloc; "{word} {text}")?)
-}
-
-fn text(alloc: Global, bytes: &[u8]) -> Result<String, Fail> {
-    match std::str::from_utf8(bytes) {
-        Ok(text) => Ok(String::from_str(alloc, text)?),
+fn push(text: &mut String, bytes: &List<u8>) -> Result<(), Fail> {
+    match std::str::from_utf8(bytes.as_slice()) {
+        Ok(more) => Ok(text.push_str(more)?),
         Err(_) => Err(Fail::new("a reply is no text")),
     }
 }

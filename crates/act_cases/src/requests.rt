@@ -1,5 +1,5 @@
 //! The request of a step, and the reply to it.
-use crate::replies::{told, unread};
+use crate::replies::{tell, tell_unread};
 use crate::targets::route_of;
 use desk_json::{Route, command_of};
 use desk_trials::KeptDesk;
@@ -11,50 +11,57 @@ use std::test::Fail;
 
 /// The reply to a request: its target, and behind a space or the end of the line its body. The first word of the
 /// step's name stands for the digest.
-pub fn replied(
+pub fn tell_reply(
+    text: &mut String,
     alloc: Global,
     routes: &Routes,
     desk: &mut KeptDesk,
     name: &str,
     request: &[u8],
-) -> Result<String, Fail> {
+) -> Result<(), Fail> {
     let (target, body) = target_and_body(request);
     let Some(found) = routes.find(target) else {
         return Err(Fail::new("a step has a target without a route"));
     };
     let route = route_of(alloc, &found)?;
-    let text = replied_to(alloc, desk, &route, digest_of(name), body);
+    let told = tell_reply_to(text, alloc, desk, &route, digest_of(name), body);
     drop(route);
-    text
+    told
 }
 
 /// The reply to a body on a route.
-fn replied_to(
+fn tell_reply_to(
+    text: &mut String,
     alloc: Global,
     desk: &mut KeptDesk,
     route: &Route,
     digest: Digest,
     body: &[u8],
-) -> Result<String, Fail> {
+) -> Result<(), Fail> {
     match command_of(alloc, route, digest, body) {
         Ok(command) => {
-            let text = acted(alloc, desk, &command);
+            let told = act(text, alloc, desk, &command);
             drop(command);
-            text
+            told
         }
-        Err(fault) => unread(alloc, &fault),
+        Err(fault) => tell_unread(text, alloc, &fault),
     }
 }
 
 /// The reply to a command.
-fn acted(alloc: Global, desk: &mut KeptDesk, command: &Command) -> Result<String, Fail> {
+fn act(
+    text: &mut String,
+    alloc: Global,
+    desk: &mut KeptDesk,
+    command: &Command,
+) -> Result<(), Fail> {
     if !is_numbered(command) {
         return Err(Fail::new("a step has a number that no write may have"));
     }
     let reply = desk.act(command);
-    let text = told(alloc, &reply);
+    let told = tell(text, alloc, &reply);
     drop(reply);
-    text
+    told
 }
 
 /// The target stands up to the first space or line feed, and the body behind that.

@@ -1,8 +1,8 @@
 //! The steps of a case: each part that is a request, in their order.
-use crate::numbering::numbered;
-use crate::requests::replied;
+use crate::numbering::tell_numbered;
+use crate::requests::tell_reply;
 use crate::trace::Trace;
-use desk_cases::{Case, Part};
+use desk_cases::{Answer, Case, Part};
 use desk_trials::KeptDesk;
 use http_cut::Routes;
 use std::alloc::Global;
@@ -10,15 +10,14 @@ use std::test::Fail;
 
 /// Makes the steps of a case in their order, and tells the reply to each.
 pub fn make_steps(
-    alloc: Global,
     routes: &Routes,
     desk: &mut KeptDesk,
     case: &Case,
-    answer: &mut Vec<Part>,
+    answer: &mut Answer,
 ) -> Result<(), Fail> {
     for part in &case.parts {
         if is_step(part) {
-            answer.push(made(alloc, routes, desk, part)?)?;
+            make_step(routes, desk, part, answer)?;
         }
     }
     Ok(())
@@ -30,37 +29,66 @@ pub fn is_step(part: &Part) -> bool {
 }
 
 /// The reply to a step: what it `does` where it changes the tables, and else what it `says`.
-fn made(alloc: Global, routes: &Routes, desk: &mut KeptDesk, part: &Part) -> Result<Part, Fail> {
+fn make_step(
+    routes: &Routes,
+    desk: &mut KeptDesk,
+    part: &Part,
+    answer: &mut Answer,
+) -> Result<(), Fail> {
     let name = part.name.as_str();
     let before = Trace::of(desk.tables());
-    let reply = last_reply(alloc, routes, desk, name, part.content.as_slice())?;
-    let verb = if Trace::of(desk.tables()) == before {
-        "says"
-    } else {
-        "does"
-    };
-    let name = format!(in alloc; "{name} {verb}")?;
-    Ok(Part::new(alloc, name.as_str(), reply.as_str().as_bytes())?)
+    let mut reply = String::new(answer.alloc());
+    tell_last(
+        &mut reply,
+        answer.alloc(),
+        routes,
+        desk,
+        name,
+        part.content.as_slice(),
+    )?;
+    let is_same = Trace::of(desk.tables()) == before;
+    add_reply(name, is_same, reply.as_str(), answer)
+}
+
+fn add_reply(name: &str, is_same: bool, reply: &str, answer: &mut Answer) -> Result<(), Fail> {
+    let verb = if is_same { "says" } else { "does" };
+    let name = format!(in answer.alloc(); "{name} {verb}")?;
+    answer.text(name.as_str(), reply)
 }
 
 /// The reply to a step, or the last one to a step that is made so many times, as `32 times a`.
-fn last_reply(
+fn tell_last(
+    reply: &mut String,
     alloc: Global,
     routes: &Routes,
     desk: &mut KeptDesk,
     name: &str,
     request: &[u8],
-) -> Result<String, Fail> {
+) -> Result<(), Fail> {
     let Some((count, word)) = name.split_once(" times ") else {
-        return replied(alloc, routes, desk, name, request);
+        return tell_reply(reply, alloc, routes, desk, name, request);
     };
     let Ok(count) = count.parse::<u64>() else {
         return Err(Fail::new("a step is not made a number of times"));
     };
-    let mut reply = String::new(alloc);
     for turn in 0..count {
-        let request = numbered(alloc, request, turn)?;
-        reply = replied(alloc, routes, desk, word, request.as_str().as_bytes())?;
+        reply.clear();
+        tell_turn(reply, alloc, routes, desk, word, request, turn)?;
     }
-    Ok(reply)
+    Ok(())
+}
+
+/// The reply to a step that is made many times, in this turn.
+fn tell_turn(
+    reply: &mut String,
+    alloc: Global,
+    routes: &Routes,
+    desk: &mut KeptDesk,
+    name: &str,
+    request: &[u8],
+    turn: u64,
+) -> Result<(), Fail> {
+    let mut numbered = String::new(alloc);
+    tell_numbered(&mut numbered, request, turn)?;
+    tell_reply(reply, alloc, routes, desk, name, numbered.as_bytes())
 }
