@@ -1,19 +1,25 @@
 -- What is answered of a chain, by what its parts answer.
-use Rattle.std.proofs.Common.{◌≡◌, refl, subst, sym}
+use Rattle.std.proofs.Common.{◌≡◌}
 use Rattle.std.specs.Prelude.{Result, Ok, Err, IsErrAnd}
 use Rattle.machine_core.specs.declared.stop.Stop.{Stop}
 use Rattle.machine_core.specs.declared.stop.Stop.TheVariants.{Refused, NoMemory}
-use Rattle.machine_core.specs.Checked.{Checked, ◌>>=◌, Gives}
+use Rattle.machine_core.specs.Checked.{Checked, Gives, run, ◌>>=◌}
 use Rattle.machine_core.specs.Outcomes.{Answers, Finds}
-use Rattle.machine_core.proofs.Chains.{Gives-bind, Gives-bind_refused}
+use Rattle.machine_core.proofs.Chains.{Gives-bind, Gives-bind_refused, Gives-IsRefused, Gives-found, Gives-same}
 
 -- what asks no question is answered as it is found
 pub Answers-found : {A : Type 0} (checked : Checked A) (result : Result A Stop) → Finds result checked
     → Answers result checked
-Answers-found {A} checked (Ok value) finds = subst (λ (one : Checked A). Gives one (Ok value)) (sym finds) refl
-Answers-found {A} checked (Err (Refused refusal)) finds =
-    subst (λ (one : Checked A). Gives one (Err refusal)) (sym finds) refl
+Answers-found checked (Ok value) finds = Gives-found checked value finds
+Answers-found checked (Err (Refused refusal)) finds = Gives-IsRefused checked refusal finds
 Answers-found checked (Err NoMemory) finds = tt
+
+-- chains that come to the same are answered alike
+pub Answers-same : {A : Type 0} (checked other : Checked A) (result : Result A Stop) → run checked ≡ run other
+    → Answers result checked → Answers result other
+Answers-same checked other (Ok value) same answers = Gives-same checked other (Ok value) same answers
+Answers-same checked other (Err (Refused refusal)) same answers = Gives-same checked other (Err refusal) same answers
+Answers-same checked other (Err NoMemory) same answers = tt
 
 -- a chain stops where its first part does
 stopped : {A B : Type 0} (checked : Checked A) (next : A → Checked B) (stop : Stop) → Answers {A = A} (Err stop) checked

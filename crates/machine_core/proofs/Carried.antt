@@ -1,7 +1,7 @@
 -- A session that is carried to a newer version of its edition.
 use Rattle.std.proofs.Common.{◌≡◌, ℕ, ◌<◌, ◌≤◌, nat_lt, false, true, length, Option, Some, None, refl, sym, ap, subst}
 use Rattle.std.proofs.Common.{arith}
-use Rattle.std.specs.Prelude.{[], IfSome, IsSomeAnd}
+use Rattle.std.specs.Prelude.{[], IfSome, IsSomeAnd, Err}
 use Rattle.std.proofs.lemmas.Bool.Decides.{nat_tests}
 use Rattle.std.proofs.lemmas.List.{length-map}
 use Rattle.desk_carry.specs.Moves.{kept}
@@ -14,7 +14,7 @@ use Rattle.desk_valid.specs.declared.bound.Bound.{Bound}
 use Rattle.desk_valid.specs.Bindings.{IsNamedKit, bound_at}
 use Rattle.desk_valid.specs.Valid.{AreValid}
 use Rattle.desk_valid.proofs.Kits.{edition-kit}
-use Rattle.machine_core.specs.Checked.{done, refused}
+use Rattle.machine_core.specs.Checked.{IsFound, IsRefused, told}
 use Rattle.machine_core.specs.Clerk.Carry.{carried_to, carry_row}
 use Rattle.machine_core.specs.Finding.{edition_named}
 use Rattle.machine_core.specs.Own.{Own}
@@ -35,11 +35,11 @@ edition-binds rows edition valid within =
     some-value IsNamedKit (bound_at (published_of rows) edition) (edition-kit rows edition valid within)
 
 module _ (published : Published) (own : Own) (number version : ℕ) (session : SessionRow) (pinned : EditionRow)
-    (found : active_session own.sessions number ≡ done session)
+    (found : IsFound (active_session own.sessions number) session)
     (same : pinned ≡ edition_at published session.edition) where
   -- there is no such version
   pub carry-missing : edition_named published.editions pinned.name version ≡ None
-      → carry_row published own number version ≡ refused (NoSuch kind.Edition)
+      → IsRefused (carry_row published own number version) (NoSuch kind.Edition)
   carry-missing none =
       let Named : EditionRow → Type 0 = λ one. edition_named published.editions one.name version ≡ None in
       rw (found, subst Named same none) refl
@@ -50,17 +50,17 @@ module _ (published : Published) (own : Own) (number version : ℕ) (session : S
 
     -- it is no newer
     pub carry-old : version ≤ pinned.version
-        → carry_row published own number version ≡ refused (NotNewer pinned.version)
+        → IsRefused (carry_row published own number version) (NotNewer pinned.version)
     carry-old old =
         let fails : nat_lt pinned.version version ≡ false = grind (arith, nat_tests, old) in
         let fails_so : nat_lt (edition_at published session.edition).version version ≡ false =
         subst (λ (one : EditionRow). nat_lt one.version version ≡ false) same fails in
-        rw (found, named-so, fails_so) (ap (λ (one : EditionRow). refused (NotNewer one.version)) (sym same))
+        rw (found, named-so, fails_so) (ap (λ (one : EditionRow). told (Err (NotNewer one.version))) (sym same))
 
     -- it is newer
     pub carry-newer : (before after : Bound) → pinned.version < version
         → bound_at published session.edition ≡ Some before → bound_at published edition ≡ Some after
-        → carry_row published own number version ≡ done (carried_to session edition before after)
+        → IsFound (carry_row published own number version) (carried_to session edition before after)
     carry-newer before after newer here there =
         let holds : nat_lt pinned.version version ≡ true = grind (arith, nat_tests, newer) in
         let holds_so : nat_lt (edition_at published session.edition).version version ≡ true =

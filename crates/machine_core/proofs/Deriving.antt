@@ -1,8 +1,7 @@
 -- What is derived: distinct attributes and columns, and a text in each row for each.
-use Rattle.std.proofs.Common.{◌≡◌, ◌∙◌, ℕ, ◌+◌, ◌<◌, List, [], ◌∷◌, ◌++◌, length, get_or, map, Contains, Some, refl}
+use Rattle.std.proofs.Common.{◌≡◌, ◌∙◌, ℕ, ◌+◌, ◌<◌, List, [], ◌∷◌, ◌++◌, length, get_or, map, Some, refl}
 use Rattle.std.proofs.Common.{sym, ap, subst, append_assoc, arith}
-use Rattle.std.specs.Prelude.{◌==◌, All, IfSome, Ok, find, not, position, slice_get}
-use Rattle.std.specs.List.{list_any}
+use Rattle.std.specs.Prelude.{All, Err, IfSome, IsErrAnd, Ok, Result, slice_get}
 use Rattle.std.specs.Str.{bytes_eq}
 use Rattle.std.proofs.lemmas.List.{append-nil, get_or_default, length-map, map_push}
 use Rattle.std.proofs.lemmas.List.Elements.{All-map}
@@ -12,7 +11,7 @@ use Rattle.std.proofs.lemmas.Simd.{map-map}
 use Rattle.std.proofs.lemmas.Slice.Eq.{bytes_eq-Decides}
 use Rattle.desk_base.specs.Grid.{cell_text}
 use Rattle.desk_words.specs.declared.refusal.Kind.TheVariants as kind
-use Rattle.desk_words.specs.declared.refusal.Refusal.TheVariants.{NoColumn, NoSuch, Twice, UnknownAttr}
+use Rattle.desk_words.specs.declared.refusal.Refusal.TheVariants.{NoColumn, NoSuch, UnknownAttr}
 use Rattle.desk_words.specs.declared.reply.DerivedSheet.{DerivedSheet}
 use Rattle.desk_words.specs.declared.rows.edition.EditionRow.{EditionRow}
 use Rattle.desk_words.specs.Tables.{Published, Rows, published_of}
@@ -27,35 +26,33 @@ use Rattle.master_rows.specs.Master.{IsMaster}
 use Rattle.master_rows.specs.Sheet.{read_sheet}
 use Rattle.master_rows.proofs.Masters.{IsMaster-read_sheet}
 use Rattle.region_derive.specs.Derived.{ArePairs, IsDerived, texts_in}
-use Rattle.machine_core.specs.Checked.{Checked, ◌>>=◌, ◌>>◌, certainly, done, each_behind, rows_for, some_or, unless}
+use Rattle.machine_core.specs.Checked.{each_behind, some_or}
+use Rattle.machine_core.specs.Checked.{IsFound, run}
 use Rattle.machine_core.specs.Checked.{Gives}
 use Rattle.machine_core.specs.declared.derivation.Derivation.{Derivation}
 use Rattle.machine_core.specs.Deriving.{IsDerivable, another_master_column, another_pair, derivation_of, derived_rows}
 use Rattle.machine_core.specs.Deriving.{derived_sheet, master_of, places_of}
 use Rattle.machine_core.specs.Finding.{edition_named}
-use Rattle.machine_core.specs.Steward.AddEdition.{master_name}
-use Rattle.machine_core.specs.Tests.{another_attribute, attribute_of}
+use Rattle.machine_core.specs.Outcomes.{Finds}
+use Rattle.machine_core.specs.declared.stop.Stop.{Stop}
+use Rattle.machine_core.specs.Tests.{another_attribute}
 use Rattle.machine_core.specs.Views.{edition_at, name_at}
 use Rattle.machine_core.specs.Words.{words_at}
-use Rattle.machine_core.proofs.Chains.{Gives-bind_ok, done-value}
+use Rattle.machine_core.proofs.Chains.{done-value}
+use Rattle.machine_core.proofs.Stopping.{EndsWith-stopped}
+use Rattle.machine_core.proofs.Walks.{Gives-Met, Met-Gives}
 use Rattle.machine_core.proofs.Distinct.{AreDistinct, another-place, no-places}
 use Rattle.machine_core.proofs.EditionWords.{words-bound}
-use Rattle.machine_core.proofs.Tested.{certainly-ok, each_behind-all, each_behind-length, some_or-ok}
+use Rattle.machine_core.proofs.Tested.{each_behind-all, each_behind-length}
 use Rattle.machine_core.proofs.Widths.{edition-stands, kit-width}
 
 -- the word at the place that is found for it is that word
 word-found : (words : List (List ℕ)) (before word : List ℕ) (place : ℕ)
     → Gives (another_attribute words before word) (Ok place) → name_at words place ≡ word
 word-found words before word place gives =
-    let free : ℕ → Checked ℕ = λ one.
-    unless (not (list_any (λ earlier. earlier == one) before)) (Twice word) >> done one in
-    let found = Gives-bind_ok (attribute_of words word) free place gives in
-    let last = Gives-bind_ok (unless (not (list_any (λ earlier. earlier == found.0) before)) (Twice word))
-    (λ _. done found.0) place found.2 in
-    let there = position-Some (bytes_eq word) words found.0 []
-    (some_or-ok (position (bytes_eq word) words) (UnknownAttr word) found.0 found.1) in
-    ap (name_at words) (done-value found.0 place last.2)
-    ∙ sym ((bytes_eq-Decides word (get_or words found.0 [])).0 there.1)
+    let (found, there, (passed, free, same)) = Met-Gives (another_attribute words before word) (Ok place) gives in
+    ap (name_at words) same ∙ sym ((bytes_eq-Decides word (get_or words found [])).0
+    (position-Some (bytes_eq word) words found [] there).1)
 
 -- the places of pairs: no attribute stands twice, and no column; each attribute is under its word
 pub record ArePlaces (words names : List (List ℕ)) (pairs : List (List ℕ × List ℕ)) (places : List ℕ × List ℕ)
@@ -82,16 +79,16 @@ module _ (words names : List (List ℕ)) where
   another-pair before pair place are gives =
       let first : (ℕ × ℕ) → ℕ = λ one. one.0 in
       let second : (ℕ × ℕ) → ℕ = λ one. one.1 in
-      let attribute = Gives-bind_ok (another_attribute words (map first before) pair.0) (λ attribute.
-      another_master_column names (map second before) pair.1 >>= (λ column. done (attribute, column))) place gives in
-      let column = Gives-bind_ok (another_master_column names (map second before) pair.1)
-      (λ column. done (attribute.0, column)) place attribute.2 in
-      let same : place ≡ (attribute.0, column.0) = done-value (attribute.0, column.0) place column.2 in
+      let (attribute, is_attribute, (column, is_column, same)) =
+      Met-Gives (another_pair words names before pair) (Ok place) gives in
+      let attribute_given = Gives-Met (another_attribute words (map first before) pair.0) (Ok attribute) is_attribute in
+      let column_given = Gives-Met (another_master_column names (map second before) pair.1) (Ok column) is_column in
       subst (λ one. ArePairsSoFar (before ++ one ∷ [])) (sym same) (record {
-        attributes = subst (AreDistinct (length words)) (sym (map_push first before (attribute.0, column.0)))
-            (another-place words (map first before) pair.0 (UnknownAttr pair.0) attribute.0 are.attributes attribute.1);
-        columns = subst (AreDistinct (length names)) (sym (map_push second before (attribute.0, column.0)))
-            (another-place names (map second before) pair.1 (NoColumn pair.1) column.0 are.columns column.1);
+        attributes = subst (AreDistinct (length words)) (sym (map_push first before (attribute, column)))
+            (another-place words (map first before) pair.0 (UnknownAttr pair.0) attribute are.attributes
+            attribute_given);
+        columns = subst (AreDistinct (length names)) (sym (map_push second before (attribute, column)))
+            (another-place names (map second before) pair.1 (NoColumn pair.1) column are.columns column_given);
       })
 
   -- the attributes of pairs are found by their words
@@ -104,42 +101,38 @@ module _ (words names : List (List ℕ)) where
       ∙ sym (append-nil (map (λ (place : ℕ × ℕ). name_at words place.0) before))
   attributes-named (pair ∷ others) before found gives =
       let first : (ℕ × ℕ) → ℕ = λ one. one.0 in
-      let second : (ℕ × ℕ) → ℕ = λ one. one.1 in
       let word : (ℕ × ℕ) → List ℕ = λ place. name_at words place.0 in
       let rest : List (List ℕ) = map (λ (one : List ℕ × List ℕ). one.0) others in
-      let here = Gives-bind_ok (another_pair words names before pair)
-      (λ one. each_behind (before ++ one ∷ []) (another_pair words names) others) found gives in
-      let attribute = Gives-bind_ok (another_attribute words (map first before) pair.0) (λ attribute.
-      another_master_column names (map second before) pair.1 >>= (λ column. done (attribute, column))) here.0 here.1 in
-      let column = Gives-bind_ok (another_master_column names (map second before) pair.1)
-      (λ column. done (attribute.0, column)) here.0 attribute.2 in
-      let named : word here.0 ≡ pair.0 =
-      ap word (done-value (attribute.0, column.0) here.0 column.2)
-      ∙ word-found words (map first before) pair.0 attribute.0 attribute.1 in
-      attributes-named others (before ++ here.0 ∷ []) found here.2
-      ∙ ap (λ list. list ++ rest) (map_push word before here.0)
-      ∙ append_assoc (map word before) (word here.0 ∷ []) rest
+      let (here, is_here, is_rest) =
+      Met-Gives (each_behind before (another_pair words names) (pair ∷ others)) (Ok found) gives in
+      let (attribute, is_attribute, (column, is_column, same)) = is_here in
+      let named : word here ≡ pair.0 = ap word same ∙ word-found words (map first before) pair.0 attribute
+      (Gives-Met (another_attribute words (map first before) pair.0) (Ok attribute) is_attribute) in
+      attributes-named others (before ++ here ∷ []) found
+      (Gives-Met (each_behind (before ++ here ∷ []) (another_pair words names) others) (Ok found) is_rest)
+      ∙ ap (λ list. list ++ rest) (map_push word before here)
+      ∙ append_assoc (map word before) (word here ∷ []) rest
       ∙ ap (λ one. map word before ++ one ∷ rest) named
 
   pub places-found : (pairs : List (List ℕ × List ℕ)) (found : List ℕ × List ℕ)
       → Gives (places_of words names pairs) (Ok found) → ArePlaces words names pairs found
   places-found pairs found gives =
-      let places = Gives-bind_ok (each_behind [] (another_pair words names) pairs) (λ places. done (apart places)) found
-      gives in
+      let (places, are_places, same) = Met-Gives (places_of words names pairs) (Ok found) gives in
+      let given = Gives-Met (each_behind [] (another_pair words names) pairs) (Ok places) are_places in
       let start : ArePairsSoFar [] = record
       { attributes = no-places (length words); columns = no-places (length names) } in
-      let are : ArePairsSoFar places.0 = each_behind-all ArePairsSoFar (another_pair words names) pairs [] places.0
-      (λ sofar pair place are one. another-pair sofar pair place are one) start places.1 in
-      let count : length places.0 ≡ length pairs =
-      omega (arith, each_behind-length (another_pair words names) pairs [] places.0 places.1) in
+      let are : ArePairsSoFar places = each_behind-all ArePairsSoFar (another_pair words names) pairs [] places
+      (λ sofar pair place are one. another-pair sofar pair place are one) start given in
+      let count : length places ≡ length pairs =
+      omega (arith, each_behind-length (another_pair words names) pairs [] places given) in
       let first : (ℕ × ℕ) → ℕ = λ place. place.0 in
       let second : (ℕ × ℕ) → ℕ = λ place. place.1 in
-      subst (ArePlaces words names pairs) (sym (done-value (apart places.0) found places.2)) (record {
+      subst (ArePlaces words names pairs) (sym same) (record {
         attributes = are.attributes;
         columns = are.columns;
-        many = length-map places.0 first ∙ count;
-        as_many = length-map places.0 second ∙ count;
-        named = map-map (name_at words) first places.0 ∙ attributes-named pairs [] places.0 places.1;
+        many = length-map places first ∙ count;
+        as_many = length-map places second ∙ count;
+        named = map-map (name_at words) first places ∙ attributes-named pairs [] places given;
       })
 
 -- what a derivation was made of
@@ -165,53 +158,56 @@ master-at published place found is =
 master-found : (published : Published) (edition : EditionRow) (name : List ℕ) (sheet : Master)
     → Gives (master_of published edition name) (Ok sheet) → IsMaster sheet
 master-found published edition name sheet gives =
-    let read : ℕ → Checked Master = λ place. certainly (master_at published place) >>= (λ found. done found.1) in
-    let place = Gives-bind_ok (some_or (find (λ one. bytes_eq (master_name published.masters one) name) edition.masters)
-    (NoSuch kind.Master)) read sheet gives in
-    let found = Gives-bind_ok (certainly (master_at published place.0)) (λ one. done one.1) sheet place.2 in
-    let is = certainly-ok (master_at published place.0) found.0 found.1 in
-    subst IsMaster (sym (done-value found.0.1 sheet found.2)) (master-at published place.0 found.0 is)
+    let (place, there, (found, is, same)) = Met-Gives (master_of published edition name) (Ok sheet) gives in
+    subst IsMaster (sym same) (master-at published place found is)
 
 pub derivation-made : (published : Published) (name : List ℕ) (version : ℕ) (master : List ℕ)
     (pairs : List (List ℕ × List ℕ)) (derivation : Derivation)
     → Gives (derivation_of published name version master pairs) (Ok derivation) → IsMadeOf published pairs derivation
 derivation-made published name version master pairs derivation gives =
-    let made : ℕ → Master → List ℕ × List ℕ → Derivation = λ edition sheet places.
-    record { edition = edition; grid = sheet.grid; attributes = places.0; columns = places.1 } in
-    let over : ℕ → Bound → Master → Checked Derivation = λ edition bound sheet.
-    places_of bound.names.attributes sheet.columns pairs >>= (λ places. done (made edition sheet places)) in
-    let of_master : ℕ → Bound → Checked Derivation = λ edition bound.
-    master_of published (edition_at published edition) master >>= over edition bound in
-    let edition = Gives-bind_ok (some_or (edition_named published.editions name version) (NoSuch kind.Edition))
-    (λ edition. certainly (bound_at published edition) >>= of_master edition) derivation gives in
-    let bound = Gives-bind_ok (certainly (bound_at published edition.0)) (of_master edition.0) derivation edition.2 in
-    let sheet = Gives-bind_ok (master_of published (edition_at published edition.0) master) (over edition.0 bound.0)
-    derivation bound.2 in
-    let places = Gives-bind_ok (places_of bound.0.names.attributes sheet.0.columns pairs)
-    (λ places. done (made edition.0 sheet.0 places)) derivation sheet.2 in
-    subst (IsMadeOf published pairs) (sym (done-value (made edition.0 sheet.0 places.0) derivation places.2)) (record {
-      bound = bound.0;
-      binds = certainly-ok (bound_at published edition.0) bound.0 bound.1;
-      sheet = sheet.0;
-      is_master = master-found published (edition_at published edition.0) master sheet.0 sheet.1;
+    let (edition, named, (bound, binds, (sheet, is_sheet, (places, are_places, same)))) =
+    Met-Gives (derivation_of published name version master pairs) (Ok derivation) gives in
+    subst (IsMadeOf published pairs) (sym same) (record {
+      bound = bound;
+      binds = binds;
+      sheet = sheet;
+      is_master = master-found published (edition_at published edition) master sheet
+          (Gives-Met (master_of published (edition_at published edition) master) (Ok sheet) is_sheet);
       grid = refl;
-      places = places-found bound.0.names.attributes sheet.0.columns pairs places.0 places.1;
+      places = places-found bound.names.attributes sheet.columns pairs places
+          (Gives-Met (places_of bound.names.attributes sheet.columns pairs) (Ok places) are_places);
     })
 
 -- so it is found by its parts
 pub derivation-found : (published : Published) (name : List ℕ) (version : ℕ) (master : List ℕ)
     (pairs : List (List ℕ × List ℕ)) (edition : ℕ) (words : List (List ℕ)) (sheet : Master) (places : List ℕ × List ℕ)
-    → some_or (edition_named published.editions name version) (NoSuch kind.Edition) ≡ done edition
+    → IsFound (some_or (edition_named published.editions name version) (NoSuch kind.Edition)) edition
     → words_at published edition ≡ Some words
-    → master_of published (edition_at published edition) master ≡ done sheet
-    → places_of words sheet.columns pairs ≡ done places
-    → derivation_of published name version master pairs
-    ≡ done (record { edition = edition; grid = sheet.grid; attributes = places.0; columns = places.1 })
+    → IsFound (master_of published (edition_at published edition) master) sheet
+    → IsFound (places_of words sheet.columns pairs) places
+    → IsFound (derivation_of published name version master pairs)
+    (record { edition = edition; grid = sheet.grid; attributes = places.0; columns = places.1 })
 derivation-found published name version master pairs edition words sheet places named are read found =
     let bound = words-bound published edition words are in
-    let found_so : places_of bound.0.names.attributes sheet.columns pairs ≡ done places =
-    ap (λ list. places_of list sheet.columns pairs) bound.2 ∙ found in
+    let found_so : IsFound (places_of bound.0.names.attributes sheet.columns pairs) places =
+    ap (λ list. run (places_of list sheet.columns pairs)) bound.2 ∙ found in
     rw (named, bound.1, read, found_so) refl
+
+-- and where its pairs are not found it stops there
+pub derivation-stopped : (published : Published) (name : List ℕ) (version : ℕ) (master : List ℕ)
+    (pairs : List (List ℕ × List ℕ)) (edition : ℕ) (words : List (List ℕ)) (sheet : Master) (stop : Stop)
+    (result : Result Derivation Stop)
+    → IsFound (some_or (edition_named published.editions name version) (NoSuch kind.Edition)) edition
+    → words_at published edition ≡ Some words
+    → IsFound (master_of published (edition_at published edition) master) sheet → IsErrAnd result (λ one. one ≡ stop)
+    → Finds {A = List ℕ × List ℕ} (Err stop) (places_of words sheet.columns pairs)
+    → Finds result (derivation_of published name version master pairs)
+derivation-stopped published name version master pairs edition words sheet stop result named are read stops finds =
+    let (bound, binds, same) = words-bound published edition words are in
+    let Stops : List (List ℕ) → Type 0 = λ list.
+    Finds {A = List ℕ × List ℕ} (Err stop) (places_of list sheet.columns pairs) in
+    rw (named, binds, read) (EndsWith-stopped (run (places_of bound.names.attributes sheet.columns pairs)) _ stop result
+    stops (subst Stops (sym same) finds))
 
 -- in valid tables a derivation can be asked
 pub derivation-derivable : (rows : Rows) (name : List ℕ) (version : ℕ) (master : List ℕ)
@@ -241,34 +237,34 @@ derivation-derivable rows name version master pairs derivation valid gives =
           ArePairs bound.kit derivation.grid derivation.attributes derivation.columns)) (sym is.binds) pairs_are;
     }
 
--- each row that is given is derived, and has its texts
+-- a row that is given: over a kit it is derived, and has its texts
+record IsGivenRow (published : Published) (derivation : Derivation) (row : ℕ × List (List ℕ)) : Type 0 where
+  bound : Bound
+  derived : IsDerived bound.kit derivation.grid derivation.attributes derivation.columns row.0
+  texts : row.1 ≡ texts_in derivation.grid derivation.columns row.0
+
 derived-row : (published : Published) (derivation : Derivation) (rows : List (ℕ × List (List ℕ)))
     → Gives (derived_rows published derivation) (Ok rows) → (place : ℕ) (past : ℕ × List (List ℕ)) → place < length rows
-    → (bound : Bound) × IsDerived bound.kit derivation.grid derivation.attributes derivation.columns
-    (get_or rows place past).0 × ((get_or rows place past).1 ≡ texts_in derivation.grid derivation.columns
-    (get_or rows place past).0)
+    → IsGivenRow published derivation (get_or rows place past)
 derived-row published derivation rows gives place past inside =
-    let bound = Gives-bind_ok (certainly (bound_at published derivation.edition)) (λ one.
-    rows_for one.kit derivation.grid derivation.attributes derivation.columns) rows gives in
+    let (bound, binds, are) = Met-Gives (derived_rows published derivation) (Ok rows) gives in
     let row : ℕ × List (List ℕ) = get_or rows place past in
-    let is : rows ≡ bound.2.0 = done-value bound.2.0 rows bound.2.2 in
-    let there = (bound.2.1.each row.0 row.1).0 (subst (λ list. Contains list row) is
-    (place, inside, get_or_default rows place row past inside)) in
-    (bound.0, there.0, there.1)
+    let there = (are.each row.0 row.1).0 (place, inside, get_or_default rows place row past inside) in
+    record { bound = bound; derived = there.0; texts = there.1 }
 
 -- each derived row has a text for each column
 pub derived_rows-full : (published : Published) (derivation : Derivation) (rows : List (ℕ × List (List ℕ)))
     → Gives (derived_rows published derivation) (Ok rows)
     → All (λ row. length row.1 ≡ length derivation.columns) rows
 derived_rows-full published derivation rows gives place past inside =
-    let is = derived-row published derivation rows gives place past inside in
-    ap length is.2 ∙ length-map derivation.columns (cell_text derivation.grid (get_or rows place past).0)
+    ap length (derived-row published derivation rows gives place past inside).texts
+    ∙ length-map derivation.columns (cell_text derivation.grid (get_or rows place past).0)
 
 -- and is one of the rows of the grid
 pub derived_rows-within : (published : Published) (derivation : Derivation) (rows : List (ℕ × List (List ℕ)))
     → Gives (derived_rows published derivation) (Ok rows) → All (λ row. row.0 < length derivation.grid.rows) rows
 derived_rows-within published derivation rows gives place past inside =
-    (derived-row published derivation rows gives place past inside).1.within
+    (derived-row published derivation rows gives place past inside).derived.within
 
 -- a derived sheet has a text in each row for each attribute
 pub derived_sheet-full : (published : Published) (edition : List ℕ) (version : ℕ) (master : List ℕ)
@@ -278,16 +274,14 @@ pub derived_sheet-full : (published : Published) (edition : List ℕ) (version :
 derived_sheet-full published edition version master pairs sheet gives =
     let numbered : ℕ × List (List ℕ) → ℕ × List (List ℕ) = λ row. (row.0 + 1, row.1) in
     let word : List ℕ × List ℕ → List ℕ = λ pair. pair.0 in
-    let told : List (ℕ × List (List ℕ)) → DerivedSheet = λ rows.
-    record { attributes = map word pairs; rows = map numbered rows } in
-    let derivation = Gives-bind_ok (derivation_of published edition version master pairs) (λ one.
-    derived_rows published one >>= (λ rows. done (told rows))) sheet gives in
-    let rows = Gives-bind_ok (derived_rows published derivation.0) (λ rows. done (told rows)) sheet derivation.2 in
-    let is = derivation-made published edition version master pairs derivation.0 derivation.1 in
-    let full = derived_rows-full published derivation.0 rows.0 rows.1 in
-    let wide : length derivation.0.columns ≡ length (map word pairs) =
+    let (derivation, derives, (rows, are, same)) =
+    Met-Gives (derived_sheet published edition version master pairs) (Ok sheet) gives in
+    let is = derivation-made published edition version master pairs derivation
+    (Gives-Met (derivation_of published edition version master pairs) (Ok derivation) derives) in
+    let full = derived_rows-full published derivation rows (Gives-Met (derived_rows published derivation) (Ok rows) are)
+    in
+    let wide : length derivation.columns ≡ length (map word pairs) =
     is.places.as_many ∙ sym (length-map pairs word) in
-    subst (λ (one : DerivedSheet). All (λ row. length row.1 ≡ length one.attributes) one.rows)
-    (sym (done-value (told rows.0) sheet rows.2))
-    (All-map (λ row. length row.1 ≡ length (map word pairs)) numbered rows.0
+    subst (λ (one : DerivedSheet). All (λ row. length row.1 ≡ length one.attributes) one.rows) (sym same)
+    (All-map (λ row. length row.1 ≡ length (map word pairs)) numbered rows
     (λ place past inside. full place past inside ∙ wide))

@@ -1,19 +1,18 @@
 -- Attributes in their order.
 use Rattle.std.proofs.Common.{◌≡◌, ◌∙◌, ◌+◌, ◌<◌, ℕ, Bool, true, false, List, [], ◌∷◌, ◌++◌, length}
 use Rattle.std.proofs.Common.{inl, inr, ap, sym, arith, eq-eqb}
-use Rattle.std.specs.Prelude.{◌==◌, All, if◌then◌else◌}
+use Rattle.std.specs.Prelude.{◌==◌, if◌then◌else◌}
 use Rattle.std.specs.List.{list_any, range_with_len}
-use Rattle.std.specs.List.Sorted.{IsStrictlyIncreasing}
 use Rattle.std.proofs.lemmas.Bool.{cases_Bool, eqb-true}
 use Rattle.std.proofs.lemmas.List.{append-nil, map-id}
 use Rattle.std.proofs.lemmas.List.Elements.{All-filter}
-use Rattle.std.proofs.lemmas.List.FromFn.{filter_of_map_range_with_len_more, get_or-range_with_len}
-use Rattle.std.proofs.lemmas.List.FromFn.{length-range_with_len}
+use Rattle.std.proofs.lemmas.List.FromFn.{filter_of_map_range_with_len_more}
 use Rattle.std.proofs.lemmas.List.Kept.{IsStrictlyIncreasing-filter}
 use Rattle.desk_base.specs.Places.{is_listed}
 use Rattle.rule_text.specs.Binding.{AreFolded}
 use Rattle.schema_core.specs.declared.schema.Schema.{Schema}
 use Rattle.machine_core.specs.Steward.AddEdition.{in_order}
+use Rattle.desk_base.proofs.Lists.{range-below, range-rising}
 
 -- one attribute more
 in_order-more : (attributes : List ℕ) (width : ℕ)
@@ -47,17 +46,6 @@ pub in_order-without : (attributes : List ℕ) (width : ℕ) → list_any (λ on
     → in_order attributes (width + 1) ≡ in_order attributes width
 in_order-without attributes width is =
     in_order-more attributes width ∙ rw (is_listed-any attributes width ∙ is) (append-nil (in_order attributes width))
-
--- numbers that count up from 0 ascend
-range-rising : (count : ℕ) → IsStrictlyIncreasing (range_with_len 0 count)
-range-rising count index within =
-    let last : index + 1 < count = omega (arith, length-range_with_len 0 count) in
-    omega (arith, get_or-range_with_len 0 count index 0 (omega arith), get_or-range_with_len 0 count (index + 1) 0 last)
-
-range-below : (count : ℕ) → All (λ number. number < count) (range_with_len 0 count)
-range-below count index past inside =
-    let within : index < count = omega (arith, length-range_with_len 0 count) in
-    omega (arith, get_or-range_with_len 0 count index past within)
 
 -- attributes in their order are folded attributes of a schema
 pub AreFolded-in_order : (schema : Schema) (attributes : List ℕ)

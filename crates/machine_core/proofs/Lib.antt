@@ -1,8 +1,10 @@
 pub mod Suggestions
 pub mod Questions
 pub mod Chains
+pub mod Walks
 pub mod Tested
 pub mod Joined
+pub mod Commands
 pub mod Newest
 pub mod Stopping
 pub mod Shelving
@@ -11,6 +13,7 @@ pub mod Masters
 pub mod FullRows
 pub mod Widths
 pub mod EditionWords
+pub mod EditionRows
 pub mod GoodRows
 pub mod Placing
 pub mod Distinct

@@ -2,12 +2,12 @@
 use Rattle.std.proofs.Common.{◌≡◌, ℕ, List, [], ◌∷◌, ◌++◌, length, ap, refl, arith}
 use Rattle.std.specs.Prelude.{Err, zip}
 use Rattle.std.proofs.lemmas.Slice.Zip.{firsts-zip, seconds-zip}
-use Rattle.machine_core.specs.Checked.{done}
+use Rattle.machine_core.specs.Checked.{IsFound, run}
 use Rattle.machine_core.specs.Deriving.{another_master_column, another_pair}
 use Rattle.machine_core.specs.Outcomes.{Finds}
 use Rattle.machine_core.specs.Tests.{another_attribute}
 use Rattle.machine_core.specs.declared.stop.Stop.{Stop}
-use Rattle.machine_core.proofs.Stopping.{Finds-stopped}
+use Rattle.machine_core.proofs.Stopping.{EndsWith-stopped}
 
 -- one pair more
 pub zip-push : (ones others : List ℕ) (one other : ℕ) → length others ≡ length ones
@@ -21,9 +21,9 @@ zip-push (first ∷ ones) (second ∷ others) one other each =
 module _ (words names : List (List ℕ)) (attributes columns : List ℕ) (each : length columns ≡ length attributes)
     (pair : List ℕ × List ℕ) where
   -- a pair is found as its attribute and its column are
-  pub pair-found : (attribute column : ℕ) → another_attribute words attributes pair.0 ≡ done attribute
-      → another_master_column names columns pair.1 ≡ done column
-      → another_pair words names (zip attributes columns) pair ≡ done (attribute, column)
+  pub pair-found : (attribute column : ℕ) → IsFound (another_attribute words attributes pair.0) attribute
+      → IsFound (another_master_column names columns pair.1) column
+      → IsFound (another_pair words names (zip attributes columns) pair) (attribute, column)
   pair-found attribute column first second =
       rw (firsts-zip attributes columns each, seconds-zip attributes columns each, first, second) refl
 
@@ -31,14 +31,13 @@ module _ (words names : List (List ℕ)) (attributes columns : List ℕ) (each :
   pub no-attribute : (stop : Stop) → Finds {A = ℕ} (Err stop) (another_attribute words attributes pair.0)
       → Finds {A = ℕ × ℕ} (Err stop) (another_pair words names (zip attributes columns) pair)
   no-attribute stop finds =
-      rw (firsts-zip attributes columns each) (Finds-stopped (another_attribute words attributes pair.0) _ stop
-      (Err stop) refl finds)
+      rw (firsts-zip attributes columns each)
+      (EndsWith-stopped (run (another_attribute words attributes pair.0)) _ stop (Err stop) refl finds)
 
   -- or its column
-  pub no-column : (attribute : ℕ) (stop : Stop) → another_attribute words attributes pair.0 ≡ done attribute
+  pub no-column : (attribute : ℕ) (stop : Stop) → IsFound (another_attribute words attributes pair.0) attribute
       → Finds {A = ℕ} (Err stop) (another_master_column names columns pair.1)
       → Finds {A = ℕ × ℕ} (Err stop) (another_pair words names (zip attributes columns) pair)
   no-column attribute stop first finds =
       rw (firsts-zip attributes columns each, seconds-zip attributes columns each, first)
-      (Finds-stopped (another_master_column names columns pair.1) (λ column. done (attribute, column)) stop (Err stop)
-      refl finds)
+      (EndsWith-stopped (run (another_master_column names columns pair.1)) _ stop (Err stop) refl finds)

@@ -1,14 +1,11 @@
 -- Sessions that are put behind others.
-use Rattle.std.proofs.Common.{◌≡◌, ◌∙◌, ℕ, ◌+◌, List, [], ◌∷◌, ◌++◌, length, refl, sym, ap, append_assoc, arith, eq-eqb}
+use Rattle.std.proofs.Common.{◌≡◌, ◌∙◌, ℕ, ◌+◌, List, [], ◌∷◌, ◌++◌, length, sym, ap, append_assoc, arith}
 use Rattle.std.proofs.lemmas.List.{append-nil, length-append}
 use Rattle.desk_words.specs.declared.rows.session.SessionRow.{SessionRow}
 use Rattle.desk_words.specs.Changes.{put}
 use Rattle.machine_core.specs.Clerk.Batch.{placed}
 use Rattle.machine_core.specs.Own.{put_all}
-
--- what is put at the end stands behind the others
-put-end : {T : Type 0} (items : List T) (item : T) → put items (length items) item ≡ items ++ item ∷ []
-put-end items item = rw (eq-eqb (length items) (length items) refl) refl
+use Rattle.desk_words.proofs.Changes.{put-end}
 
 -- sessions that are put behind the others, one after another
 pub put_all-placed : (sessions news : List SessionRow) (count : ℕ) → count ≡ length sessions

@@ -10,8 +10,10 @@ use Rattle.fix_model.specs.declared.kit.Kit.{Kit}
 use Rattle.fix_model.specs.declared.state.State.{State}
 use Rattle.fix_model.specs.declared.state.Step.{Step}
 use Rattle.region_derive.specs.Derived.{AreDerived}
-use Rattle.machine_core.specs.Checked.{Explanation, IsExplanation}
-use Rattle.machine_core.proofs.Suggestions.{same-in_order}
+use Rattle.fix_engine.proofs.Once.{IsAnswer-unique}
+use Rattle.machine_core.specs.Checked.{AnswerTo, Explanation, IsAnswered, IsExplanation, Question, advises, compares}
+use Rattle.machine_core.specs.Checked.{decides, derives, explains}
+use Rattle.machine_core.proofs.Suggestions.{IsSuggestion-unique, same-in_order}
 
 -- of two reasons neither is shorter
 one-reason : (kit : Kit) (state : State) (run : List Step) (attribute : ℕ) (reason other : List Step)
@@ -36,7 +38,7 @@ same-uses kit state steps ones others are are_too =
       λ there. (are.each one).1 ((are_too.each one).0 there),
     ))
 
-pub IsExplanation-unique : (kit : Kit) (state : State) (run : List Step) (attribute : ℕ) (one other : Explanation)
+IsExplanation-unique : (kit : Kit) (state : State) (run : List Step) (attribute : ℕ) (one other : Explanation)
     → IsExplanation kit state run attribute one → IsExplanation kit state run attribute other → one ≡ other
 IsExplanation-unique kit state run attribute one other is is_too =
     let steps : one.steps ≡ other.steps =
@@ -45,7 +47,7 @@ IsExplanation-unique kit state run attribute one other is is_too =
     (rw (sym steps) is.uses) is_too.uses in
     λ i. record { steps = steps i; uses = uses i }
 
-pub AreDerived-unique : (kit : Kit) (grid : GridRows) (attributes columns : List ℕ)
+AreDerived-unique : (kit : Kit) (grid : GridRows) (attributes columns : List ℕ)
     (ones others : List (ℕ × List (List ℕ))) → AreDerived kit grid attributes columns ones
     → AreDerived kit grid attributes columns others → ones ≡ others
 AreDerived-unique kit grid attributes columns ones others are are_too =
@@ -56,7 +58,7 @@ AreDerived-unique kit grid attributes columns ones others are are_too =
       λ there. (are.each one.0 one.1).1 ((are_too.each one.0 one.1).0 there),
     ))
 
-pub AreChanged-unique : (before after : View) (ones others : List (ℕ × ℕ)) → AreChanged before after ones
+AreChanged-unique : (before after : View) (ones others : List (ℕ × ℕ)) → AreChanged before after ones
     → AreChanged before after others → ones ≡ others
 AreChanged-unique before after ones others are are_too =
     same-in_order (λ (earlier : ℕ × ℕ) (later : ℕ × ℕ). earlier.1 < later.1)
@@ -65,3 +67,18 @@ AreChanged-unique before after ones others are are_too =
       λ there. (are_too.each one.0 one.1).1 ((are.each one.0 one.1).0 there),
       λ there. (are.each one.0 one.1).1 ((are_too.each one.0 one.1).0 there),
     ))
+
+-- of the answers to a question one is as it is defined
+pub IsAnswered-unique : (question : Question) (one other : AnswerTo question) → IsAnswered question one
+    → IsAnswered question other → one ≡ other
+IsAnswered-unique (decides kit state) one other is is_too =
+    let same = IsAnswer-unique kit state one.verdict other.verdict one.first one.second other.first other.second is
+    is_too in
+    λ i. record { first = same.0 i; second = same.1 i; verdict = same.2 i }
+IsAnswered-unique (advises kit state regions) one other is is_too =
+    IsSuggestion-unique kit state regions one other is is_too
+IsAnswered-unique (explains kit state run attribute) one other is is_too =
+    IsExplanation-unique kit state run attribute one other is is_too
+IsAnswered-unique (derives kit grid attributes columns) one other is is_too =
+    AreDerived-unique kit grid attributes columns one other is is_too
+IsAnswered-unique (compares before after) one other is is_too = AreChanged-unique before after one other is is_too

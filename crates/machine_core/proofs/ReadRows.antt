@@ -15,7 +15,7 @@ use Rattle.desk_valid.specs.Valid.{AreValid}
 use Rattle.master_rows.specs.declared.error.SheetFault.{SheetFault}
 use Rattle.master_rows.specs.declared.master.Master.{Master}
 use Rattle.master_rows.specs.Sheet.{read_sheet}
-use Rattle.machine_core.specs.Checked.{value_or}
+use Rattle.machine_core.specs.Checked.{value_or, run}
 use Rattle.machine_core.specs.Deriving.{master_of}
 use Rattle.machine_core.specs.Faults.{sheet_refusal}
 use Rattle.machine_core.specs.Steward.AddEdition.{master_name}
@@ -50,7 +50,7 @@ some-read name (Err fault) there = absurd (cc)
 pub master-read : (rows : Rows) (edition : EditionRow) (name : List ℕ) (place : ℕ) (row : MasterRow) → AreValid rows
     → find (λ one. bytes_eq (master_name rows.masters one) name) edition.masters ≡ Some place
     → slice_get rows.masters place ≡ Some row
-    → value_or (read_sheet row.body) sheet_refusal ≡ master_of (published_of rows) edition name
+    → run (value_or (read_sheet row.body) sheet_refusal) ≡ run (master_of (published_of rows) edition name)
 master-read rows edition name place row valid found stands =
     let sheet = some-read row.name (read_sheet row.body) (valid.masters place row stands).reads in
     rw (found, stands, sheet.1) refl

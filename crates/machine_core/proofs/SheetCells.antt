@@ -11,9 +11,9 @@ use Rattle.master_rows.specs.Outline.{read_outline}
 use Rattle.master_rows.specs.Sheet.{read_sheet}
 use Rattle.master_rows.proofs.Masters.{IsMaster-read_sheet}
 use Rattle.master_rows.proofs.Outlines.{outlined-fault, outlined-master}
-use Rattle.machine_core.specs.Checked.{Checked, ◌>>=◌, done, value_or}
+use Rattle.machine_core.specs.Checked.{Checked, IsFound, Outcome, and_then, done, run, told, value_or, ◌>>=◌}
 use Rattle.machine_core.specs.Faults.{sheet_refusal}
-use Rattle.machine_core.specs.Outcomes.{Finds, IfRefused}
+use Rattle.machine_core.specs.Outcomes.{EndsWith, Finds, IfRefused}
 use Rattle.machine_core.specs.declared.stop.Stop.{Stop}
 use Rattle.machine_core.specs.declared.stop.Stop.TheVariants.{Refused, NoMemory}
 
@@ -23,10 +23,11 @@ cells_read read = value_or read sheet_refusal >>= (λ master. done (cell_count m
 
 -- an outline has as many cells as the master
 pub cells-outline : (sheet : List ℕ) (outline : Outline) → read_outline sheet ≡ Ok outline
-    → cells_read (read_sheet sheet) ≡ done (length outline.columns * outline.rows)
+    → IsFound (cells_read (read_sheet sheet)) (length outline.columns * outline.rows)
 cells-outline sheet outline is =
-    let told = outlined-master (read_sheet sheet) outline is in
-    ap cells_read told.1 ∙ ap (λ (one : Outline). done (length one.columns * one.rows)) told.2
+    let outlined = outlined-master (read_sheet sheet) outline is in
+    ap (λ one. run (cells_read one)) outlined.1
+    ∙ ap (λ (one : Outline). told (Ok (length one.columns * one.rows))) outlined.2
 
 -- at most 48 columns over 20,000 rows
 pub outline-few : (sheet : List ℕ) (outline : Outline) → read_outline sheet ≡ Ok outline
@@ -49,15 +50,15 @@ cells-fault sheet fault (Refused refusal) says is =
 cells-fault sheet fault NoMemory says is = tt
 
 -- where the cells are found the master is
-pub cells-found : (read : Result Master SheetFault) (count : ℕ) → cells_read read ≡ done count
+pub cells-found : (read : Result Master SheetFault) (count : ℕ) → IsFound (cells_read read) count
     → (master : Master) × (read ≡ Ok master) × (cell_count master ≡ count)
 cells-found (Ok master) count is = (master, refl, cc)
 cells-found (Err fault) count is = absurd (cc)
 
 -- and where they are not, what comes of the master stops too
-pub cells-stopped : {B : Type 0} (read : Result Master SheetFault) (next : Master → Checked B) (stop : Stop)
+pub cells-stopped : {B : Type 0} (read : Result Master SheetFault) (next : Master → Outcome B) (stop : Stop)
     (result : Result B Stop) → IsErrAnd result (λ one. one ≡ stop) → Finds {A = ℕ} (Err stop) (cells_read read)
-    → Finds result (value_or read sheet_refusal >>= next)
+    → EndsWith result (and_then (run (value_or read sheet_refusal)) next)
 cells-stopped read next stop (Ok value) is finds = absurd is
 cells-stopped (Ok master) next (Refused refusal) (Err other) is finds = absurd (cc)
 cells-stopped (Err fault) next (Refused refusal) (Err other) is finds = rw is (cc)

@@ -1,10 +1,9 @@
 -- What stands on the shelf after an edition was brought to its front, or put there.
 use Rattle.std.proofs.Common.{◌≡◌, ◌∙◌, ◌-◌, ℕ, nat_eq, true, List, [], ◌∷◌, Option, Some, None, inl, inr, refl}
 use Rattle.std.proofs.Common.{subst, ap, sym, take, eq-eqb}
-use Rattle.std.specs.Borrow.{Bor}
 use Rattle.std.specs.Prelude.{All, IfSome, OnErr, OnOk, Result, Ok, Err, is_some, slice_get}
 use Rattle.std.specs.Map.{lookup, lookup_entry, remove_entry}
-use Rattle.std.specs.Option.{option_copied, option_map_or}
+use Rattle.std.specs.Option.{option_map_or}
 use Rattle.std.proofs.lemmas.Bool.{cases_Bool, eqb-true}
 use Rattle.std.proofs.lemmas.Option.{same_Some}
 use Rattle.std.proofs.lemmas.List.Elements.{All-cons, All-head, All-tail, All-take}
@@ -93,11 +92,6 @@ module _ (P : ℕ × Shelved → Type 0) (edition : ℕ) where
       → P (edition, shelved) → All P new
   All-after_put (Ok done) new held shelved put stays all is = rw put (All-put held shelved all is)
   All-after_put (Err fault) new held shelved put stays all is = rw stays all
-
--- something is lent exactly where something stands there
-pub is_some-lent : {T : Type 0} (found : Option (Bor T)) → is_some (option_copied found) ≡ is_some found
-is_some-lent None = refl
-is_some-lent (Some lent) = refl
 
 -- the first edition on a shelf is held
 pub held-first : (edition : ℕ) (held : List (ℕ × Shelved)) → IsFirst edition held

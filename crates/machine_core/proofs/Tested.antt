@@ -9,9 +9,11 @@ use Rattle.desk_words.specs.declared.limit.Which.{Which}
 use Rattle.desk_words.specs.declared.refusal.Refusal.{Refusal}
 use Rattle.desk_words.specs.declared.refusal.Refusal.TheVariants.{Limit}
 use Rattle.machine_core.specs.Checked.{Checked, done, ◌>>=◌, certainly, each, each_behind, some_or, unless, value_or}
+use Rattle.machine_core.specs.Checked.{IsFound, ComesTo, Outcome, and_then, run}
 use Rattle.machine_core.specs.Checked.{Gives}
 use Rattle.machine_core.specs.Limits.{limit_of, within}
 use Rattle.machine_core.proofs.Chains.{Gives-bind, Gives-bind_err, Gives-bind_ok, done-not_refused, done-value}
+use Rattle.machine_core.proofs.Chains.{and_then-err}
 
 -- the test passed
 pub unless-ok : (test : Bool) (refusal : Refusal) (passed : Unit {0}) → Gives (unless test refusal) (Ok passed)
@@ -50,7 +52,8 @@ certainly-err None refusal gives = gives
 certainly-err (Some found) refusal gives = cc
 
 -- and is there, where it is known to be
-pub certainly-some : {A : Type 0} (option : Option A) (found : A) → option ≡ Some found → certainly option ≡ done found
+pub certainly-some : {A : Type 0} (option : Option A) (found : A) → option ≡ Some found
+    → IsFound (certainly option) found
 certainly-some None found is = absurd (cc)
 certainly-some (Some other) found is = cc
 
@@ -86,20 +89,21 @@ pub each-all : {A B : Type 0} (P : B → Type 0) (find : A → Checked B) (items
     → All P found
 each-all P find [] found holds gives = subst (All P) (sym (done-value [] found gives)) (All-nil P)
 each-all P find (first ∷ others) found holds gives =
-    let here = Gives-bind_ok (find first) (λ one. each find others >>= (λ more. done (one ∷ more))) found gives in
-    let rest = Gives-bind_ok (each find others) (λ more. done (here.0 ∷ more)) found here.2 in
-    subst (All P) (sym (done-value (here.0 ∷ rest.0) found rest.2))
-    (All-cons P here.0 rest.0 (holds first here.0 here.1)
-    (each-all P find others rest.0 holds rest.1))
+    let (here, is_here, left) =
+    Gives-bind_ok (find first) (λ one. each find others >>= (λ more. done (one ∷ more))) found gives in
+    let (more, are_more, is) = Gives-bind_ok (each find others) (λ more. done (here ∷ more)) found left in
+    subst (All P) (sym (done-value (here ∷ more) found is))
+    (All-cons P here more (holds first here is_here) (each-all P find others more holds are_more))
 
 -- as many are found as there are items
 pub each-length : {A B : Type 0} (find : A → Checked B) (items : List A) (found : List B)
     → Gives (each find items) (Ok found) → length found ≡ length items
 each-length find [] found gives = ap length (done-value [] found gives)
 each-length find (first ∷ others) found gives =
-    let here = Gives-bind_ok (find first) (λ one. each find others >>= (λ more. done (one ∷ more))) found gives in
-    let rest = Gives-bind_ok (each find others) (λ more. done (here.0 ∷ more)) found here.2 in
-    ap length (done-value (here.0 ∷ rest.0) found rest.2) ∙ ap suc (each-length find others rest.0 rest.1)
+    let (here, is_here, left) =
+    Gives-bind_ok (find first) (λ one. each find others >>= (λ more. done (one ∷ more))) found gives in
+    let (more, are_more, is) = Gives-bind_ok (each find others) (λ more. done (here ∷ more)) found left in
+    ap length (done-value (here ∷ more) found is) ∙ ap suc (each-length find others more are_more)
 
 -- where a list is refused, one of its items is
 pub each-err : {A B : Type 0} (find : A → Checked B) (items : List A) (refusal : Refusal)
@@ -108,11 +112,16 @@ each-err find [] refusal gives = absurd (cc)
 each-err {A} {B} find (first ∷ others) refusal gives =
     elim (Gives-bind_err (find first) (λ found. each find others >>= (λ more. done (found ∷ more))) refusal gives) [
       | inl here ↦ (first, (0, grind arith, refl), here)
-      | inr found ↦ elim (Gives-bind_err (each find others) (λ more. done (found.0 ∷ more)) refusal found.2) [
-        | inl there ↦ (let rest = each-err find others refusal there in
-            (rest.0, Contains-append_right (first ∷ []) others rest.0 rest.1, rest.2))
-        | inr more ↦ absurd (done-not_refused (found.0 ∷ more.0) refusal more.2)
-      ]
+      | inr found ↦
+          let (one, is_one, left) = found in
+          elim (Gives-bind_err (each find others) (λ more. done (one ∷ more)) refusal left) [
+            | inl there ↦
+                let (item, listed, refused_so) = each-err find others refusal there in
+                (item, Contains-append_right (first ∷ []) others item listed, refused_so)
+            | inr more ↦
+                let (list, are, told_so) = more in
+                absurd (done-not_refused (one ∷ list) refusal told_so)
+          ]
     ]
 
 -- where each item passes behind those before it, what each leaves so holds of all
@@ -122,44 +131,36 @@ pub each_behind-all : {A B : Type 0} (P : List B → Type 0) (find : List B → 
     → P before → Gives (each_behind before find items) (Ok found) → P found
 each_behind-all P find [] before found holds start gives = subst P (sym (done-value before found gives)) start
 each_behind-all P find (first ∷ others) before found holds start gives =
-    let here = Gives-bind_ok (find before first) (λ one. each_behind (before ++ one ∷ []) find others) found gives in
-    each_behind-all P find others (before ++ here.0 ∷ []) found holds (holds before first here.0 start here.1) here.2
-
--- where such a list is refused, one of its items is, behind those before it
-pub each_behind-err : {A B : Type 0} (find : List B → A → Checked B) (items : List A) (before : List B)
-    (refusal : Refusal)
-    → Gives (each_behind before find items) (Err refusal)
-    → (item : A) × Contains items item × (sofar : List B) × Gives (find sofar item) (Err refusal)
-each_behind-err find [] before refusal gives = absurd (cc)
-each_behind-err find (first ∷ others) before refusal gives =
-    elim (Gives-bind_err (find before first) (λ one. each_behind (before ++ one ∷ []) find others) refusal gives) [
-      | inl here ↦ (first, (0, grind arith, refl), before, here)
-      | inr found ↦ (let rest = each_behind-err find others (before ++ found.0 ∷ []) refusal found.2 in
-          (rest.0, Contains-append_right (first ∷ []) others rest.0 rest.1, rest.2, rest.3))
-    ]
+    let (here, is_here, left) =
+    Gives-bind_ok (find before first) (λ one. each_behind (before ++ one ∷ []) find others) found gives in
+    each_behind-all P find others (before ++ here ∷ []) found holds (holds before first here start is_here) left
 
 -- as many are found as there are items, behind those before them
 pub each_behind-length : {A B : Type 0} (find : List B → A → Checked B) (items : List A) (before found : List B)
     → Gives (each_behind before find items) (Ok found) → length found ≡ length before + length items
 each_behind-length find [] before found gives = omega (arith, ap length (done-value before found gives))
 each_behind-length find (first ∷ others) before found gives =
-    let here = Gives-bind_ok (find before first) (λ one. each_behind (before ++ one ∷ []) find others) found gives in
+    let (here, is_here, left) =
+    Gives-bind_ok (find before first) (λ one. each_behind (before ++ one ∷ []) find others) found gives in
     omega (
       arith,
-      each_behind-length find others (before ++ here.0 ∷ []) found here.2,
-      length-append before (here.0 ∷ []),
+      each_behind-length find others (before ++ here ∷ []) found left,
+      length-append before (here ∷ []),
     )
 
 -- what holds of each refusal of the parts holds of that of the chain
-pub chain-why : {A B : Type 0} (P : Refusal → Type 0) (checked : Checked A) (next : A → Checked B)
+pub chain-why : {A B : Type 0} (P : Refusal → Type 0) (checked : Checked A) (next : A → Outcome B)
     → ((refusal : Refusal) → Gives checked (Err refusal) → P refusal)
-    → ((found : A) → Gives checked (Ok found) → (refusal : Refusal) → Gives (next found) (Err refusal) → P refusal)
-    → (refusal : Refusal) → Gives (checked >>= next) (Err refusal) → P refusal
-chain-why P checked next first rest refusal gives = elim (Gives-bind_err checked next refusal gives) [
+    → ((found : A) → Gives checked (Ok found) → (refusal : Refusal) → ComesTo (next found) (Err refusal) → P refusal)
+    → (refusal : Refusal) → ComesTo (and_then (run checked) next) (Err refusal) → P refusal
+chain-why P checked next first rest refusal comes = elim (and_then-err (run checked) next refusal comes) [
   | inl here ↦ first refusal here
-  | inr there ↦ rest there.0 there.1 refusal there.2
+  | inr there ↦
+      let (found, is_found, left) = there in
+      rest found is_found refusal left
 ]
 
+-- what holds of the refusal where the test fails holds of that of the test
 pub unless-why : (P : Refusal → Type 0) (test : Bool) (refusal : Refusal) → (test ≡ false → P refusal)
     → (other : Refusal)
     → Gives (unless test refusal) (Err other) → P other
@@ -182,8 +183,8 @@ pub value_or-why : {A E : Type 0} (P : Refusal → Type 0) (result : Result A E)
     → ((fault : E) → result ≡ Err fault → P (refusal_of fault)) → (other : Refusal)
     → Gives (value_or result refusal_of) (Err other) → P other
 value_or-why P result refusal_of why other gives =
-    let says = value_or-err result refusal_of other gives in
-    subst P (sym says.2) (why says.0 says.1)
+    let (fault, is, same) = value_or-err result refusal_of other gives in
+    subst P (sym same) (why fault is)
 
 pub within-why : (P : Refusal → Type 0) (which : Which) (count : ℕ)
     → (limit_of which < count → P (Limit which (limit_of which))) → (other : Refusal)
@@ -200,48 +201,82 @@ pub each-why : {A B : Type 0} (P : Refusal → Type 0) (find : A → Checked B) 
     → ((item : A) → Contains items item → (refusal : Refusal) → Gives (find item) (Err refusal) → P refusal)
     → (refusal : Refusal) → Gives (each find items) (Err refusal) → P refusal
 each-why P find items why refusal gives =
-    let says = each-err find items refusal gives in
-    why says.0 says.1 refusal says.2
+    let (item, listed, refused_so) = each-err find items refusal gives in
+    why item listed refusal refused_so
 
--- where a list of tests behind one another is refused, the items before the refused one passed
+-- the item at which a list of tests after one another is refused, with those before it, which passed
+pub record IsRefusedAt {A B : Type 0} (find : List B → A → Checked B) (before : List B) (items : List A)
+    (refusal : Refusal) : Type 0 where
+  pub earlier : List A
+  pub item : A
+  pub later : List A
+  pub sofar : List B
+  pub same : items ≡ earlier ++ item ∷ later
+  pub passed : Gives (each_behind before find earlier) (Ok sofar)
+  pub refused_so : Gives (find sofar item) (Err refusal)
+
+-- where such a list is refused, it is so at an item
 pub each_behind-refused : {A B : Type 0} (find : List B → A → Checked B) (items : List A) (before : List B)
     (refusal : Refusal) → Gives (each_behind before find items) (Err refusal)
-    → (earlier : List A) × (item : A) × (later : List A) × (sofar : List B) × (items ≡ earlier ++ item ∷ later)
-    × Gives (each_behind before find earlier) (Ok sofar) × Gives (find sofar item) (Err refusal)
+    → IsRefusedAt find before items refusal
 each_behind-refused find [] before refusal gives = absurd (cc)
 each_behind-refused find (first ∷ others) before refusal gives =
     elim (Gives-bind_err (find before first) (λ one. each_behind (before ++ one ∷ []) find others) refusal gives) [
-      | inl here ↦ ([], first, others, before, refl, refl, here)
-      | inr found ↦ (let rest = each_behind-refused find others (before ++ found.0 ∷ []) refusal found.2 in (
-        first ∷ rest.0,
-        rest.1,
-        rest.2,
-        rest.3,
-        ap (λ more. first ∷ more) rest.4,
-        Gives-bind (find before first) (λ one. each_behind (before ++ one ∷ []) find rest.0) found.0 (Ok rest.3) found.1
-            rest.5,
-        rest.6,
-      ))
+      | inl here ↦ record {
+        earlier = [];
+        item = first;
+        later = others;
+        sofar = before;
+        same = refl;
+        passed = refl;
+        refused_so = here;
+      }
+      | inr there ↦
+          let (found, is_found, left) = there in
+          let rest = each_behind-refused find others (before ++ found ∷ []) refusal left in
+          record {
+            earlier = first ∷ rest.earlier;
+            item = rest.item;
+            later = rest.later;
+            sofar = rest.sofar;
+            same = ap (λ more. first ∷ more) rest.same;
+            passed = Gives-bind (find before first) (λ one. each_behind (before ++ one ∷ []) find rest.earlier) found
+                (Ok rest.sofar) is_found rest.passed;
+            refused_so = rest.refused_so;
+          }
     ]
 
--- each value that is found behind others was found for an item
+-- the item that a value was found for
+pub record IsFoundFor {A B : Type 0} (find : List B → A → Checked B) (items : List A) (value : B) : Type 0 where
+  pub item : A
+  pub listed : Contains items item
+  pub sofar : List B
+  pub gave : Gives (find sofar item) (Ok value)
+
+-- each value that is found after others was found for an item
 pub each_behind-found : {A B : Type 0} (find : List B → A → Checked B) (items : List A) (before sofar : List B)
     (value : B)
     → Gives (each_behind before find items) (Ok sofar) → Contains sofar value
-    → Contains before value ⊎ ((item : A) × Contains items item × (some : List B) × Gives (find some item) (Ok value))
+    → Contains before value ⊎ IsFoundFor find items value
 each_behind-found find [] before sofar value gives there =
     inl (subst (λ list. Contains list value) (done-value before sofar gives) there)
 each_behind-found find (first ∷ others) before sofar value gives there =
-    let here = Gives-bind_ok (find before first) (λ one. each_behind (before ++ one ∷ []) find others) sofar gives in
-    elim (each_behind-found find others (before ++ here.0 ∷ []) sofar value here.2 there) [
-      | inl found ↦ elim (Contains-push_cases before here.0 value found) [
+    let (here, is_here, left) =
+    Gives-bind_ok (find before first) (λ one. each_behind (before ++ one ∷ []) find others) sofar gives in
+    elim (each_behind-found find others (before ++ here ∷ []) sofar value left there) [
+      | inl found ↦ elim (Contains-push_cases before here value found) [
         | inl earlier ↦ inl earlier
-        | inr is ↦ inr (
-          first,
-          (0, grind arith, refl),
-          before,
-          subst (λ one. Gives (find before first) (Ok one)) is here.1,
-        )
+        | inr is ↦ inr (record {
+          item = first;
+          listed = (0, grind arith, refl);
+          sofar = before;
+          gave = subst (λ one. Gives (find before first) (Ok one)) is is_here;
+        })
       ]
-      | inr rest ↦ inr (rest.0, Contains-append_right (first ∷ []) others rest.0 rest.1, rest.2, rest.3)
+      | inr rest ↦ inr (record {
+        item = rest.item;
+        listed = Contains-append_right (first ∷ []) others rest.item rest.listed;
+        sofar = rest.sofar;
+        gave = rest.gave;
+      })
     ]

@@ -50,7 +50,7 @@ use Rattle.schema_core.specs.declared.fault.SchemaFault.{SchemaFault}
 use Rattle.schema_core.specs.declared.schema.Schema.{Schema}
 use Rattle.schema_core.specs.Reading.{schema_of}
 use Rattle.machine_core.specs.Answers.{state_of}
-use Rattle.machine_core.specs.Checked.{Answer, done, each, each_behind, Gives}
+use Rattle.machine_core.specs.Checked.{Answer, each, each_behind, Gives, IsFound}
 use Rattle.machine_core.specs.declared.column.Column.{Column}
 use Rattle.machine_core.specs.Clerk.Batch.{another_column, row_session}
 use Rattle.machine_core.specs.Clerk.Commit.{record_at}
@@ -75,14 +75,14 @@ pub record AsksWith (rows : Rows) (command : Command) (own : Own) : Type 0 where
   pub name : List ℕ
   pub asks : clerk_in command ≡ Some name
   pub place : ℕ
-  pub found : clerk_of rows.clerks name ≡ done place
+  pub found : IsFound (clerk_of rows.clerks name) place
   pub is_own : own ≡ own_of rows place
 
 -- the row of the caller who writes, and the ticket
 abbrev pub WritesWith : Rows → Command → ClerkRow → Ticket → Type 0
 WritesWith rows (Steward ticket work) row one = (row ≡ (own_of rows 0).row) × (one ≡ ticket)
 WritesWith rows (Clerk name ticket work) row one =
-    (place : ℕ) × (clerk_of rows.clerks name ≡ done place) × (row ≡ (own_of rows place).row) × (one ≡ ticket)
+    (place : ℕ) × (IsFound (clerk_of rows.clerks name) place) × (row ≡ (own_of rows place).row) × (one ≡ ticket)
 WritesWith rows _ row one = ⊥
 
 -- the command names this session of the clerk who asks
@@ -345,7 +345,7 @@ Cause rows command (NotFixed word) =
     × ¬ IsFixed (end_of bound.kit (state_of session) answer.first) place
 Cause rows command (NoColumn word) =
     (edition : EditionRow) × (name : List ℕ) × (sheet : Master) × AsksMaster rows command edition name
-    × (master_of (published_of rows) edition name ≡ done sheet) × Contains (columns_in command) word
+    × (IsFound (master_of (published_of rows) edition name) sheet) × Contains (columns_in command) word
     × All (λ one. one ≢ word) sheet.columns
 Cause rows command (NotNewer version) =
     (session : SessionRow) × (asked_for : ℕ) × Names rows command session × (carried_in command ≡ Some asked_for)

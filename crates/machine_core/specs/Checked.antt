@@ -33,56 +33,53 @@ pub record IsExplanation (kit : Kit) (state : State) (run : List Step) (attribut
   pub reason : IsReason kit state run attribute explanation.steps
   pub uses : AreUses kit state explanation.steps explanation.uses
 
--- a value, a refusal, or a question and what comes of its answer: what the rules make of a state, what is suggested for
--- it, why a run fixes an attribute, which rows a grid gives for attributes and columns, or which cells two views show
--- otherwise; or what valid tables rule out
-pub data Checked (A : Type 0) : Type 0 where
-  done : A → Checked A
-  refused : Refusal → Checked A
-  asked : Kit → State → (Answer → Checked A) → Checked A
-  advised : Kit → State → List Region → (Suggestion → Checked A) → Checked A
-  explained : Kit → State → List Step → ℕ → (Explanation → Checked A) → Checked A
-  derived : Kit → GridRows → List ℕ → List ℕ → (List (ℕ × List (List ℕ)) → Checked A) → Checked A
-  compared : View → View → (List (ℕ × ℕ) → Checked A) → Checked A
-  never : Checked A
+-- what is asked of the engine on the way: what the rules make of a state, what is suggested for it, why a run fixes an
+-- attribute, which rows a grid gives for attributes and columns, or which cells two views show otherwise
+pub data Question : Type 0 where
+  decides : Kit → State → Question
+  advises : Kit → State → List Region → Question
+  explains : Kit → State → List Step → ℕ → Question
+  derives : Kit → GridRows → List ℕ → List ℕ → Question
+  compares : View → View → Question
+
+-- what is answered to a question
+abbrev pub AnswerTo : Question → Type 0
+AnswerTo (decides kit state) = Answer
+AnswerTo (advises kit state regions) = Suggestion
+AnswerTo (explains kit state run attribute) = Explanation
+AnswerTo (derives kit grid attributes columns) = List (ℕ × List (List ℕ))
+AnswerTo (compares before after) = List (ℕ × ℕ)
+
+-- the question is answered as it is defined
+abbrev pub IsAnswered : (question : Question) → AnswerTo question → Type 0
+IsAnswered (decides kit state) answer = IsAnswer kit state answer.first answer.second answer.verdict
+IsAnswered (advises kit state regions) suggestion = IsSuggestion kit state regions suggestion
+IsAnswered (explains kit state run attribute) explanation = IsExplanation kit state run attribute explanation
+IsAnswered (derives kit grid attributes columns) rows = AreDerived kit grid attributes columns rows
+IsAnswered (compares before after) pairs = AreChanged before after pairs
 
 infixl 10 ◌>>=◌
--- what comes of a value, where the tests before it pass
-abbrev pub ◌>>=◌ : {A B : Type 0} → Checked A → (A → Checked B) → Checked B
-done value >>= next = next value
-refused refusal >>= next = refused refusal
-asked kit state more >>= next = asked kit state (λ answer. more answer >>= next)
-advised kit state regions more >>= next = advised kit state regions (λ suggestion. more suggestion >>= next)
-explained kit state run attribute more >>= next =
-    explained kit state run attribute (λ explanation. more explanation >>= next)
-derived kit grid attributes columns more >>= next = derived kit grid attributes columns (λ rows. more rows >>= next)
-compared before after more >>= next = compared before after (λ pairs. more pairs >>= next)
-never >>= next = never
+-- tests in their order: a value is found, what is refused ends them, a question is asked; or valid tables rule it out
+pub data Checked : Type 0 → Type 1 where
+  done : {A : Type 0} → A → Checked A
+  refused : {A : Type 0} → Refusal → Checked A
+  asked : (question : Question) → Checked (AnswerTo question)
+  never : {A : Type 0} → Checked A
+  -- what is found goes on to the tests after it
+  ◌>>=◌ : {A B : Type 0} → Checked A → (A → Checked B) → Checked B
+  -- refused so, where the test fails
+  unless : Bool → Refusal → Checked (Unit {0})
+  -- refused so, where there is none
+  some_or : {A : Type 0} → Option A → Refusal → Checked A
+  -- what valid tables have
+  certainly : {A : Type 0} → Option A → Checked A
+  -- refused by what is said of the fault, where there is one
+  value_or : {A E : Type 0} → Result A E → (E → Refusal) → Checked A
 
 infixl 10 ◌>>◌
 -- a test whose value is not wanted
 abbrev pub ◌>>◌ : {A B : Type 0} → Checked A → Checked B → Checked B
 test >> rest = test >>= (λ _. rest)
-
--- refused so, where the test fails
-abbrev pub unless : Bool → Refusal → Checked (Unit {0})
-unless true refusal = done tt
-unless false refusal = refused refusal
-
--- refused so, where there is none
-abbrev pub some_or : {A : Type 0} → Option A → Refusal → Checked A
-some_or None refusal = refused refusal
-some_or (Some found) refusal = done found
-
--- what valid tables have
-abbrev pub certainly : {A : Type 0} → Option A → Checked A
-certainly None = never
-certainly (Some found) = done found
-
--- refused by what is said of the fault, where there is one
-abbrev pub value_or : {A E : Type 0} → Result A E → (E → Refusal) → Checked A
-value_or (Ok value) refusal_of = done value
-value_or (Err fault) refusal_of = refused (refusal_of fault)
 
 -- what is found of each item, in their order, where each passes
 abbrev pub each : {A B : Type 0} → (A → Checked B) → List A → Checked (List B)
@@ -101,36 +98,70 @@ each_behind before find (first ∷ others) = do
 
 -- what the rules make of a state
 abbrev pub answer_for : Kit → State → Checked Answer
-answer_for kit state = asked kit state (λ answer. done answer)
+answer_for kit state = asked (decides kit state)
 
 -- what is suggested for a state
 abbrev pub advice_for : Kit → State → List Region → Checked Suggestion
-advice_for kit state regions = advised kit state regions (λ suggestion. done suggestion)
+advice_for kit state regions = asked (advises kit state regions)
 
 -- why a run fixes an attribute
 abbrev pub explanation_for : Kit → State → List Step → ℕ → Checked Explanation
-explanation_for kit state run attribute = explained kit state run attribute (λ explanation. done explanation)
+explanation_for kit state run attribute = asked (explains kit state run attribute)
 
 -- the rows, from 0, that a grid gives for attributes and columns, each with its texts
 abbrev pub rows_for : Kit → GridRows → List ℕ → List ℕ → Checked (List (ℕ × List (List ℕ)))
-rows_for kit grid attributes columns = derived kit grid attributes columns (λ rows. done rows)
+rows_for kit grid attributes columns = asked (derives kit grid attributes columns)
 
 -- the places of the cells that two views show otherwise
 abbrev pub changes_for : View → View → Checked (List (ℕ × ℕ))
-changes_for before after = compared before after (λ pairs. done pairs)
+changes_for before after = asked (compares before after)
 
--- the result that comes of it, where each question is answered as it is defined
+-- ---- what comes of tests
+
+-- a value or a refusal is told; or a question is open, and what comes of its answer; or nothing, by valid tables
+pub data Outcome (A : Type 0) : Type 0 where
+  told : Result A Refusal → Outcome A
+  awaits : (question : Question) → (AnswerTo question → Outcome A) → Outcome A
+  nothing : Outcome A
+
+-- what comes of a value that is found, and of the tests after it
+abbrev pub and_then : {A B : Type 0} → Outcome A → (A → Outcome B) → Outcome B
+and_then (told (Ok value)) next = next value
+and_then (told (Err refusal)) next = told (Err refusal)
+and_then (awaits question more) next = awaits question (λ answer. and_then (more answer) next)
+and_then nothing next = nothing
+
+-- what comes of tests, made in their order
+abbrev pub run : {A : Type 0} → Checked A → Outcome A
+run (done value) = told (Ok value)
+run (refused refusal) = told (Err refusal)
+run (asked question) = awaits question (λ answer. told (Ok answer))
+run never = nothing
+run (first >>= next) = and_then (run first) (λ value. run (next value))
+run (unless true refusal) = told (Ok tt)
+run (unless false refusal) = told (Err refusal)
+run (some_or None refusal) = told (Err refusal)
+run (some_or (Some found) refusal) = told (Ok found)
+run (certainly None) = nothing
+run (certainly (Some found)) = told (Ok found)
+run (value_or (Ok value) refusal_of) = told (Ok value)
+run (value_or (Err fault) refusal_of) = told (Err (refusal_of fault))
+
+-- what an outcome comes to, where each question is answered as it is defined
+abbrev pub ComesTo : {A : Type 0} → Outcome A → Result A Refusal → Type 0
+ComesTo (told result) other = other ≡ result
+ComesTo (awaits question more) result =
+    (answer : AnswerTo question) × IsAnswered question answer × ComesTo (more answer) result
+ComesTo nothing result = ⊥
+
+-- the result that comes of tests, where each question is answered as it is defined
 abbrev pub Gives : {A : Type 0} → Checked A → Result A Refusal → Type 0
-Gives (done value) result = result ≡ Ok value
-Gives (refused refusal) result = result ≡ Err refusal
-Gives (asked kit state next) result =
-    (answer : Answer) × IsAnswer kit state answer.first answer.second answer.verdict × Gives (next answer) result
-Gives (advised kit state regions next) result =
-    (suggestion : Suggestion) × IsSuggestion kit state regions suggestion × Gives (next suggestion) result
-Gives (explained kit state run attribute next) result =
-    (explanation : Explanation) × IsExplanation kit state run attribute explanation × Gives (next explanation) result
-Gives (derived kit grid attributes columns next) result =
-    (rows : List (ℕ × List (List ℕ))) × AreDerived kit grid attributes columns rows × Gives (next rows) result
-Gives (compared before after next) result =
-    (pairs : List (ℕ × ℕ)) × AreChanged before after pairs × Gives (next pairs) result
-Gives never result = ⊥
+Gives checked result = ComesTo (run checked) result
+
+-- the tests, which ask nothing, find this value
+abbrev pub IsFound : {A : Type 0} → Checked A → A → Type 0
+IsFound checked value = run checked ≡ told (Ok value)
+
+-- the tests, which ask nothing before it, are refused so
+abbrev pub IsRefused : {A : Type 0} → Checked A → Refusal → Type 0
+IsRefused checked refusal = run checked ≡ told (Err refusal)

@@ -1,5 +1,5 @@
 -- Whether a write is a new one, or the last one again.
-use Rattle.std.specs.Prelude.{ℕ, ◌+◌, ◌≤◌, nat_lt, ◌==◌, List, sum_by, if◌then◌else◌, ⊤}
+use Rattle.std.specs.Prelude.{ℕ, ◌+◌, ◌≤◌, nat_le, ◌==◌, Bool, true, false, List, sum_by, ⊤}
 use Rattle.desk_base.specs.declared.limits.TheConstants.{MAX_REQUEST}
 use Rattle.desk_words.specs.declared.command.Command.{Command}
 use Rattle.desk_words.specs.declared.command.Command.TheVariants.{Steward, Clerk, Look, DeskReport, DeskDerive}
@@ -10,7 +10,7 @@ use Rattle.desk_words.specs.declared.rows.act.Act.{Act}
 use Rattle.desk_words.specs.declared.rows.clerk.ClerkRow.{ClerkRow}
 use Rattle.machine_core.specs.declared.ticket.Use.{Use as UseOf}
 use Rattle.machine_core.specs.declared.ticket.Use.TheVariants.{Fresh, Repeated}
-use Rattle.machine_core.specs.Checked.{Checked, done, refused, ◌>>◌, unless}
+use Rattle.machine_core.specs.Checked.{Checked, ◌>>◌, done, unless}
 
 -- the last number again: a repeat where the digest is the kept one
 abbrev pub repeat_of : ClerkRow → Ticket → Checked UseOf
@@ -18,13 +18,17 @@ repeat_of row ticket = do
   unless (bytes_eq row.digest.bytes ticket.digest.bytes) (Reused row.last)
   done Repeated
 
+-- a number that is the last one, or that follows it
+abbrev pub use_at : Bool → ClerkRow → Ticket → Checked UseOf
+use_at true row ticket = repeat_of row ticket
+use_at false row ticket = done Fresh
+
 -- the number is the last one, or follows it
 abbrev pub use_of : ClerkRow → Ticket → Checked UseOf
-use_of row ticket =
-    if nat_lt ticket.number row.last then refused (Stale row.last)
-    else if nat_lt (row.last + 1) ticket.number then refused (Gap row.last)
-    else if ticket.number == row.last then repeat_of row ticket
-    else done Fresh
+use_of row ticket = do
+  unless (nat_le row.last ticket.number) (Stale row.last)
+  unless (nat_le ticket.number (row.last + 1)) (Gap row.last)
+  use_at (ticket.number == row.last) row ticket
 
 -- the number that a write may have; looks have none
 abbrev pub IsNumbered : Command → Type 0

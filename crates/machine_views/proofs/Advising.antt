@@ -1,12 +1,11 @@
 -- What a suggestion names.
-use Rattle.std.proofs.Common.{◌≡◌, ℕ, ◌^◌, ◌<◌, Bool, List, length, get_or, map, Option, Some, Ok, inl, inr, refl}
+use Rattle.std.proofs.Common.{◌≡◌, ℕ, ◌^◌, ◌<◌, Bool, List, length, get_or, map, Option, Some, Ok, inl, inr}
 use Rattle.std.proofs.Common.{sym, ap, subst, eqb-true, arith}
 use Rattle.std.specs.Prelude.{◌==◌, All, IfSome, not, filter}
 use Rattle.std.specs.List.{range_with_len}
 use Rattle.std.proofs.lemmas.List.{get_or_default, get_or-map, length-map}
 use Rattle.std.proofs.lemmas.List.Elements.{All-filter, All-map, All-nil, filter_passes}
 use Rattle.std.proofs.lemmas.List.Sums.{count_by-le-length, length-filter}
-use Rattle.std.proofs.lemmas.List.FromFn.{get_or-range_with_len, length-range_with_len}
 use Rattle.std.proofs.lemmas.Option.{slice_get-get_or}
 use Rattle.fix_model.specs.declared.kit.Kit.{Kit}
 use Rattle.fix_model.specs.declared.region.Region.{Region}
@@ -28,19 +27,14 @@ use Rattle.desk_valid.specs.Readings.{width_at}
 use Rattle.desk_valid.specs.Rows.Region.{IsRegionRow}
 use Rattle.desk_valid.specs.Valid.{AreValid}
 use Rattle.machine_core.specs.Answers.{bound_for, state_of}
-use Rattle.machine_core.specs.Checked.{Checked, ◌>>=◌, advice_for, done, Gives}
+use Rattle.machine_core.specs.Checked.{◌>>=◌, advice_for, done, Gives, IsFound}
 use Rattle.machine_core.specs.Look.Suggest.{named_suggestion, regions_of, suggestion_of}
 use Rattle.machine_core.specs.Own.{Own}
 use Rattle.machine_core.specs.Tests.{active_session}
-use Rattle.machine_core.proofs.Chains.{Gives-bind}
+use Rattle.machine_core.proofs.Chains.{Gives-bind, Gives-found}
 use Rattle.machine_core.proofs.Widths.{kit-width, width-bound}
 use Rattle.machine_views.specs.Looking.{IsSuggestedFor}
-
--- the attributes from 0 on are below their number
-below-range : (count : ℕ) → All (λ attribute. attribute < count) (range_with_len 0 count)
-below-range count place past inside =
-    let within : place < count = omega (arith, inside, length-range_with_len 0 count) in
-    omega (arith, within, get_or-range_with_len 0 count place past within)
+use Rattle.desk_base.proofs.Lists.{range-below}
 
 module _ (kit : Kit) where
   -- each attribute that is needed is one of the kit
@@ -56,7 +50,7 @@ module _ (kit : Kit) where
       let Within : ℕ → Type 0 = λ attribute. attribute < kit.width in
       let all : All Within (map (λ gain. gain.0) gains) = subst (All Within) (sym are.attributes)
       (All-filter (λ attribute. not (is_covering (cell_at end attribute))) Within (range_with_len 0 kit.width)
-      (below-range kit.width)) in
+      (range-below kit.width)) in
       let first : (ℕ × ℕ) → ℕ = λ gain. gain.0 in
       let there = all place past.0 (omega (arith, inside, length-map gains first)) in
       subst Within (get_or-map first gains place past past.0 inside) there
@@ -134,12 +128,12 @@ module _ (rows : Rows) (valid : AreValid rows) (edition : ℕ) where
 
 -- a suggestion for the session of a number
 pub suggestion-given : (published : Published) (own : Own) (number : ℕ) (session : SessionRow) (bound : Bound)
-    (suggested : Suggested) → active_session own.sessions number ≡ done session
+    (suggested : Suggested) → IsFound (active_session own.sessions number) session
     → bound_at published session.edition ≡ Some bound → IsSuggestedFor published session bound suggested
     → Gives (suggestion_of published own number) (Ok suggested)
 suggestion-given published own number session bound suggested found here is =
-    let Found : Checked SessionRow → Type 0 = λ one. Gives one (Ok session) in
     Gives-bind (active_session own.sessions number) (λ one. bound_for published one >>= (λ bound.
     advice_for bound.kit (state_of one) (regions_of published.regions one.edition) >>= (λ suggestion.
-    done (named_suggestion bound suggestion)))) session (Ok suggested) (subst Found (sym found) refl)
+    done (named_suggestion bound suggestion)))) session (Ok suggested)
+    (Gives-found (active_session own.sessions number) session found)
     (rw here (is.suggestion, is.is, ap Ok is.named))

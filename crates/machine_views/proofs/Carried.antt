@@ -12,7 +12,7 @@ use Rattle.desk_words.specs.declared.rows.session.SessionRow.{SessionRow}
 use Rattle.desk_words.specs.declared.view.View.{View}
 use Rattle.desk_words.specs.declared.view.ViewCell.{ViewCell}
 use Rattle.desk_words.specs.Tables.{Published}
-use Rattle.machine_core.specs.Checked.{Checked, ◌>>=◌, done, Gives}
+use Rattle.machine_core.specs.Checked.{Checked, ◌>>=◌, Gives, IsFound}
 use Rattle.machine_core.specs.Clerk.Carry.{carry_row}
 use Rattle.machine_core.specs.Look.Carry.{carried_between, carrying, words_in}
 use Rattle.machine_core.specs.Look.View.{view_at}
@@ -59,7 +59,7 @@ module _ (published : Published) (own : Own) (number version : ℕ) where
 
   -- the look is what changes from the one view to the other
   pub carrying-given : (moved : SessionRow) (before after : View) (carried : Carried)
-      → carry_row published own number version ≡ done moved
+      → IsFound (carry_row published own number version) moved
       → Gives (view_at published own number) (Ok before) → Gives (view_of published number moved) (Ok after)
       → Gives (carried_between before after) (Ok carried)
       → Gives (carrying published own number version) (Ok carried)

@@ -6,7 +6,7 @@ use Rattle.desk_words.specs.declared.reply.DerivedSheet.{DerivedSheet}
 use Rattle.desk_words.specs.Tables.{Published}
 use Rattle.desk_valid.specs.declared.bound.Bound.{Bound}
 use Rattle.desk_valid.specs.Bindings.{bound_at}
-use Rattle.machine_core.specs.Checked.{Checked, ◌>>=◌, done, Gives}
+use Rattle.machine_core.specs.Checked.{Checked, ◌>>=◌, done, Gives, IsFound}
 use Rattle.machine_core.specs.declared.derivation.Derivation.{Derivation}
 use Rattle.machine_core.specs.Deriving.{derivation_of, derived_rows, derived_sheet}
 use Rattle.machine_core.specs.Views.{name_at}
@@ -26,7 +26,7 @@ module _ (published : Published) (edition : List ℕ) (version : ℕ) (master : 
 
   -- the sheet has the rows that are derived
   pub sheet-given : (derivation : Derivation) (rows : List (ℕ × List (List ℕ))) (sheet : DerivedSheet)
-      → derivation_of published edition version master pairs ≡ done derivation
+      → IsFound (derivation_of published edition version master pairs) derivation
       → Gives (derived_rows published derivation) (Ok rows) → sheet ≡ told rows
       → Gives (derived_sheet published edition version master pairs) (Ok sheet)
   sheet-given derivation rows sheet finds gives is =
@@ -35,7 +35,7 @@ module _ (published : Published) (edition : List ℕ) (version : ℕ) (master : 
       (Gives-bind (derived_rows published derivation) (λ one. done (told one)) rows (Ok sheet) gives (λ i. Ok (is i)))
 
   module _ (derivation : Derivation)
-      (found : derivation_of published edition version master pairs ≡ done derivation) where
+      (found : IsFound (derivation_of published edition version master pairs) derivation) where
     -- what it was made of
     made : IsMadeOf published pairs derivation
     made = derivation-made published edition version master pairs derivation

@@ -21,7 +21,7 @@ use Rattle.fix_engine.specs.Verdicts.{IsAnswer}
 use Rattle.fix_explain.specs.Reasons.{IsFixed}
 use Rattle.fix_explain.specs.Uses.{AreUses}
 use Rattle.machine_core.specs.Answers.{bound_for, shown_state, state_of}
-use Rattle.machine_core.specs.Checked.{Answer, Checked, ◌>>=◌, ◌>>◌, done}
+use Rattle.machine_core.specs.Checked.{Answer, Checked, ◌>>=◌, ◌>>◌, IsFound}
 use Rattle.machine_core.specs.Clerk.Commit.{not_in_conflict}
 use Rattle.machine_core.specs.Look.Explain.{explain, explained_on, explanation_of, fixed_at}
 use Rattle.machine_core.specs.Own.{Own}
@@ -34,12 +34,13 @@ use Rattle.machine_core.proofs.Tested.{unless-ok}
 
 -- what is shown of a fix is the end of its first run
 pub end-shown : (bound : Bound) (state : State) (answer : Answer) (verdict : Verdict)
-    → not_in_conflict verdict ≡ done tt → shown_state bound state answer verdict ≡ end_of bound.kit state answer.first
+    → IsFound (not_in_conflict verdict) tt
+    → shown_state bound state answer verdict ≡ end_of bound.kit state answer.first
 end-shown bound state answer (Fix certain dissent) fix = refl
 end-shown bound state answer Conflict fix = absurd (cc)
 
 -- an attribute that passes the test is fixed
-pub fixed-is : (state : State) (attribute : ℕ) (word : List ℕ) → fixed_at state attribute word ≡ done tt
+pub fixed-is : (state : State) (attribute : ℕ) (word : List ℕ) → IsFound (fixed_at state attribute word) tt
     → IsFixed state attribute
 fixed-is state attribute word is =
     unless-ok (is_some (fixed_by (cell_at state attribute))) (NotFixed word) tt
@@ -62,7 +63,7 @@ uses-within kit state steps uses fits are place past inside =
     omega (arith, confirmed-within state one used.confirmed, fits.cells)
 
 module _ (bound : Bound) (session : SessionRow) (word : List ℕ) (attribute : ℕ) (answer : Answer)
-    (found : attribute_of bound.names.attributes word ≡ done attribute)
+    (found : IsFound (attribute_of bound.names.attributes word) attribute)
     (is : IsAnswer bound.kit (state_of session) answer.first answer.second answer.verdict) where
   -- what is left once the rules have answered
   abbrev left : Answer → Checked Explained
@@ -89,7 +90,7 @@ module _ (bound : Bound) (session : SessionRow) (word : List ℕ) (attribute : �
 
   -- or where the attribute is not fixed
   pub explained-unfixed : (stop : Stop) (result : Result Explained Stop) → IsErrAnd result (λ one. one ≡ stop)
-      → not_in_conflict answer.verdict ≡ done tt
+      → IsFound (not_in_conflict answer.verdict) tt
       → Finds {A = Unit {0}} (Err stop) (fixed_at (end_of bound.kit (state_of session) answer.first) attribute word)
       → Answers result (explained_on bound session word)
   explained-unfixed stop result stops fix finds =
@@ -99,15 +100,15 @@ module _ (bound : Bound) (session : SessionRow) (word : List ℕ) (attribute : �
       (Answers-found (fixed_at end attribute word) (Err stop) finds)))
 
   -- and is else what the run says
-  pub explained-fixed : (result : Result Explained Stop) → not_in_conflict answer.verdict ≡ done tt
-      → fixed_at (end_of bound.kit (state_of session) answer.first) attribute word ≡ done tt
+  pub explained-fixed : (result : Result Explained Stop) → IsFound (not_in_conflict answer.verdict) tt
+      → IsFound (fixed_at (end_of bound.kit (state_of session) answer.first) attribute word) tt
       → Answers result (explanation_of bound (state_of session) answer.first attribute)
       → Answers result (explained_on bound session word)
   explained-fixed result fix fixed answers = explained-answered result (rw (fix, fixed) answers)
 
 -- the session of a number is explained by the book of its edition
 pub explain-given : (published : Published) (own : Own) (number : ℕ) (word : List ℕ) (session : SessionRow)
-    (bound : Bound) (result : Result Explained Stop) → session_of own.sessions number ≡ done session
+    (bound : Bound) (result : Result Explained Stop) → IsFound (session_of own.sessions number) session
     → bound_at published session.edition ≡ Some bound → Answers result (explained_on bound session word)
     → Answers result (explain published own number word)
 explain-given published own number word session bound result found here answers =

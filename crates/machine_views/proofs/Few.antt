@@ -1,29 +1,25 @@
 -- How many sessions may be counted.
-use Rattle.std.proofs.Common.{◌≡◌, ◌∙◌, ℕ, ◌+◌, ◌-◌, ◌*◌, ◌^◌, ◌<◌, ◌≤◌, List, [], ◌∷◌, ◌++◌, length, get_or, take}
-use Rattle.std.proofs.Common.{Some, inl, inr, sym, ap, subst, arith}
-use Rattle.std.specs.Prelude.{All, slice_get, sum_by}
+use Rattle.std.proofs.Common.{◌≡◌, ◌∙◌, ℕ, ◌+◌, ◌*◌, ◌^◌, ◌<◌, ◌≤◌, List, [], ◌∷◌, ◌++◌, length, get_or, take}
+use Rattle.std.proofs.Common.{sym, ap, subst, arith}
+use Rattle.std.specs.Prelude.{All, sum_by}
 use Rattle.std.specs.List.{flat_map}
-use Rattle.std.proofs.lemmas.Bool.{cases_lt}
 use Rattle.std.proofs.lemmas.Grind.{flat_map-append}
 use Rattle.std.proofs.lemmas.List.{append-nil, length-map, take_more}
 use Rattle.std.proofs.lemmas.List.Sums.{sum_by_push}
 use Rattle.std.proofs.lemmas.Option.{slice_get-get_or}
 use Rattle.desk_base.specs.Roomy.{Roomy}
 use Rattle.desk_words.specs.declared.report.ReportLine.{ReportLine}
-use Rattle.desk_words.specs.declared.rows.clerk.ClerkRow.{ClerkRow}
 use Rattle.desk_words.specs.declared.rows.edition.EditionRow.{EditionRow}
 use Rattle.desk_words.specs.declared.rows.session.SessionRow.{SessionRow}
 use Rattle.desk_words.specs.declared.tables.Tables.{Tables}
-use Rattle.desk_words.specs.Tables.{IsShort, Rows, items_of, list_at, new_clerk, published_of, rows_of}
-use Rattle.desk_valid.specs.Rows.Clerk.{IsClerkRow}
-use Rattle.desk_valid.specs.Rows.Edition.{IsEditionRow}
+use Rattle.desk_words.specs.Tables.{IsShort, Rows, items_of, list_at, published_of, rows_of}
 use Rattle.desk_valid.specs.Valid.{AreValid}
 use Rattle.machine_core.specs.Own.{IsOwn, Own}
 use Rattle.machine_core.specs.Sessions.{IsSessionOf}
-use Rattle.machine_core.specs.Views.{edition_at}
 use Rattle.machine_views.specs.declared.looks.counts.Counts.{Counts}
 use Rattle.machine_views.specs.Reporting.{AreFew, line_of}
 use Rattle.machine_views.proofs.Keeping.{IsSessionOf-row}
+use Rattle.desk_valid.proofs.Few.{callers-few}
 
 -- what is within a bound is within a greater one
 pub AreFew-weaker : (most more : ℕ) (counts : Counts) → most ≤ more → AreFew most counts → AreFew more counts
@@ -72,27 +68,6 @@ module _ (rows : Rows) (valid : AreValid rows) where
   own-short own is =
       let Short : Own → Type 0 = λ one. IsShort one.sessions in
       subst Short (sym is.is) (clerk-short is.place (omega (arith, is.within, valid.tables.sessions.each)))
-
-  -- there are at most 33 callers
-  callers-few : length rows.clerks ≤ 33
-  callers-few =
-      let none : ClerkRow = new_clerk [] in
-      let last : ℕ = length rows.clerks - 1 in
-      let stands : slice_get rows.clerks last ≡ Some (get_or rows.clerks last none) =
-      slice_get-get_or rows.clerks last none (omega (arith, valid.tables.steward)) in
-      let good : IsClerkRow rows last (get_or rows.clerks last none) =
-      valid.clerks last (get_or rows.clerks last none) stands in
-      omega (arith, good.few)
-
-  -- and at most 64 editions
-  pub editions-few : length rows.editions ≤ 64
-  editions-few = elim (cases_lt 64 (length rows.editions)) [
-    | inl many ↦ (let row : EditionRow = edition_at (published_of rows) 64 in
-        let good : IsEditionRow (published_of rows) 64 row =
-        valid.editions 64 row (slice_get-get_or rows.editions 64 _ many) in
-        absurd (omega (arith, good.few)))
-    | inr few ↦ few
-  ]
 
 -- there are at most 33 lists of sessions
 pub lists-few : (tables : Tables) → AreValid (rows_of tables) → length tables.sessions.items ≤ 33

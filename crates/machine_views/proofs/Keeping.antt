@@ -1,10 +1,10 @@
 -- The kept replies, by the rows that they are about.
-use Rattle.std.proofs.Common.{◌≡◌, ◌∙◌, ℕ, ◌+◌, ◌-◌, ◌^◌, ◌<◌, ◌≤◌, zero, suc, false, List, [], ◌∷◌, ◌++◌, length}
-use Rattle.std.proofs.Common.{set, take, drop, get_or, map, Some, None, Ok, inl, inr, refl, sym, ap, subst, eqb-true}
+use Rattle.std.proofs.Common.{◌≡◌, ◌∙◌, ℕ, ◌+◌, ◌-◌, ◌^◌, ◌<◌, ◌≤◌, false, List, [], ◌∷◌, ◌++◌, length}
+use Rattle.std.proofs.Common.{take, drop, get_or, map, Some, None, Ok, inl, inr, refl, sym, ap, subst, eqb-true}
 use Rattle.std.proofs.Common.{arith}
 use Rattle.std.specs.Prelude.{◌==◌, All, slice_get, if◌then◌else◌}
 use Rattle.std.proofs.Math.Seq.{drop-append_seam}
-use Rattle.std.proofs.lemmas.List.{get_or-map, length-map, take_all}
+use Rattle.std.proofs.lemmas.List.{length-map, take_all}
 use Rattle.std.proofs.lemmas.List.Elements.{All-drop, All-take}
 use Rattle.std.proofs.lemmas.Option.{same_Some, slice_get-get_or}
 use Rattle.std.proofs.lemmas.Bool.{cases_Bool, eqb-false}
@@ -35,6 +35,7 @@ use Rattle.machine_core.proofs.Placing.{put_all-placed}
 use Rattle.machine_views.specs.declared.counting.Verdicts.{Verdicts}
 use Rattle.machine_views.specs.Doing.{PutsBatch, PutsRecord}
 use Rattle.machine_views.specs.Counts.{AreSessionVerdicts, batched, verdicts_of}
+use Rattle.desk_base.proofs.Lists.{All-unmap, slice_get-end, slice_get-set_same}
 
 -- a good row of a clerk's sessions is a session on an edition
 pub IsSessionOf-row : (published : Published) (batches : List BatchRow) (session : SessionRow)
@@ -120,32 +121,13 @@ pub All-part : {A : Type 0} (P : A → Type 0) (items part : List A) (count firs
     → part ≡ take count (drop first items) → All P items → All P part
 All-part P items part count first is all = rw is (All-take P count (drop first items) (All-drop P first items all))
 
--- what holds of what is made of each item
-All-unmap : {A B : Type 0} (P : B → Type 0) (make : A → B) (items : List A) → All P (map make items)
-    → All (λ item. P (make item)) items
-All-unmap P make items all place past inside =
-    subst P (get_or-map make items place past (make past) inside)
-    (all place (make past) (omega (arith, inside, length-map items make)))
-
--- what stands at the end of a list
-slice_get-end : {T : Type 0} (items : List T) (item : T) → slice_get (items ++ item ∷ []) (length items) ≡ Some item
-slice_get-end [] item = refl
-slice_get-end (first ∷ items) item = slice_get-end items item
-
--- what replaces an item stands at its place
-slice_get-set : {T : Type 0} (items : List T) (place : ℕ) (item : T) → place < length items
-    → slice_get (set items place item) place ≡ Some item
-slice_get-set [] place item within = absurd (omega arith)
-slice_get-set (first ∷ items) zero item within = refl
-slice_get-set (first ∷ items) (suc place) item within = slice_get-set items place item (omega arith)
-
 -- what is put at a place stands there
 pub slice_get-put : {T : Type 0} (items : List T) (place : ℕ) (item : T) → place ≤ length items
     → slice_get (put items place item) place ≡ Some item
 slice_get-put {T} items place item within = elim (cases_Bool (place == length items)) [
   | inl last ↦ rw last (rw (eqb-true place (length items) last) (slice_get-end items item))
   | inr inside ↦ rw inside
-      (slice_get-set items place item (omega (arith, within, eqb-false place (length items) inside)))
+      (slice_get-set_same items place item (omega (arith, within, eqb-false place (length items) inside)))
 ]
 
 -- what is read at a place stands there

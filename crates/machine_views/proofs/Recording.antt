@@ -1,6 +1,6 @@
 -- The records of an edition, one after another.
 use Rattle.std.proofs.Common.{◌≡◌, ◌∙◌, ℕ, ◌+◌, ◌<◌, ◌≤◌, Bool, true, false, cond, List, [], ◌∷◌, ◌++◌, length}
-use Rattle.std.proofs.Common.{get_or, map, take, Some, Ok, refl, sym, ap, subst, arith}
+use Rattle.std.proofs.Common.{get_or, map, take, Some, Ok, sym, ap, arith}
 use Rattle.std.specs.Prelude.{filter, zip}
 use Rattle.std.specs.List.{range_with_len}
 use Rattle.std.proofs.lemmas.List.{append-nil, map-append, take_all}
@@ -15,10 +15,10 @@ use Rattle.desk_words.specs.declared.refusal.Refusal.TheVariants.{NoSuch}
 use Rattle.desk_words.specs.Tables.{Published}
 use Rattle.desk_valid.specs.declared.bound.Bound.{Bound}
 use Rattle.desk_valid.specs.Bindings.{bound_at}
-use Rattle.machine_core.specs.Checked.{Checked, ◌>>=◌, certainly, done, Gives, some_or}
+use Rattle.machine_core.specs.Checked.{◌>>=◌, certainly, done, Gives, some_or, IsFound}
 use Rattle.machine_core.specs.Finding.{edition_named}
 use Rattle.machine_core.specs.Look.Records.{is_on, record_line, records_of}
-use Rattle.machine_core.proofs.Chains.{Gives-bind}
+use Rattle.machine_core.proofs.Chains.{Gives-bind, Gives-found}
 use Rattle.machine_core.specs.Own.{Own}
 
 -- a clerk's records, each with its number
@@ -89,16 +89,17 @@ lines-all own edition place lines past so_far =
 -- the records of a clerk over an edition that is found
 pub records-given : (published : Published) (own : Own) (name : List ℕ) (version place : ℕ) (bound : Bound)
     (attributes : List (List ℕ)) (lines : List RecordLine)
-    → some_or (edition_named published.editions name version) (NoSuch kind.Edition) ≡ done place
+    → IsFound (some_or (edition_named published.editions name version) (NoSuch kind.Edition)) place
     → bound_at published place ≡ Some bound → attributes ≡ bound.names.attributes
     → lines ≡ map record_line (filter (is_on own place) (numbered own))
     → Gives (records_of published own name version) (Ok (record { attributes = attributes; lines = lines }))
 records-given published own name version place bound attributes lines found here named listed =
-    let Found : Checked ℕ → Type 0 = λ one. Gives one (Ok place) in
     let sheet : RecordSheet = record { attributes = attributes; lines = lines } in
     Gives-bind (some_or (edition_named published.editions name version) (NoSuch kind.Edition))
     (λ edition. certainly (bound_at published edition) >>= (λ one. done (record {
       attributes = one.names.attributes;
       lines = map record_line (filter (is_on own edition) (numbered own));
-    }))) place (Ok sheet) (subst Found (sym found) refl)
+    }))) place (Ok sheet) (Gives-found (some_or (edition_named published.editions name version) (NoSuch kind.Edition))
+    place
+    found)
     (rw here (λ i. Ok (record { attributes = named i; lines = listed i })))

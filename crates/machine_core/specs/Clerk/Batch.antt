@@ -51,6 +51,16 @@ row_session edition width batch columns cells =
 abbrev pub placed : ℕ → List SessionRow → List (ℕ × SessionRow)
 placed count sessions = zip (range_with_len count (length sessions)) sessions
 
+-- the deed of a batch: its sessions behind the others, and the batch of so many
+abbrev pub batch_deed : Own → ℕ → ℕ → List SessionRow → Deed
+batch_deed own edition count sessions = record {
+  sessions = placed (length own.sessions) sessions;
+  record_row = None;
+  batch = Some (record { edition = edition; first = length own.sessions + 1; count = count });
+  act = act.Batched;
+  target = length own.batches;
+}
+
 -- the limits, in their order, and the deed: a session for each row behind the others, and the batch of them
 abbrev pub batch_rows : Own → ℕ → ℕ → List Column → List (List (List ℕ)) → Checked Deed
 batch_rows own edition width columns rows = do
@@ -60,13 +70,7 @@ batch_rows own edition width columns rows = do
   within which.Batches (length own.batches + 1)
   let sessions = map (row_session edition width (length own.batches + 1) columns) rows
   within which.Bytes (text_bytes own.sessions own.records + typed_bytes sessions)
-  done (record {
-    sessions = placed (length own.sessions) sessions;
-    record_row = None;
-    batch = Some (record { edition = edition; first = length own.sessions + 1; count = length rows });
-    act = act.Batched;
-    target = length own.batches;
-  })
+  done (batch_deed own edition (length rows) sessions)
 
 -- the tests of the edition and the sheet, in their order, and the deed of its rows
 abbrev pub enter_batch : Published → Own → List ℕ → List ℕ → Checked Deed

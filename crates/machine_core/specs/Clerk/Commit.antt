@@ -62,14 +62,18 @@ commit_rows published own number accept = do
   within which.Bytes (text_bytes own.sessions own.records + bytes_in row.texts)
   done (record session { stage = Committed }, row)
 
--- the deed: the session of this number is committed, and its record comes behind the others
+-- the deed of a commit: the session of this number is put, and its record comes behind the others
+abbrev pub commit_deed : Own → ℕ → SessionRow × RecordRow → Deed
+commit_deed own number both = record {
+  sessions = (number - 1, both.0) ∷ [];
+  record_row = Some both.1;
+  batch = None;
+  act = act.Committed;
+  target = length own.records;
+}
+
+-- the tests, in their order, and the deed: the session of this number is committed
 abbrev pub commit : Published → Own → ℕ → Accept → Checked Deed
 commit published own number accept = do
   (session, row) ← commit_rows published own number accept
-  done (record {
-    sessions = (number - 1, session) ∷ [];
-    record_row = Some row;
-    batch = None;
-    act = act.Committed;
-    target = length own.records;
-  })
+  done (commit_deed own number (session, row))

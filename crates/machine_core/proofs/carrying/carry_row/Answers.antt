@@ -1,7 +1,7 @@
-use Rattle.std.proofs.Common.{◌∙◌, ◌-◌, ap, arith, length, subst, sym}
+use Rattle.std.proofs.Common.{◌∙◌, ◌-◌, Ok, ap, arith, length, subst, sym}
 use Rattle.desk_words.specs.declared.rows.session.SessionRow.{SessionRow}
 use Rattle.desk_words.specs.Tables.{published_of, rows_of}
-use Rattle.machine_core.specs.Checked.{done}
+use Rattle.machine_core.specs.Checked.{told}
 use Rattle.machine_core.specs.Sessions.{IsSessionOf}
 use Rattle.machine_core.proofs.Carried.{carried-stands, carry-missing, carry-newer, carry-old, edition-binds}
 use Rattle.machine_core.proofs.GoodRows.{own-sessions}
@@ -61,7 +61,7 @@ returns-clause-finds c =
     carry-newer (published_of rows) c.args.own.now c.args.number c.args.version session c.index-editions-session.result
     (rw c.sessions.ensures at c.in_ok-session.ensures.finds) same edition (sym named) before.0 after.0
     c.if-version-pinned.false before.1 after.1
-    ∙ ap (λ (one : SessionRow). done one) (sym (c.in_ok-carried_to.ensures before.0 after.0 before.1 after.1))
+    ∙ ap (λ (one : SessionRow). told (Ok one)) (sym (c.in_ok-carried_to.ensures before.0 after.0 before.1 after.1))
 
 pub returns-clause-stands : goal.returns-clause-stands
 returns-clause-stands c =

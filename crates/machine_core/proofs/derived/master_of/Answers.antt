@@ -3,11 +3,15 @@ use Rattle.std.specs.Str.{bytes_eq}
 use Rattle.desk_words.specs.declared.rows.edition.EditionRow.{EditionRow}
 use Rattle.desk_words.specs.Tables.{published_of, rows_of}
 use Rattle.desk_valid.proofs.First.{slice_get-read}
+use Rattle.master_rows.specs.Sheet.{read_sheet}
+use Rattle.machine_core.specs.Checked.{value_or}
 use Rattle.machine_core.specs.Deriving.{master_of}
+use Rattle.machine_core.specs.Faults.{sheet_refusal}
 use Rattle.machine_core.specs.Outcomes.{Finds}
 use Rattle.machine_core.specs.Steward.AddEdition.{master_name}
 use Rattle.machine_core.specs.Views.{edition_at}
 use Rattle.machine_core.proofs.ReadRows.{edition-read, find-all, master-read}
+use Rattle.machine_core.proofs.Stopping.{Finds-same}
 use Rattle.machine_core.proofs.derived.master_of.Goals as goal
 
 pub bounds-masters-place : goal.bounds-masters-place
@@ -47,5 +51,7 @@ returns-in-Some-clause-finds c =
     c.index-masters-place.is in
     let finds = rw c.as_slice-in-Some.ensures at c.read_master.ensures.finds in
     subst (λ (one : EditionRow). Finds c.read_master.result (master_of (published_of rows) one c.args.name.now)) same
-    (subst (Finds c.read_master.result) (master-read rows row c.args.name.now place c.index-masters-place.result
+    (Finds-same (value_or (read_sheet c.index-masters-place.result.body) sheet_refusal)
+    (master_of (published_of rows) row c.args.name.now) c.read_master.result
+    (master-read rows row c.args.name.now place c.index-masters-place.result
     c.requires.valid (sym found) stands) finds)

@@ -1,14 +1,14 @@
 use Rattle.std.proofs.Common.{ap, arith, length}
 use Rattle.desk_words.specs.Tables.{published_of, rows_of}
 use Rattle.machine_core.specs.Shelves.{bound_on}
-use Rattle.machine_core.proofs.Stopping.{Finds-stopped}
+use Rattle.machine_core.proofs.Stopping.{EndsWith-stopped}
 use Rattle.machine_core.proofs.Widths.{few-attributes}
 use Rattle.machine_clerk.proofs.clerk.batch.batch_deed.Goals as goal
 
 pub returns-in_err-sheet-clause-finds : goal.returns-in_err-sheet-clause-finds
 returns-in_err-sheet-clause-finds c =
     let bound = c.shelved.ensures.bound (published_of (rows_of c.args.tables.now)) c.in_ok-place.ensures.held in
-    rw (c.in_ok-place.ensures.finds, bound) (Finds-stopped _ _ c.in_err-sheet.field-0.0
+    rw (c.in_ok-place.ensures.finds, bound) (EndsWith-stopped _ _ c.in_err-sheet.field-0.0
     c.from_residual-in_err-sheet.result c.from_residual-in_err-sheet.ensures.1 c.in_err-sheet.ensures.finds)
 
 pub columns_of-requires : goal.columns_of-requires
@@ -22,7 +22,8 @@ pub returns-in_err-columns-clause-finds : goal.returns-in_err-columns-clause-fin
 returns-in_err-columns-clause-finds c =
     let bound = c.shelved.ensures.bound (published_of (rows_of c.args.tables.now)) c.in_ok-place.ensures.held in
     let columns = rw (c.as_slice-attributes.ensures, c.as_slice.ensures) at c.in_err-columns.ensures.finds in
-    rw (c.in_ok-place.ensures.finds, bound, c.in_ok-sheet.ensures.finds) (Finds-stopped _ _ c.in_err-columns.field-0.0
+    rw (c.in_ok-place.ensures.finds, bound, c.in_ok-sheet.ensures.finds)
+    (EndsWith-stopped _ _ c.in_err-columns.field-0.0
     c.from_residual-in_err-columns.result c.from_residual-in_err-columns.ensures.1 columns)
 
 pub overflow_cast-heading : goal.overflow_cast-heading

@@ -2,7 +2,7 @@ use Rattle.std.proofs.Common.{◌∙◌, ◌+◌, ap, arith, length, map, refl}
 use Rattle.std.proofs.lemmas.List.{length-map}
 use Rattle.desk_valid.specs.Tallies.{typed_bytes}
 use Rattle.machine_core.specs.Clerk.Batch.{row_session}
-use Rattle.machine_core.proofs.Stopping.{Finds-stopped}
+use Rattle.machine_core.proofs.Stopping.{EndsWith-stopped}
 use Rattle.machine_clerk.proofs.Placed.{length-placed, narrow-sessions, placed-sessions}
 use Rattle.machine_clerk.proofs.clerk.batch.batch_rows.Goals as goal
 
@@ -44,7 +44,7 @@ returns-in_err-within_bytes c =
     (c.as_slice.ensures ∙ sessions)
     ∙ ap typed_bytes (placed-sessions (length own.sessions) (map session_of c.args.grid.now.rows)) in
     let bytes = rw typed at c.in_err-within_bytes.ensures.finds in
-    rw (rows, active, all, batches) (Finds-stopped _ _ c.in_err-within_bytes.field-0.0
+    rw (rows, active, all, batches) (EndsWith-stopped _ _ c.in_err-within_bytes.field-0.0
     c.from_residual-in_err-within_bytes.result c.from_residual-in_err-within_bytes.ensures.1 bytes)
 
 pub returns : goal.returns

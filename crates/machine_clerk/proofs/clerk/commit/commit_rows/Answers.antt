@@ -2,7 +2,7 @@ use Rattle.std.proofs.Common.{◌∙◌, Ok, ap, arith, length, refl, sym}
 use Rattle.desk_words.specs.declared.rows.session.Stage.TheVariants.{Committed}
 use Rattle.desk_words.specs.Tables.{published_of, rows_of}
 use Rattle.machine_core.specs.Shelves.{bound_on}
-use Rattle.machine_core.proofs.Stopping.{Finds-stopped}
+use Rattle.machine_core.proofs.Stopping.{EndsWith-stopped}
 use Rattle.machine_core.proofs.Widths.{confirmed-width, kit-width, named-kit, typed-width}
 use Rattle.machine_clerk.proofs.Endings.{commit-recorded, commit-unended}
 use Rattle.machine_clerk.proofs.clerk.commit.commit_rows.Goals as goal
@@ -53,7 +53,7 @@ returns-in_err-row-clause-answers c =
     let gives = rw c.in_ok-state_of.ensures.state at c.in_ok-end.ensures.answers in
     commit-recorded published c.args.own.now c.args.number c.args.accept c.in_ok-session.session.now
     (bound_on c.shelved-shelved.result.now) c.in_ok-end.end c.from_residual-in_err-row.result
-    c.in_ok-session.ensures.finds bound gives (Finds-stopped _ _ c.in_err-row.field-0.0
+    c.in_ok-session.ensures.finds bound gives (EndsWith-stopped _ _ c.in_err-row.field-0.0
     c.from_residual-in_err-row.result c.from_residual-in_err-row.ensures.1 c.in_err-row.ensures.finds)
 
 pub bytes_in-requires : goal.bytes_in-requires
@@ -72,7 +72,7 @@ returns-in_err-within_bytes-clause-answers c =
     let bytes = rw (c.bytes_in.ensures.bytes, c.as_slice.ensures) at c.in_err-within_bytes.ensures.finds in
     commit-recorded published c.args.own.now c.args.number c.args.accept c.in_ok-session.session.now
     (bound_on c.shelved-shelved.result.now) c.in_ok-end.end c.from_residual-in_err-within_bytes.result
-    c.in_ok-session.ensures.finds bound gives (rw c.in_ok-row.ensures.finds (Finds-stopped _ _
+    c.in_ok-session.ensures.finds bound gives (rw c.in_ok-row.ensures.finds (EndsWith-stopped _ _
     c.in_err-within_bytes.field-0.0 c.from_residual-in_err-within_bytes.result
     c.from_residual-in_err-within_bytes.ensures.1 bytes))
 

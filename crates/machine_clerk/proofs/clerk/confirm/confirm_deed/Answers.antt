@@ -3,7 +3,7 @@ use Rattle.std.proofs.lemmas.Option.{slice_get-get_or}
 use Rattle.desk_words.specs.Tables.{rows_of}
 use Rattle.desk_valid.specs.Tallies.{bytes_in}
 use Rattle.machine_core.proofs.GoodRows.{own-sessions}
-use Rattle.machine_core.proofs.Stopping.{Finds-stopped}
+use Rattle.machine_core.proofs.Stopping.{EndsWith-stopped}
 use Rattle.machine_clerk.proofs.FewTexts.{bytes-replaced, few-texts, one-session}
 use Rattle.machine_clerk.proofs.clerk.confirm.confirm_deed.Goals as goal
 
@@ -52,7 +52,7 @@ returns-in_err-within_replaced-clause-finds c =
     let come = c.bytes_in.ensures.bytes ∙ ap bytes_in c.as_slice-2.ensures in
     let replaced = bytes-replaced sessions c.args.own.now.records place c.in_ok-session.session old within in
     let bytes = rw (gone, come, replaced) at c.in_err-within_replaced.ensures.finds in
-    rw c.in_ok-session.ensures.finds (Finds-stopped _ _ c.in_err-within_replaced.field-0.0
+    rw c.in_ok-session.ensures.finds (EndsWith-stopped _ _ c.in_err-within_replaced.field-0.0
     c.from_residual-in_err-within_replaced.result c.from_residual-in_err-within_replaced.ensures.1 bytes)
 
 pub returns-clause-finds : goal.returns-clause-finds

@@ -2,7 +2,7 @@ use Rattle.std.proofs.Common.{◌-◌, length, ap, arith, refl}
 use Rattle.std.proofs.lemmas.Option.{slice_get_within}
 use Rattle.desk_words.specs.Tables.{published_of, rows_of}
 use Rattle.machine_core.specs.Shelves.{bound_on}
-use Rattle.machine_core.proofs.Stopping.{Finds-stopped}
+use Rattle.machine_core.proofs.Stopping.{EndsWith-stopped}
 use Rattle.machine_core.proofs.Widths.{confirmed-width, length-typed_over, typed-width}
 use Rattle.machine_clerk.proofs.FewTexts.{few-texts}
 use Rattle.machine_clerk.proofs.clerk.confirm.confirm_row.Goals as goal
@@ -11,7 +11,7 @@ pub returns-in_err-texts-clause-finds : goal.returns-in_err-texts-clause-finds
 returns-in_err-texts-clause-finds c =
     let bound = c.shelved.ensures.bound (published_of (rows_of c.args.tables.now)) c.in_ok-session.ensures.held in
     let texts = rw c.as_slice-attributes.ensures at c.in_err-texts.ensures.finds in
-    rw (c.in_ok-session.ensures.finds, bound) (Finds-stopped _ _ c.in_err-texts.field-0.0
+    rw (c.in_ok-session.ensures.finds, bound) (EndsWith-stopped _ _ c.in_err-texts.field-0.0
     c.from_residual-in_err-texts.result c.from_residual-in_err-texts.ensures.1 texts)
 
 pub with_cells-requires-clause-typed : goal.with_cells-requires-clause-typed

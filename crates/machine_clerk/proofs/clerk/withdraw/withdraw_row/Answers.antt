@@ -1,7 +1,7 @@
 use Rattle.std.proofs.Common.{refl}
 use Rattle.desk_words.specs.Tables.{published_of, rows_of}
 use Rattle.machine_core.specs.Shelves.{bound_on}
-use Rattle.machine_core.proofs.Stopping.{Finds-stopped}
+use Rattle.machine_core.proofs.Stopping.{EndsWith-stopped}
 use Rattle.machine_core.proofs.Widths.{confirmed-width}
 use Rattle.machine_clerk.proofs.clerk.withdraw.withdraw_row.Goals as goal
 
@@ -16,7 +16,7 @@ pub returns-in_err-places-clause-finds : goal.returns-in_err-places-clause-finds
 returns-in_err-places-clause-finds c =
     let bound = c.shelved.ensures.bound (published_of (rows_of c.args.tables.now)) c.in_ok-session.ensures.held in
     let places = rw (c.as_slice.ensures, c.as_slice-attributes.ensures) at c.in_err-places.ensures.finds in
-    rw (c.in_ok-session.ensures.finds, bound) (Finds-stopped _ _ c.in_err-places.field-0.0
+    rw (c.in_ok-session.ensures.finds, bound) (EndsWith-stopped _ _ c.in_err-places.field-0.0
     c.from_residual-in_err-places.result c.from_residual-in_err-places.ensures.1 places)
 
 pub returns-clause-finds : goal.returns-clause-finds

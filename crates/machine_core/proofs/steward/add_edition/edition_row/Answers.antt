@@ -1,6 +1,11 @@
-use Rattle.std.proofs.Common.{refl}
+use Rattle.std.proofs.Common.{◌∙◌, Err, Ok, ap, length, subst, sym}
+use Rattle.desk_words.specs.Tables.{published_of, rows_of}
+use Rattle.machine_core.specs.Checked.{IsFound, done, told, ◌>>=◌}
+use Rattle.machine_core.specs.Outcomes.{Finds}
+use Rattle.machine_core.specs.Steward.AddEdition.{bindable, edition_row, in_order, next_edition}
+use Rattle.machine_core.proofs.EditionRows.{edition-tested}
 use Rattle.machine_core.proofs.InOrder.{AreFolded-in_order}
-use Rattle.machine_core.proofs.Stopping.{Finds-stopped}
+use Rattle.machine_core.proofs.Stopping.{Finds-same, Finds-stopped}
 use Rattle.machine_core.proofs.steward.add_edition.edition_row.Goals as goal
 
 pub bindable-requires-clause-folded : goal.bindable-requires-clause-folded
@@ -9,38 +14,37 @@ bindable-requires-clause-folded c = rw (c.in_ok-row.ensures, c.in_ok-folded.ensu
 
 pub returns-in_err-bindable : goal.returns-in_err-bindable
 returns-in_err-bindable c =
+    let published = published_of (rows_of c.args.tables.now) in
+    let result = c.from_residual-in_err-bindable.result in
     let book = rw c.as_slice.ensures at c.in_ok-book.ensures.finds in
     let attributes = rw c.as_slice-2.ensures at c.in_ok-attributes.ensures.finds in
     let few = rw c.len.ensures at c.in_ok-within-2.ensures.finds in
     let row = rw (c.in_ok-folded.ensures, c.as_slice-3.ensures, c.len-2.ensures) at c.in_ok-row.ensures in
-    let binds = rw (row, c.in_ok-rules.ensures.rules) at c.in_err-bindable.ensures in
-    rw (
-      c.in_ok-proper_name.ensures.finds,
-      book,
-      c.in_ok-rules.ensures.rules,
-      attributes,
-      c.in_ok-within.ensures.finds,
-      c.in_ok-places.ensures.finds,
-      few,
-    )
-    (Finds-stopped _ _ c.in_err-bindable.field-0.0 c.from_residual-in_err-bindable.result
+    let next = next_edition published.editions c.args.name.now c.in_ok-book.book c.in_ok-places.places
+    (in_order c.in_ok-attributes.attributes (length c.in_ok-rules.rules.schema.attributes)) in
+    let binds = subst (λ one. Finds {A = Unit {0}} (Err c.in_err-bindable.field-0.0) (bindable published one)) row
+    c.in_err-bindable.ensures in
+    Finds-same (bindable published next >>= (λ _. done next)) (edition_row published c.args.name.now
+    c.args.rulebook.now c.args.masters.now c.args.folded.now) result
+    (sym (edition-tested published c.args.name.now c.args.rulebook.now c.args.masters.now c.args.folded.now
+    c.in_ok-book.book c.in_ok-rules.rules c.in_ok-attributes.attributes c.in_ok-places.places
+    c.in_ok-proper_name.ensures.finds book c.in_ok-rules.ensures.rules attributes c.in_ok-within.ensures.finds
+    c.in_ok-places.ensures.finds few))
+    (Finds-stopped (bindable published next) (λ _. done next) c.in_err-bindable.field-0.0 result
     c.from_residual-in_err-bindable.ensures.1 binds)
 
 pub returns : goal.returns
 returns c =
+    let published = published_of (rows_of c.args.tables.now) in
     let book = rw c.as_slice.ensures at c.in_ok-book.ensures.finds in
     let attributes = rw c.as_slice-2.ensures at c.in_ok-attributes.ensures.finds in
     let few = rw c.len.ensures at c.in_ok-within-2.ensures.finds in
     let row = rw (c.in_ok-folded.ensures, c.as_slice-3.ensures, c.len-2.ensures) at c.in_ok-row.ensures in
-    let binds = rw (row, c.in_ok-rules.ensures.rules) at c.in_ok-bindable.ensures in
-    rw (
-      c.in_ok-proper_name.ensures.finds,
-      book,
-      c.in_ok-rules.ensures.rules,
-      attributes,
-      c.in_ok-within.ensures.finds,
-      c.in_ok-places.ensures.finds,
-      few,
-      binds,
-      row,
-    ) refl
+    let next = next_edition published.editions c.args.name.now c.in_ok-book.book c.in_ok-places.places
+    (in_order c.in_ok-attributes.attributes (length c.in_ok-rules.rules.schema.attributes)) in
+    let binds = subst (λ one. IsFound (bindable published one) tt) row c.in_ok-bindable.ensures in
+    edition-tested published c.args.name.now c.args.rulebook.now c.args.masters.now c.args.folded.now
+    c.in_ok-book.book c.in_ok-rules.rules c.in_ok-attributes.attributes c.in_ok-places.places
+    c.in_ok-proper_name.ensures.finds book c.in_ok-rules.ensures.rules attributes c.in_ok-within.ensures.finds
+    c.in_ok-places.ensures.finds few
+    ∙ (rw binds (ap (λ one. told (Ok one)) (sym row)))

@@ -1,7 +1,7 @@
 use Rattle.std.proofs.Common.{refl, sym}
 use Rattle.master_rows.specs.Sheet.{read_sheet}
 use Rattle.machine_core.proofs.SheetCells.{cells-found, cells-stopped}
-use Rattle.machine_core.proofs.Stopping.{Finds-stopped}
+use Rattle.machine_core.proofs.Stopping.{EndsWith-stopped}
 use Rattle.machine_core.proofs.steward.add_master.master_row.Goals as goal
 
 pub returns-in_err-brought : goal.returns-in_err-brought
@@ -16,7 +16,7 @@ returns-in_err-within-2 c =
     let found = cells-found (read_sheet c.args.body.now) c.in_ok-brought.brought read in
     let more = rw (c.requires.cells, sym found.2) at c.in_err-within-2.ensures.finds in
     rw (c.in_ok-proper_name.ensures.finds, found.1, c.in_ok-within.ensures.finds)
-    (Finds-stopped _ _ c.in_err-within-2.field-0.0 c.from_residual-in_err-within-2.result
+    (EndsWith-stopped _ _ c.in_err-within-2.field-0.0 c.from_residual-in_err-within-2.result
     c.from_residual-in_err-within-2.ensures.1 more)
 
 pub returns : goal.returns

@@ -1,8 +1,8 @@
-use Rattle.std.proofs.Common.{◌≡◌, ◌∙◌, Ok, Err, ap, arith, length, subst}
+use Rattle.std.proofs.Common.{◌∙◌, Ok, Err, ap, arith, length, subst}
 use Rattle.fix_model.specs.declared.state.State.{State}
 use Rattle.fix_model.specs.Run.{end_of}
 use Rattle.machine_core.specs.Answers.{state_of}
-use Rattle.machine_core.specs.Checked.{done}
+use Rattle.machine_core.specs.Checked.{IsFound}
 use Rattle.machine_core.specs.Look.Explain.{fixed_at}
 use Rattle.machine_core.specs.Outcomes.{Finds}
 use Rattle.machine_core.specs.Shelves.{bound_on}
@@ -49,7 +49,7 @@ explanation_of-requires-clause-fixed c =
     let end = c.in_ok-answered.ensures.answered.shown
     ∙ end-shown bound state (answer_in work verdict) verdict c.in_ok-not_in_conflict.ensures.finds in
     rw (c.in_ok-state.ensures.state, c.first.ensures) (fixed-is (end_of bound.kit state work.first) attribute word
-    (subst (λ (one : State). fixed_at one attribute word ≡ done tt) end c.in_ok-fixed_at.ensures))
+    (subst (λ (one : State). IsFound (fixed_at one attribute word) tt) end c.in_ok-fixed_at.ensures))
 
 pub explanation_of-requires-clause-run : goal.explanation_of-requires-clause-run
 explanation_of-requires-clause-run c =
@@ -84,5 +84,5 @@ returns-clause-explained c =
     ∙ end-shown bound state answer verdict c.in_ok-not_in_conflict.ensures.finds in
     explained-fixed bound c.args.session.now word attribute answer found c.in_ok-answered.ensures.answered.answer
     (Ok c.in_ok-explanation_of.field-0) c.in_ok-not_in_conflict.ensures.finds
-    (subst (λ (one : State). fixed_at one attribute word ≡ done tt) end c.in_ok-fixed_at.ensures)
+    (subst (λ (one : State). IsFound (fixed_at one attribute word) tt) end c.in_ok-fixed_at.ensures)
     (rw (c.in_ok-state.ensures.state, c.first.ensures) at c.in_ok-explanation_of.ensures)

@@ -3,7 +3,8 @@ use Rattle.std.specs.Prelude.{option_map}
 use Rattle.desk_words.specs.declared.rows.session.SessionRow.{SessionRow}
 use Rattle.desk_words.specs.Tables.{published_of, rows_of}
 use Rattle.machine_views.specs.Reporting.{sessions_of}
-use Rattle.machine_views.proofs.Few.{editions-few, total-more}
+use Rattle.desk_valid.proofs.Few.{editions-few}
+use Rattle.machine_views.proofs.Few.{total-more}
 use Rattle.machine_views.proofs.Reporting.{AreLinesOver-all, AreLinesOver-more, line-given}
 use Rattle.machine_core.proofs.ReadRows.{edition-read}
 use Rattle.machine_views.proofs.looks.report.lines_over.Goals as goal
