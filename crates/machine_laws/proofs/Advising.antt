@@ -17,7 +17,8 @@ use Rattle.fix_engine.specs.Flags.{IsFlagged}
 use Rattle.region_suggest.specs.Gains.{AreGains, IsGain, uncovered_attributes}
 use Rattle.region_suggest.specs.Hope.{IsHopeClosed, IsHoped}
 use Rattle.region_suggest.specs.Need.{IsGivenWithout, IsNeed, IsNeeded}
-use Rattle.region_suggest.proofs.Counts.{count-covering, count-more, count-set, flag-covering}
+use Rattle.fix_engine.proofs.Reach.{IsFlagged-cells}
+use Rattle.region_suggest.proofs.Counts.{count-covering, count-more, count-set}
 use Rattle.fix_engine.proofs.Lists.{Contains-behind, Contains-cases, Contains-first}
 use Rattle.region_suggest.proofs.Lists.{Contains-at, Contains-nil, IsFlagged-cases, IsFlagged-within}
 use Rattle.region_suggest.proofs.Needs.{AreAllHoped-more}
@@ -159,7 +160,7 @@ module _ (kit : Kit) (state : State) (valid : IsValid kit) (fits : Fits kit stat
       let flags : List Bool = map is_covering state.cells in
       let whole : length flags ≡ kit.width = length-map state.cells is_covering ∙ fits.cells in
       let clear : get_or flags attribute false ≡ false = elim (cases_Bool (get_or flags attribute false)) [
-        | inl flagged ↦ absurd (uncovered (sym (flag-covering state.cells attribute) ∙ flagged))
+        | inl flagged ↦ absurd (uncovered (sym (IsFlagged-cells state.cells attribute) ∙ flagged))
         | inr unset ↦ unset
       ] in
       let inside : (one : ℕ) → IsFlagged (set flags attribute true) one → IsFlagged closure.0 one =
@@ -167,7 +168,7 @@ module _ (kit : Kit) (state : State) (valid : IsValid kit) (fits : Fits kit stat
         | inl is ↦ (closure.2 one (omega (arith, is, within))).1 (λ other closed. closed.given_ones one
             (omega (arith, is, within)) is)
         | inr covered ↦
-            let is_covered : IsCovered state one = sym (flag-covering state.cells one) ∙ covered in
+            let is_covered : IsCovered state one = sym (IsFlagged-cells state.cells one) ∙ covered in
             (closure.2 one (IsCovered-within kit state fits one is_covered)).1 (λ other closed.
             closed.covered one is_covered)
       ] in

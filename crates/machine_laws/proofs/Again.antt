@@ -1,7 +1,8 @@
 -- A write that comes again.
 use Rattle.std.proofs.Common.{◌≡◌, ◌≢◌, ◌⊎◌, ◌∙◌, ℕ, ◌+◌, ◌<◌, Bool, true, false, List, [], length, None, inl, inr}
+use Rattle.std.proofs.Common.{nat_le}
 use Rattle.std.proofs.Common.{refl, sym, ap, subst, arith}
-use Rattle.std.specs.Prelude.{Ok, if◌then◌else◌, nat_lt, ◌==◌}
+use Rattle.std.specs.Prelude.{Ok, ◌==◌}
 use Rattle.std.specs.Str.{bytes_eq}
 use Rattle.std.proofs.lemmas.Bool.Decides.{nat_tests}
 use Rattle.std.proofs.lemmas.List.{get_or-set_same}
@@ -12,7 +13,7 @@ use Rattle.desk_words.specs.declared.command.Command.{Command}
 use Rattle.desk_words.specs.declared.command.Command.TheVariants.{Steward, Clerk}
 use Rattle.desk_words.specs.declared.command.Ticket.{Ticket}
 use Rattle.desk_words.specs.declared.made.Made.{Made}
-use Rattle.desk_words.specs.declared.refusal.Refusal.TheVariants.{Gap, Reused, Stale}
+use Rattle.desk_words.specs.declared.refusal.Refusal.TheVariants.{Stale}
 use Rattle.desk_words.specs.declared.reply.Reply.{Reply}
 use Rattle.desk_words.specs.declared.reply.Reply.TheVariants as reply
 use Rattle.desk_words.specs.declared.rows.act.Act.{Act}
@@ -23,15 +24,14 @@ use Rattle.desk_words.specs.Changes.{changed, changed_all}
 use Rattle.desk_words.specs.Tables.{Published, Rows, new_clerk, published_of}
 use Rattle.desk_valid.specs.Rows.Clerk.{HasTarget}
 use Rattle.desk_valid.specs.Valid.{AreValid}
-use Rattle.machine_core.specs.Checked.{Checked, done, refused, ◌>>=◌, unless, Gives}
+use Rattle.machine_core.specs.Checked.{done, ◌>>=◌, Gives, ComesTo, IsFound, IsRefused, run}
 use Rattle.machine_core.specs.Kept.{kept_made, kept_reply}
 use Rattle.machine_core.specs.Machine.{IsStep, answered, changes_if, clerk_of, clerk_write, clerk_write_at, machine}
 use Rattle.machine_core.specs.Machine.{steward_write}
 use Rattle.machine_core.specs.Own.{Own, after, own_of}
-use Rattle.machine_core.specs.declared.ticket.Use.{Use}
 use Rattle.machine_core.specs.declared.ticket.Use.TheVariants.{Fresh, Repeated}
-use Rattle.machine_core.specs.Ticket.{repeat_of, ticketed, use_of}
-use Rattle.machine_core.proofs.Chains.{Gives-bind, Gives-bind_ok, Gives-unique, done-value}
+use Rattle.machine_core.specs.Ticket.{ticketed, use_of, use_at}
+use Rattle.machine_core.proofs.Chains.{Gives-bind, Gives-unique}
 use Rattle.machine_laws.specs.Callers.{Caller, asks, clerk, steward}
 use Rattle.machine_laws.proofs.Accepted.{making-sound}
 use Rattle.machine_laws.proofs.Callers.{names_of}
@@ -39,43 +39,29 @@ use Rattle.machine_laws.proofs.Deeds.{own_after}
 use Rattle.machine_laws.proofs.Kept.{kept_made-more, kept_reply-more}
 use Rattle.machine_laws.proofs.Lists.{Begins, Begins-same, slice_get-read, slice_get-there}
 use Rattle.machine_laws.proofs.Names.{clerk_of-begins, clerk_of-same}
-use Rattle.machine_laws.proofs.Staying.{AreMore-same, IsAccepted, IsLonger, after-clerk, after-steward, by_clerk}
+use Rattle.machine_laws.proofs.Staying.{IsAccepted, IsLonger, after-clerk, after-steward, by_clerk}
 use Rattle.machine_laws.proofs.Staying.{by_steward, names-set, own_of-with_same, step-cases, step-kept, step-longer}
 use Rattle.machine_laws.proofs.Staying.{with_making}
 use Rattle.machine_laws.proofs.Valid.{own-rows, with_own}
 use Rattle.machine_laws.proofs.Writes.{clerk_of-ok}
-
--- the tests of a number
-abbrev pub use_at : Bool → Bool → Bool → ClerkRow → Ticket → Checked Use
-use_at stale gap same row ticket =
-    if stale then refused (Stale row.last)
-    else if gap then refused (Gap row.last)
-    else if same then repeat_of row ticket
-    else done Fresh
-
-fresh-tests : (stale gap same : Bool) (row : ClerkRow) (ticket : Ticket) → Gives (use_at stale gap same row ticket)
-    (Ok Fresh)
-    → (stale ≡ false) × (gap ≡ false) × (same ≡ false)
-fresh-tests true gap same row ticket gives = absurd (cc)
-fresh-tests false true same row ticket gives = absurd (cc)
-fresh-tests false false true row ticket gives =
-    let passed = Gives-bind_ok (unless (bytes_eq row.digest.bytes ticket.digest.bytes) (Reused row.last))
-    (λ _. done Repeated)
-    Fresh gives in
-    absurd (let same = done-value Repeated Fresh passed.2 in cc)
-fresh-tests false false false row ticket gives = (refl, refl, refl)
+use Rattle.machine_core.proofs.Walks.{Met, Met-Gives}
+use Rattle.machine_laws.proofs.More.{AreMore-same}
 
 -- a new number follows the last
 pub use-fresh : (row : ClerkRow) (ticket : Ticket) → Gives (use_of row ticket) (Ok Fresh) → ticket.number ≡ row.last + 1
 use-fresh row ticket gives =
-    let told = fresh-tests (nat_lt ticket.number row.last) (nat_lt (row.last + 1) ticket.number)
-    (ticket.number == row.last)
-    row ticket gives in
-    grind (arith, nat_tests, told.0, told.1, told.2)
+    let (_, fresh, (_, near, rest)) = Met-Gives (use_of row ticket) (Ok Fresh) gives in
+    fresh-after (ticket.number == row.last) refl rest fresh near
+  where
+    fresh-after : (same : Bool) → (ticket.number == row.last) ≡ same → Met (use_at same row ticket) (Ok Fresh)
+        → nat_le row.last ticket.number ≡ true → nat_le ticket.number (row.last + 1) ≡ true
+        → ticket.number ≡ row.last + 1
+    fresh-after true is (_, digest, repeats) fresh near = absurd (cc)
+    fresh-after false is done_so fresh near = grind (arith, nat_tests, is, fresh, near)
 
 -- after an accepted write its ticket is the last one
 use-again : (row : ClerkRow) (ticket : Ticket) (what : Act) (target : ℕ)
-    → use_of (ticketed row ticket what target) ticket ≡ done Repeated
+    → IsFound (use_of (ticketed row ticket what target) ticket) Repeated
 use-again row ticket what target =
     let same : bytes_eq ticket.digest.bytes ticket.digest.bytes ≡ true =
     (bytes_eq-Decides ticket.digest.bytes ticket.digest.bytes).1 refl in
@@ -83,14 +69,14 @@ use-again row ticket what target =
 
 -- a number below the last is stale
 pub use-stale : (row : ClerkRow) (ticket : Ticket) → ticket.number < row.last
-    → use_of row ticket ≡ refused (Stale row.last)
+    → IsRefused (use_of row ticket) (Stale row.last)
 use-stale row ticket less =
-    let told : nat_lt ticket.number row.last ≡ true = grind (arith, nat_tests, less) in
-    ap (λ stale. use_at stale (nat_lt (row.last + 1) ticket.number) (ticket.number == row.last) row ticket) told
+    let fails : nat_le row.last ticket.number ≡ false = grind (arith, nat_tests, less) in
+    rw fails refl
 
 -- the kept reply needs nothing of the caller's row
 kept-row : (published : Published) (own : Own) (row : ClerkRow) (what : Act) (target : ℕ)
-    → kept_reply published (record own { row = row }) what target ≡ kept_reply published own what target
+    → run (kept_reply published (record own { row = row }) what target) ≡ run (kept_reply published own what target)
 kept-row published own row act.Nothing target = refl
 kept-row published own row act.Clerk target = refl
 kept-row published own row act.Schema target = refl
@@ -106,11 +92,12 @@ kept-row published own row act.Batched target = refl
 -- the request is the caller's last one, and this is its kept reply
 pub data IsLast (rows : Rows) : Command → Reply → Type 0 where
   of_clerk : (name : List ℕ) (ticket : Ticket) (work : ClerkWork) (answer : Reply) (place : ℕ)
-      → clerk_of rows.clerks name ≡ done place → use_of (own_of rows place).row ticket ≡ done Repeated
+      → IsFound (clerk_of rows.clerks name) place → IsFound (use_of (own_of rows place).row ticket) Repeated
       → Gives (kept_reply (published_of rows) (own_of rows place) (own_of rows place).row.act
       (own_of rows place).row.target) (Ok answer)
       → IsLast rows (Clerk name ticket work) answer
-  of_steward : (ticket : Ticket) (work : StewardWork) (made : Made) → use_of (own_of rows 0).row ticket ≡ done Repeated
+  of_steward : (ticket : Ticket) (work : StewardWork) (made : Made)
+      → IsFound (use_of (own_of rows 0).row ticket) Repeated
       → Gives (kept_made rows (own_of rows 0).row.act (own_of rows 0).row.target) (Ok made)
       → IsLast rows (Steward ticket work) (reply.Made made)
 
@@ -125,10 +112,10 @@ last-answer rows command answer (of_clerk name ticket work answer' place found u
     (Ok (answer', None))
     kept refl in
     let used_it : Gives (use_of own.row ticket) (Ok Repeated) =
-    subst (λ one. Gives one (Ok Repeated)) (sym used) refl in
+    subst (λ one. ComesTo one (Ok Repeated)) (sym used) refl in
     let written : Gives (clerk_write published own ticket work) (Ok (answer', None)) =
     Gives-bind (use_of own.row ticket) (clerk_write_at published own work) Repeated (Ok (answer', None)) used_it both in
-    let found_it : Gives (clerk_of rows.clerks name) (Ok place) = subst (λ one. Gives one (Ok place)) (sym found)
+    let found_it : Gives (clerk_of rows.clerks name) (Ok place) = subst (λ one. ComesTo one (Ok place)) (sym found)
     refl in
     Gives-bind (clerk_of rows.clerks name)
     (λ there. clerk_write published (own_of rows there) ticket work >>= (λ one. done
@@ -137,7 +124,7 @@ last-answer rows command answer (of_clerk name ticket work answer' place found u
     (answer', None) (Ok (answer', [])) written refl)
 last-answer rows command answer (of_steward ticket work made used kept) =
     let used_it : Gives (use_of (own_of rows 0).row ticket) (Ok Repeated) =
-    subst (λ one. Gives one (Ok Repeated)) (sym used) refl in
+    subst (λ one. ComesTo one (Ok Repeated)) (sym used) refl in
     Gives-bind (use_of (own_of rows 0).row ticket) (steward_write rows ticket work) Repeated (Ok (reply.Made made, []))
     used_it (Gives-bind (kept_made rows (own_of rows 0).row.act (own_of rows 0).row.target)
     (λ one. done (reply.Made one, []))
@@ -161,13 +148,13 @@ module _ (rows : Rows) (valid : AreValid rows) where
       let made : Own = own_after own ticket new.deed in
       let next : Rows = with_own rows new.place made in
       let names = names-set rows new.place made.row new.is_place.within refl in
-      let found : clerk_of next.clerks name ≡ done new.place =
+      let found : IsFound (clerk_of next.clerks name) new.place =
       clerk_of-same rows.clerks next.clerks name names ∙ new.is_place.found in
       let same : own_of next new.place ≡ made = own_of-with_same rows new.place made valid.tables new.is_place.within in
-      let used : use_of (own_of next new.place).row ticket ≡ done Repeated =
-      ap (λ (one : Own). use_of one.row ticket) same ∙ use-again own.row ticket new.deed.act new.deed.target in
+      let used : IsFound (use_of (own_of next new.place).row ticket) Repeated =
+      ap (λ (one : Own). run (use_of one.row ticket)) same ∙ use-again own.row ticket new.deed.act new.deed.target in
       let kept : Gives (kept_reply (published_of rows) made made.row.act made.row.target) (Ok answer') =
-      subst (λ one. Gives one (Ok answer'))
+      subst (λ one. ComesTo one (Ok answer'))
       (sym (kept-row (published_of rows) (after own new.deed) made.row new.deed.act
       new.deed.target)) new.kept in
       subst (λ (one : Rows). IsLast one (Clerk name ticket work) answer')
@@ -185,14 +172,15 @@ module _ (rows : Rows) (valid : AreValid rows) where
       get_or-set_same next.clerks 0 row (new_clerk []) sound.valid.tables.steward in
       let names = names-set next 0 row sound.valid.tables.steward (ap (λ (own : Own). own.row.name) (sym (sound.own 0
       valid.tables.steward))) in
-      let same : kept_made last new.making.act new.making.target ≡ kept_made next new.making.act new.making.target =
+      let same : run (kept_made last new.making.act new.making.target)
+      ≡ run (kept_made next new.making.act new.making.target) =
       kept_made-more next last sound.valid (AreMore-same (published_of next))
       (subst (Begins (names_of next.clerks)) (sym names) (Begins-same (names_of next.clerks))) new.making.act
       new.making.target sound.is_done.stands in
       let kept : Gives (kept_made last row.act row.target) (Ok new.made) =
-      subst (λ one. Gives one (Ok new.made)) (sym same) new.kept in
-      let used : use_of (own_of last 0).row ticket ≡ done Repeated =
-      ap (λ (one : ClerkRow). use_of one ticket) there ∙ use-again (own_of rows 0).row ticket new.making.act
+      subst (λ one. ComesTo one (Ok new.made)) (sym same) new.kept in
+      let used : IsFound (use_of (own_of last 0).row ticket) Repeated =
+      ap (λ (one : ClerkRow). run (use_of one ticket)) there ∙ use-again (own_of rows 0).row ticket new.making.act
       new.making.target in
       subst (λ (one : Rows). IsLast one (Steward ticket work) answer')
       (sym (after-steward rows valid ticket work answer'
@@ -220,19 +208,19 @@ module _ (rows : Rows) (valid : AreValid rows) where
       let next : Rows = changed_all rows changes in
       let same_name : name ≡ named = (bytes_eq-Decides name named).0 asked_it in
       let longer : IsLonger rows valid next = step-longer rows valid other reply_to changes step in
-      let there : clerk_of rows.clerks named ≡ done place =
-      subst (λ one. clerk_of rows.clerks one ≡ done place) same_name found in
-      let found_it : clerk_of next.clerks name ≡ done place =
+      let there : IsFound (clerk_of rows.clerks named) place =
+      subst (λ one. IsFound (clerk_of rows.clerks one) place) same_name found in
+      let found_it : IsFound (clerk_of next.clerks name) place =
       clerk_of-begins rows.clerks next.clerks name place longer.names found in
       let within : place < length rows.clerks =
-      (clerk_of-ok rows.clerks name place (subst (λ one. Gives one (Ok place)) (sym found) refl)).within in
+      (clerk_of-ok rows.clerks name place (subst (λ one. ComesTo one (Ok place)) (sym found) refl)).within in
       let same : own_of next place ≡ own_of rows place =
       step-kept rows valid (clerk named) place other reply_to changes step not_its there in
       let own : Own = own_of rows place in
       let kept_it : Gives (kept_reply (published_of next) own own.row.act own.row.target) (Ok answer') =
-      subst (λ one. Gives one (Ok answer')) (sym (kept_reply-more rows valid (published_of next) longer.published own
+      subst (λ one. ComesTo one (Ok answer')) (sym (kept_reply-more rows valid (published_of next) longer.published own
       (own-rows rows valid place) own.row.act own.row.target)) kept in
-      of_clerk name ticket work answer' place found_it (ap (λ (one : Own). use_of one.row ticket) same ∙ used)
+      of_clerk name ticket work answer' place found_it (ap (λ (one : Own). run (use_of one.row ticket)) same ∙ used)
       (subst (λ (one : Own). Gives (kept_reply (published_of next) one one.row.act one.row.target) (Ok answer'))
       (sym same)
       kept_it)
@@ -252,8 +240,8 @@ module _ (rows : Rows) (valid : AreValid rows) where
       (sym is)
       (valid.clerks 0 there.0 there.1).target in
       let kept_it : Gives (kept_made next row.act row.target) (Ok made) =
-      subst (λ one. Gives one (Ok made))
+      subst (λ one. ComesTo one (Ok made))
       (sym (kept_made-more rows next valid longer.published longer.names row.act row.target
       has)) kept in
-      of_steward ticket work made (ap (λ (one : Own). use_of one.row ticket) same ∙ used)
+      of_steward ticket work made (ap (λ (one : Own). run (use_of one.row ticket)) same ∙ used)
       (subst (λ (one : Own). Gives (kept_made next one.row.act one.row.target) (Ok made)) (sym same) kept_it)

@@ -1,21 +1,24 @@
 -- Every state of a valid kit has an answer.
-use Rattle.std.proofs.Common.{◌≡◌, List, [], ◌++◌, Option, Some, None, inl, inr, refl}
+use Rattle.std.proofs.Common.{◌≡◌, List, [], ◌++◌, Option, Some, None, inl, inr, refl, true, false}
 use Rattle.std.specs.Prelude.{⊤}
 use Rattle.fix_model.specs.declared.kit.Kit.{Kit}
 use Rattle.fix_model.specs.declared.state.State.{State}
 use Rattle.fix_model.specs.declared.state.Step.{Step}
 use Rattle.fix_model.specs.FirstRun.{IsFirstRun}
-use Rattle.fix_model.specs.Fix.{Dissents, IsDissent}
+use Rattle.fix_model.specs.Fix.{Dissents, IsDissent, HasFix}
 use Rattle.fix_model.specs.Run.{end_of}
 use Rattle.fix_model.specs.States.{Fits, record_of}
 use Rattle.fix_model.specs.Valid.{IsValid}
-use Rattle.fix_model.proofs.Deciding.{opposite}
+use Rattle.fix_model.proofs.Deciding.{opposite, Decided}
 use Rattle.fix_model.proofs.Lengths.{IsMaximalRun-exists}
 use Rattle.fix_engine.specs.declared.verdict.Verdict.TheVariants.{Fix, Conflict}
 use Rattle.fix_engine.specs.Verdicts.{IsAnswer}
 use Rattle.machine_core.specs.Checked.{Answer}
 use Rattle.machine_laws.proofs.Decisions.{decide_all_covered, decide_dissents, decide_records, told}
 use Rattle.machine_laws.proofs.LeastRuns.{FindsRun, finds-run, least_step}
+use Rattle.fix_engine.specs.declared.verdict.Verdict.{Verdict}
+use Rattle.region_suggest.proofs.Pairs.{certain-only}
+use Rattle.fix_model.specs.declared.region.RowVerdict.TheVariants as row
 
 module _ (kit : Kit) (state : State) (valid : IsValid kit) (fits : Fits kit state) where
   -- there is a first run
@@ -82,3 +85,21 @@ some-answer kit state valid fits =
     let dissent = some-dissent kit (end_of kit state first.0) in
     answer-by kit state first.0 dissent.0 first.1 dissent.1 (finds-run kit valid (Elsewhere kit state first.0)
     (λ end. opposite (decide_records (record_of kit (end_of kit state first.0)) (record_of kit end))) state fits)
+
+-- whether a state has a certain fix
+pub decide_certain : (kit : Kit) (state : State) → IsValid kit → Fits kit state → Decided (HasFix kit state true)
+decide_certain kit state valid fits =
+    let (answer, is_answer) = some-answer kit state valid fits in
+    by_verdict answer.first answer.second answer.verdict is_answer
+  where
+    by_verdict : (first second : List Step) (verdict : Verdict) → IsAnswer kit state first second verdict
+        → Decided (HasFix kit state true)
+    by_verdict first second (Fix true dissent) is = inl (first, dissent, is.0)
+    by_verdict first second (Fix false dissent) is = inr (λ certain.
+        (let same = certain-only kit state row.Partial (first, dissent, is.0) certain in cc))
+    by_verdict first second Conflict is = inr (λ certain.
+        (let same = certain-only kit state row.Conflict (
+          first,
+          is.is_first,
+          (second, is.is_second.holds),
+        ) certain in cc))

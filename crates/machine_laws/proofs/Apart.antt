@@ -1,7 +1,7 @@
 -- The replies to a clerk are those of the list without the requests of other clerks.
-use Rattle.std.proofs.Common.{◌≡◌, ◌≢◌, ◌⊎◌, ◌∙◌, ℕ, ◌+◌, ◌-◌, ◌<◌, ◌≤◌, Bool, true, false, cond, List, [], ◌∷◌, length}
+use Rattle.std.proofs.Common.{◌≡◌, ◌≢◌, ◌∙◌, ℕ, ◌+◌, ◌-◌, ◌<◌, ◌≤◌, Bool, true, false, cond, List, [], ◌∷◌, length}
 use Rattle.std.proofs.Common.{get_or, drop, map, Option, Some, None, inl, inr, refl, sym, ap, subst, arith}
-use Rattle.std.specs.Prelude.{Result, Ok, Err, filter, not, option_map, position}
+use Rattle.std.specs.Prelude.{Ok, filter, not, option_map, position}
 use Rattle.std.specs.Str.{bytes_eq}
 use Rattle.std.proofs.lemmas.Bool.{cases_Bool, cases_lt}
 use Rattle.std.proofs.lemmas.List.{get_or-drop, get_or-map, get_or-set_other, get_or-set_same, get_or_append_left}
@@ -12,7 +12,6 @@ use Rattle.desk_words.specs.declared.change.Change.TheVariants as change
 use Rattle.desk_words.specs.declared.command.Command.{Command}
 use Rattle.desk_words.specs.declared.command.Command.TheVariants.{Steward, Clerk, Look, DeskReport, DeskDerive}
 use Rattle.desk_words.specs.declared.command.Ticket.{Ticket}
-use Rattle.desk_words.specs.declared.refusal.Refusal.{Refusal}
 use Rattle.desk_words.specs.declared.refusal.Refusal.TheVariants.{NoClerk}
 use Rattle.desk_words.specs.declared.reply.Reply.{Reply}
 use Rattle.desk_words.specs.declared.rows.clerk.ClerkRow.{ClerkRow}
@@ -20,7 +19,7 @@ use Rattle.desk_words.specs.declared.steward_work.StewardWork.{StewardWork}
 use Rattle.desk_words.specs.Changes.{changed, changed_all}
 use Rattle.desk_words.specs.Tables.{Rows, new_clerk, published_of}
 use Rattle.desk_valid.specs.Valid.{AreValid}
-use Rattle.machine_core.specs.Checked.{done, some_or, ◌>>=◌, Gives}
+use Rattle.machine_core.specs.Checked.{done, some_or, ComesTo, IsFound, run, and_then, told}
 use Rattle.machine_core.specs.Machine.{IsStep, answered, clerk_of, machine}
 use Rattle.machine_core.specs.Own.{Own, own_of}
 use Rattle.machine_core.specs.Ticket.{ticketed}
@@ -38,40 +37,25 @@ use Rattle.machine_laws.proofs.Staying.{after-steward, chain-done, clerk_of-name
 use Rattle.machine_laws.proofs.Stewards.{AreAsToSteward, changed-names, changed-published, steward-machine}
 use Rattle.machine_laws.proofs.Unchanged.{step-unchanged}
 use Rattle.machine_laws.proofs.Writes.{IsStewardsNew, clerk_of-ok, derive-unchanged, look-unchanged, report-unchanged}
-use Rattle.machine_laws.proofs.Writes.{steward-written}
-
--- the steward's step is a new write, or changes nothing
-steward-cases : (rows : Rows) (ticket : Ticket) (work : StewardWork) (answer : Reply) (changes : List Change)
-    → IsStep rows (Steward ticket work) answer changes → (changes ≡ []) ⊎ IsStewardsNew rows ticket work answer changes
-steward-cases rows ticket work answer changes step =
-    subst (λ (both : Reply × List Change). (both.1 ≡ []) ⊎ IsStewardsNew rows ticket work both.0 both.1)
-    (sym step.answers)
-    (whole step.outcome step.gives)
-  where
-    whole : (outcome : Result (Reply × List Change) Refusal) → Gives (machine rows (Steward ticket work)) outcome
-        → ((answered outcome).1 ≡ []) ⊎ IsStewardsNew rows ticket work (answered outcome).0 (answered outcome).1
-    whole (Ok made) gives = elim (steward-written rows ticket work made gives) [
-      | inl again ↦ inl again.unchanged
-      | inr new ↦ inr new
-    ]
-    whole (Err refusal) gives = inl refl
+use Rattle.machine_laws.proofs.Writes.{steward-cases}
 
 -- a clerk who comes with the steward's step has nothing yet
 behind-new : (rows : Rows) (valid : AreValid rows) (name : List ℕ) (ticket : Ticket) (work : StewardWork)
     (answer : Reply)
     (changes : List Change) (place : ℕ) → IsStep rows (Steward ticket work) answer changes → length rows.clerks ≤ place
-    → clerk_of (changed_all rows changes).clerks name ≡ done place → own_of (changed_all rows changes) place ≡ new_own
+    → IsFound (clerk_of (changed_all rows changes).clerks name) place
+    → own_of (changed_all rows changes) place ≡ new_own
     name
 behind-new rows valid name ticket work answer changes place step behind found =
     elim (steward-cases rows ticket work answer changes step) [
       | inl none ↦
-          let here : clerk_of rows.clerks name ≡ done place =
-          subst (λ made. clerk_of (changed_all rows made).clerks name ≡ done place) none found in
+          let here : IsFound (clerk_of rows.clerks name) place =
+          subst (λ made. IsFound (clerk_of (changed_all rows made).clerks name) place) none found in
           absurd (omega (
             arith,
             behind,
             (clerk_of-ok rows.clerks name place
-                (subst (λ one. Gives one (Ok place)) (sym here) refl)).within,
+                (subst (λ one. ComesTo one (Ok place)) (sym here) refl)).within,
           ))
       | inr new ↦
           let sound = making-sound rows work new.making valid new.makes in
@@ -79,10 +63,10 @@ behind-new rows valid name ticket work answer changes place step behind found =
           let row : ClerkRow = ticketed (own_of rows 0).row ticket new.making.act new.making.target in
           let last : Rows = with_making rows valid ticket new.making in
           let same : changed_all rows changes ≡ last = after-steward rows valid ticket work answer changes new in
-          let here : clerk_of last.clerks name ≡ done place =
-          subst (λ (one : Rows). clerk_of one.clerks name ≡ done place) same found in
+          let here : IsFound (clerk_of last.clerks name) place =
+          subst (λ (one : Rows). IsFound (clerk_of one.clerks name) place) same found in
           let inside : place < length last.clerks = (clerk_of-ok last.clerks name place
-          (subst (λ one. Gives one (Ok place)) (sym here) refl)).within in
+          (subst (λ one. ComesTo one (Ok place)) (sym here) refl)).within in
           let apart : place ≢ 0 = λ first. omega (arith, first, behind, valid.tables.steward) in
           let caller = get_or-set_other next.clerks 0 place row (new_clerk []) apart in
           let own : own_of last place ≡ own_of next place = λ i. record (own_of next place) { row = caller i } in
@@ -95,7 +79,7 @@ behind-new rows valid name ticket work answer changes place step behind found =
 -- what a clerk's name sees and what the steward is answered by are the same
 pub record AreAs (name : List ℕ) (rows other : Rows) : Type 0 where
   pub to_steward : AreAsToSteward rows other
-  pub own : own_by rows (clerk name) ≡ own_by other (clerk name)
+  pub own : run (own_by rows (clerk name)) ≡ run (own_by other (clerk name))
 
 -- changes change alike what was published, and the names
 all-published : (rows other : Rows) (changes : List Change) → published_of rows ≡ published_of other
@@ -137,7 +121,7 @@ module _ (name : List ℕ) (rows other : Rows) (valid : AreValid rows) (valid_to
     same-made =
         let whole = steward-machine rows other ticket work alike.to_steward in
         let same = Gives-unique (machine rows (Steward ticket work)) step.outcome step_too.outcome step.gives
-        (subst (λ one. Gives one step_too.outcome) (sym whole) step_too.gives) in
+        (subst (λ one. ComesTo one step_too.outcome) (sym whole) step_too.gives) in
         step.answers ∙ ap answered same ∙ sym step_too.answers
 
     same-changes : changes ≡ others
@@ -151,14 +135,14 @@ module _ (name : List ℕ) (rows other : Rows) (valid : AreValid rows) (valid_to
     same-reply = ap (λ (both : Reply × List Change). both.0) same-made
 
     -- a clerk who was there has the same rows
-    own-before : (place : ℕ) → clerk_of rows.clerks name ≡ done place
+    own-before : (place : ℕ) → IsFound (clerk_of rows.clerks name) place
         → own_of (changed_all rows changes) place ≡ own_of (changed_all other others) place
     own-before place found =
-        let seen : own_by rows (clerk name) ≡ done (own_of rows place) =
-        ap (λ one. one >>= (λ there. done (own_of rows there))) found in
+        let seen : IsFound (own_by rows (clerk name)) (own_of rows place) =
+        ap (λ one. and_then one (λ there. told (Ok (own_of rows there)))) found in
         let there = chain-done (place_of other (clerk name)) (own_of other) (own_of rows place)
         (sym alike.own ∙ seen) in
-        let found_too : clerk_of other.clerks name ≡ done place =
+        let found_too : IsFound (clerk_of other.clerks name) place =
         clerk_of-same rows.clerks other.clerks name (sym alike.to_steward.names) ∙ found in
         let same : there.0 ≡ place = same_place (sym there.1 ∙ found_too) in
         step-kept rows valid (clerk name) place (Steward ticket work) answer changes step (inr refl) found
@@ -166,12 +150,12 @@ module _ (name : List ℕ) (rows other : Rows) (valid : AreValid rows) (valid_to
         ∙ sym (step-kept other valid_too (clerk name) place (Steward ticket work) answer_too others step_too (inr refl)
         found_too)
       where
-        same_place : {one another : ℕ} → done one ≡ done another → one ≡ another
+        same_place : {one another : ℕ} → IsFound (done one) another → one ≡ another
         same_place is = cc
 
     -- and one who comes with the step has nothing yet
     own-behind : (place : ℕ) → position (λ row. bytes_eq row.name name) (drop 1 rows.clerks) ≡ None
-        → clerk_of (changed_all rows changes).clerks name ≡ done place
+        → IsFound (clerk_of (changed_all rows changes).clerks name) place
         → own_of (changed_all rows changes) place ≡ own_of (changed_all other others) place
     own-behind place none found =
         let test : ClerkRow → Bool = λ row. bytes_eq row.name name in
@@ -179,7 +163,7 @@ module _ (name : List ℕ) (rows other : Rows) (valid : AreValid rows) (valid_to
         let next : Rows = changed_all rows changes in
         let past : ClerkRow = new_clerk [] in
         let longer = step-longer rows valid (Steward ticket work) answer changes step in
-        let there = clerk_of-ok next.clerks name place (subst (λ one. Gives one (Ok place)) (sym found) refl) in
+        let there = clerk_of-ok next.clerks name place (subst (λ one. ComesTo one (Ok place)) (sym found) refl) in
         let named = clerk_of-named next.clerks name place past found in
         let behind : length rows.clerks ≤ place = elim (cases_lt place (length rows.clerks)) [
           | inr past_all ↦ past_all
@@ -203,14 +187,14 @@ module _ (name : List ℕ) (rows other : Rows) (valid : AreValid rows) (valid_to
                 length-drop 1 rows.clerks,
               )) passes)
         ] in
-        let found_too : clerk_of (changed_all other others).clerks name ≡ done place =
+        let found_too : IsFound (clerk_of (changed_all other others).clerks name) place =
         clerk_of-same next.clerks (changed_all other others).clerks name (sym after-names) ∙ found in
         let behind_too : length other.clerks ≤ place =
         omega (arith, behind, length-names rows.clerks other.clerks alike.to_steward.names) in
         behind-new rows valid name ticket work answer changes place step behind found
         ∙ sym (behind-new other valid_too name ticket work answer_too others place step_too behind_too found_too)
 
-    own-after : (place : ℕ) → clerk_of (changed_all rows changes).clerks name ≡ done place
+    own-after : (place : ℕ) → IsFound (clerk_of (changed_all rows changes).clerks name) place
         → own_of (changed_all rows changes) place ≡ own_of (changed_all other others) place
     own-after place found = whole (position (λ row. bytes_eq row.name name) (drop 1 rows.clerks)) refl
       where
@@ -218,8 +202,8 @@ module _ (name : List ℕ) (rows other : Rows) (valid : AreValid rows) (valid_to
             → own_of (changed_all rows changes) place ≡ own_of (changed_all other others) place
         whole None is = own-behind place is found
         whole (Some first) is =
-            let before : clerk_of rows.clerks name ≡ done (first + 1) =
-            ap (λ one. some_or (option_map (λ index. index + 1) one) NoClerk) is in
+            let before : IsFound (clerk_of rows.clerks name) (first + 1) =
+            ap (λ one. run (some_or (option_map (λ index. index + 1) one) NoClerk)) is in
             let longer = step-longer rows valid (Steward ticket work) answer changes step in
             let later = clerk_of-begins rows.clerks (changed_all rows changes).clerks name (first + 1) longer.names
             before in
@@ -227,7 +211,7 @@ module _ (name : List ℕ) (rows other : Rows) (valid : AreValid rows) (valid_to
             subst (λ one. own_of (changed_all rows changes) one ≡ own_of (changed_all other others) one) same
             (own-before (first + 1) before)
           where
-            same_place : {one another : ℕ} → done one ≡ done another → one ≡ another
+            same_place : {one another : ℕ} → IsFound (done one) another → one ≡ another
             same_place is = cc
 
     row-after : (own_of (changed_all rows changes) 0).row ≡ (own_of (changed_all other others) 0).row

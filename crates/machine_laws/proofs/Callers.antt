@@ -9,7 +9,7 @@ use Rattle.desk_words.specs.declared.rows.act.Act.TheVariants.{Region, Opened, C
 use Rattle.desk_words.specs.declared.rows.clerk.ClerkRow.{ClerkRow}
 use Rattle.desk_words.specs.Tables.{Rows, list_at}
 use Rattle.desk_valid.specs.Rows.Clerk.{HasTarget, IsClerkRow, IsClerksAct, IsNamedApart, IsStewardsAct}
-use Rattle.machine_laws.proofs.Lists.{All-from_map}
+use Rattle.desk_base.proofs.Lists.{All-unmap}
 
 -- the names of callers
 abbrev pub names_of : List ClerkRow → List (List ℕ)
@@ -56,7 +56,7 @@ IsNamedApart-same rows other place name same is =
     record {
       steward = is.steward;
       clerk = is.clerk;
-      first = All-from_map Apart name_in (take place other.clerks) (subst (All Apart) names named);
+      first = All-unmap Apart name_in (take place other.clerks) (subst (All Apart) names named);
     }
 
 -- a caller's row is good where the names before it are the same and no table is shorter

@@ -30,29 +30,29 @@ use Rattle.desk_words.specs.Tables.{Published, Rows, published_of}
 use Rattle.desk_valid.specs.declared.bound.Bound.{Bound}
 use Rattle.desk_valid.specs.Bindings.{bound_at}
 use Rattle.fix_engine.specs.Verdicts.{IsAnswer}
-use Rattle.machine_core.specs.Answers.{bound_for, state_of}
-use Rattle.machine_core.specs.Checked.{Answer, Checked, ◌>>=◌, answer_for, done, Gives}
-use Rattle.machine_core.specs.Clerk.Carry.{carry_row}
+use Rattle.machine_core.specs.Answers.{state_of}
+use Rattle.machine_core.specs.Checked.{Answer, done, Gives, IsFound}
+use Rattle.machine_core.specs.Clerk.Carry.{carry_row, carry}
 use Rattle.machine_core.specs.declared.deed.Deed.{Deed}
 use Rattle.machine_core.specs.Finding.{edition_named, session_at}
 use Rattle.machine_core.specs.Kept.{kept_reply}
-use Rattle.machine_core.specs.Look.Carry.{carried_between, carrying, words_apart}
+use Rattle.machine_core.specs.Look.Carry.{carrying}
 use Rattle.machine_core.specs.Look.View.{view_at}
 use Rattle.machine_core.specs.Machine.{IsStep, clerk_of}
 use Rattle.machine_core.specs.Own.{Own, after, changes_of, own_of, puts}
 use Rattle.machine_core.specs.Tests.{session_of}
 use Rattle.machine_core.specs.Views.{edition_at, view_of, view_with}
 use Rattle.machine_core.proofs.Chains.{Gives-bind, Gives-bind_ok, Gives-unique, done-value}
-use Rattle.machine_core.proofs.Tested.{certainly-ok, some_or-ok}
+use Rattle.machine_core.proofs.Tested.{some_or-ok}
 use Rattle.machine_laws.specs.Carries.{CarriesOne, IsCarried, row_after}
-use Rattle.machine_laws.proofs.Carries.{IsCarryOf, carry-found}
+use Rattle.machine_core.proofs.Commands.{IsCarryOf, carry_row-ok}
 use Rattle.machine_laws.proofs.Deeds.{changed-caller, put-within}
-use Rattle.machine_laws.proofs.Explanations.{answer-given}
 use Rattle.machine_laws.proofs.Isolating.{write-cases}
 use Rattle.machine_laws.proofs.Lists.{slice_get-set_same}
-use Rattle.machine_laws.proofs.Sessions.{session_at-found}
+use Rattle.machine_laws.proofs.Sessions.{session_at-found, IsActiveAt-session}
 use Rattle.machine_laws.proofs.Told.{look-told, told-again}
 use Rattle.machine_laws.proofs.Writes.{IsNew}
+use Rattle.machine_core.proofs.Walks.{Gives-Met, Met-Gives}
 
 -- an edition stands under the name and the version by which it was found
 edition-named : (published : Published) (name : List ℕ) (version place : ℕ)
@@ -76,15 +76,15 @@ IsCarried-found : (published : Published) (own : Own) (number version : ℕ) (mo
 IsCarried-found published own number version moved is =
     let named = edition-named published (edition_at published is.session.edition).name version is.edition is.named in
     let words : List (List ℕ) = is.before.names.attributes in
-    let others : List (List ℕ) = is.behind.names.attributes in
+    let others : List (List ℕ) = is.after.names.attributes in
     subst (IsCarried published version is.session) (sym is.is) (record {
       same_name = named.0;
       asked_for = named.1;
       newer = is.newer;
       before = is.before;
-      behind = is.behind;
+      behind = is.after;
       binds = is.binds;
-      binds_behind = is.binds_behind;
+      binds_behind = is.binds_after;
       moved = record {
         typed = moved.typed;
         confirmed = moved.confirmed;
@@ -114,12 +114,12 @@ carry-deed : (rows : Rows) (name : List ℕ) (ticket : Ticket) (number version :
     → (new : IsNew rows name ticket (Carry number version) answer changes)
     → IsCarryDeed (published_of rows) (own_of rows new.place) number version new.deed
 carry-deed rows name ticket number version answer changes new =
-    let moved = Gives-bind_ok (carry_row (published_of rows) (own_of rows new.place) number version) (λ session.
-    done (puts (number - 1) session act.Changed)) new.deed new.does in
+    let (moved, carries, is) =
+    Met-Gives (carry (published_of rows) (own_of rows new.place) number version) (Ok new.deed) new.does in
     record {
-      moved = moved.0;
-      carries = moved.1;
-      is = done-value (puts (number - 1) moved.0 act.Changed) new.deed moved.2;
+      moved = moved;
+      carries = Gives-Met (carry_row (published_of rows) (own_of rows new.place) number version) (Ok moved) carries;
+      is = is;
     }
 
 -- a session that was put is shown as it is
@@ -131,19 +131,21 @@ put-shown : (published : Published) (own : Own) (number : ℕ) (moved : SessionR
 put-shown published own number moved answer counted within gives =
     let next : Own = after own (puts (number - 1) moved act.Changed) in
     let same_number : number - 1 + 1 ≡ number = omega (arith, counted) in
-    let view = Gives-bind_ok (view_at published next (number - 1 + 1)) (λ view. done (reply.View view)) answer gives in
-    let there : Gives (view_at published next number) (Ok view.0) =
-    subst (λ one. Gives (view_at published next one) (Ok view.0)) same_number view.1 in
-    let session = Gives-bind_ok (session_of next.sessions number) (view_of published number) view.0 there in
-    let stands = session_at-found next.sessions number session.0
-    (some_or-ok (session_at next.sessions number) (NoSuch kind.Session) session.0 session.1) in
+    let (view, shown, told_so) =
+    Gives-bind_ok (view_at published next (number - 1 + 1)) (λ view. done (reply.View view)) answer gives in
+    let there : Gives (view_at published next number) (Ok view) =
+    subst (λ one. Gives (view_at published next one) (Ok view)) same_number shown in
+    let (session, found, of_session) =
+    Gives-bind_ok (session_of next.sessions number) (view_of published number) view there in
+    let stands = session_at-found next.sessions number session
+    (some_or-ok (session_at next.sessions number) (NoSuch kind.Session) session found) in
     let put_there : slice_get next.sessions (number - 1) ≡ Some moved =
     ap (λ list. slice_get list (number - 1)) (put-within own.sessions (number - 1) moved within)
     ∙ slice_get-set_same own.sessions (number - 1) moved within in
-    let same : session.0 ≡ moved = same_Some session.0 moved (sym stands.1 ∙ put_there) in (
-      view.0,
-      subst (λ one. Gives (view_of published number one) (Ok view.0)) same session.2,
-      done-value (reply.View view.0) answer view.2,
+    let same : session ≡ moved = same_Some session moved (sym stands.1 ∙ put_there) in (
+      view,
+      subst (λ one. Gives (view_of published number one) (Ok view)) same of_session,
+      done-value (reply.View view) answer told_so,
     )
 
 -- it is shown by what the rules of its edition make of it
@@ -157,18 +159,12 @@ shown-by : (published : Published) (number : ℕ) (session : SessionRow) (bound 
     → bound_at published session.edition ≡ Some bound → Gives (view_of published number session) (Ok view)
     → IsShownBy published number session bound view
 shown-by published number session bound view binds gives =
-    let showing : Bound → Answer → Checked ViewOf = λ one answer.
-    done (view_with published number session one answer) in
-    let found = Gives-bind_ok (bound_for published session)
-    (λ one. answer_for one.kit (state_of session) >>= showing one)
-    view gives in
-    let same : found.0 ≡ bound =
-    same_Some found.0 bound (sym (certainly-ok (bound_at published session.edition) found.0 found.1) ∙ binds) in
-    let answer = Gives-bind_ok (answer_for found.0.kit (state_of session)) (showing found.0) view found.2 in
+    let (found, bound_found, (answer, answers, is)) = Met-Gives (view_of published number session) (Ok view) gives in
+    let same : found ≡ bound = same_Some found bound (sym bound_found ∙ binds) in
     subst (λ one. IsShownBy published number session one view) same (record {
-      made_of_it = answer.0;
-      answers = answer-given found.0.kit (state_of session) answer.0 answer.1;
-      is = done-value (view_with published number session found.0 answer.0) view answer.2;
+      made_of_it = answer;
+      answers = answers;
+      is = is;
     })
 
 pub CarriesOne-write : (rows : Rows) (name : List ℕ) (ticket : Ticket) (number version : ℕ) (answer : Reply)
@@ -181,26 +177,27 @@ CarriesOne-write rows name ticket number version answer changes step accepted =
           let place : ℕ = new.place in
           let own : Own = own_of rows place in
           let deed = carry-deed rows name ticket number version answer changes new in
-          let found = carry-found (published_of rows) own number version deed.moved deed.carries in
+          let found = carry_row-ok (published_of rows) own number version deed.moved deed.carries in
+          let there = IsActiveAt-session own.sessions number found.session found.stands in
           let row : ClerkRow = row_after rows place ticket number in
           let two : changes ≡ change.Session place (number - 1) deed.moved ∷ change.Clerk place row ∷ [] =
           new.changed ∙ ap (changes_of place own.row ticket) deed.is in
           let within : number - 1 < length own.sessions =
-          slice_get_within own.sessions (number - 1) found.session found.is_active.stands in
+          slice_get_within own.sessions (number - 1) found.session there.stands in
           let next : Rows = changed rows (change.Session place (number - 1) deed.moved) in
           let carried = IsCarried-found (published_of rows) own number version deed.moved found in
           let kept = subst (λ (made : Deed).
           Gives (kept_reply (published_of rows) (after own made) made.act made.target)
           (Ok answer)) deed.is new.kept in
-          let shown = put-shown (published_of rows) own number deed.moved answer found.is_active.counted within kept in
+          let shown = put-shown (published_of rows) own number deed.moved answer there.counted within kept in
           let by = shown-by (published_of rows) number deed.moved carried.behind shown.0 carried.binds_behind shown.1 in
           record {
             place = place;
             found = new.is_place.found;
             old = found.session;
-            counted = found.is_active.counted;
-            stands = found.is_active.stands;
-            is_open = found.is_active.is_open;
+            counted = there.counted;
+            stands = there.stands;
+            is_open = there.is_open;
             new = deed.moved;
             is_carried = carried;
             two_changes = two;
@@ -226,32 +223,20 @@ pub record IsCarryingOf (published : Published) (own : Own) (number version : �
 carrying-found : (published : Published) (own : Own) (number version : ℕ) (carried : Carried)
     → Gives (carrying published own number version) (Ok carried) → IsCarryingOf published own number version carried
 carrying-found published own number version carried gives =
-    let showing : SessionRow → ViewOf → Checked Carried = λ moved before.
-    view_of published number moved >>= carried_between before in
-    let moved = Gives-bind_ok (carry_row published own number version) (λ moved. view_at published own number
-    >>= showing moved) carried gives in
-    let before = Gives-bind_ok (view_at published own number) (showing moved.0) carried moved.2 in
-    let behind = Gives-bind_ok (view_of published number moved.0) (carried_between before.0) carried before.2 in
-    let pairs : List (ℕ × ℕ) = behind.2.0 in
-    let made : Carried = record {
-      added = words_apart behind.0 before.0;
-      dropped = words_apart before.0 behind.0;
-      before = before.0;
-      after = behind.0;
-      changed = pairs;
-    } in
-    subst (IsCarryingOf published own number version) (sym (done-value made carried behind.2.2)) (record {
-      moved = moved.0;
-      carries = moved.1;
-      before = before.1;
-      behind = behind.1;
-      changed = behind.2.1;
+    let (moved, carries, (before, shown, (after_it, shown_after, (pairs, changed_so, is)))) =
+    Met-Gives (carrying published own number version) (Ok carried) gives in
+    subst (IsCarryingOf published own number version) (sym is) (record {
+      moved = moved;
+      carries = Gives-Met (carry_row published own number version) (Ok moved) carries;
+      before = Gives-Met (view_at published own number) (Ok before) shown;
+      behind = Gives-Met (view_of published number moved) (Ok after_it) shown_after;
+      changed = changed_so;
     })
 
 -- a look at a Carry is told this, and would be again
 pub record IsShown (rows : Rows) (name : List ℕ) (number version : ℕ) (carried : Carried) : Type 0 where
   pub place : ℕ
-  pub found : clerk_of rows.clerks name ≡ done place
+  pub found : IsFound (clerk_of rows.clerks name) place
   pub is : IsCarryingOf (published_of rows) (own_of rows place) number version carried
 
 pub carry-look : (rows : Rows) (name : List ℕ) (number version : ℕ) (carried : Carried) (changes : List Change)
@@ -294,21 +279,22 @@ shown-after rows name ticket number version carried answer changes look step acc
       | inl none ↦ absurd (accepted none)
       | inr new ↦
           let published : Published = published_of rows in
-          let places : done look.place ≡ done new.place = sym look.found ∙ new.is_place.found in
+          let places : IsFound (done look.place) new.place = sym look.found ∙ new.is_place.found in
           let same_place : look.place ≡ new.place = cc in
           let own : Own = own_of rows new.place in
           let deed = carry-deed rows name ticket number version answer changes new in
           let shows = subst (λ place. IsCarryingOf published (own_of rows place) number version carried) same_place
           look.is in
-          let found = carry-found published own number version deed.moved deed.carries in
+          let found = carry_row-ok published own number version deed.moved deed.carries in
+          let there = IsActiveAt-session own.sessions number found.session found.stands in
           let one = Gives-unique (carry_row published own number version) (Ok shows.moved) (Ok deed.moved) shows.carries
           deed.carries in
           let same : shows.moved ≡ deed.moved = cc in
           let kept = subst (λ (made : Deed). Gives (kept_reply published (after own made) made.act made.target)
           (Ok answer))
           deed.is new.kept in
-          let shown = put-shown published own number deed.moved answer found.is_active.counted
-          (slice_get_within own.sessions (number - 1) found.session found.is_active.stands) kept in
+          let shown = put-shown published own number deed.moved answer there.counted
+          (slice_get_within own.sessions (number - 1) found.session there.stands) kept in
           let views = Gives-unique (view_of published number deed.moved) (Ok shown.0) (Ok carried.after) shown.1
           (subst (λ session. Gives (view_of published number session) (Ok carried.after)) same shows.behind) in
           let view : shown.0 ≡ carried.after = cc in

@@ -19,17 +19,17 @@ use Rattle.desk_carry.proofs.Pairs.{ArePairs, ArePairs-more, ArePairs-same, AreP
 use Rattle.desk_valid.specs.declared.bound.Bound.{Bound}
 use Rattle.desk_valid.specs.Bindings.{bound_at}
 use Rattle.desk_valid.specs.Valid.{AreValid}
-use Rattle.machine_core.specs.Answers.{bound_for, shown_state, state_of}
-use Rattle.machine_core.specs.Checked.{Answer, Checked, ◌>>=◌, answer_for, done, Gives}
+use Rattle.machine_core.specs.Answers.{shown_state, state_of}
+use Rattle.machine_core.specs.Checked.{Answer, Gives}
 use Rattle.machine_core.specs.Look.View.{view_at}
 use Rattle.machine_core.specs.Own.{Own}
 use Rattle.machine_core.specs.Tests.{session_of}
 use Rattle.machine_core.specs.Views.{view_cell, view_of, view_with}
-use Rattle.machine_core.proofs.Chains.{Gives-bind_ok, done-value}
+use Rattle.machine_core.proofs.Chains.{Gives-bind_ok}
 use Rattle.machine_core.proofs.EditionWords.{words-apart}
-use Rattle.machine_core.proofs.Tested.{certainly-ok}
 use Rattle.machine_core.proofs.Widths.{kit-width}
 use Rattle.machine_laws.proofs.Lists.{slice_get-there}
+use Rattle.machine_core.proofs.Walks.{Met-Gives}
 
 -- whether two values came to be alike
 decide_shown : (one other : Shown) → Decided (one ≡ other)
@@ -137,20 +137,14 @@ module _ (rows : Rows) (valid : AreValid rows) where
   pub view-apart : (number : ℕ) (session : SessionRow) (view : View)
       → Gives (view_of (published_of rows) number session) (Ok view) → AreApart view.cells
   view-apart number session view gives =
-      let shown_with : Bound → Answer → Checked View = λ bound answer.
-      done (view_with (published_of rows) number session bound answer) in
-      let bound = Gives-bind_ok (bound_for (published_of rows) session)
-      (λ bound. answer_for bound.kit (state_of session)
-      >>= shown_with bound) view gives in
-      let answer = Gives-bind_ok (answer_for bound.0.kit (state_of session)) (shown_with bound.0) view bound.2 in
-      subst (λ (one : View). AreApart one.cells)
-      (sym (done-value (view_with (published_of rows) number session bound.0 answer.0) view answer.2))
-      (view_with-apart number session bound.0 answer.0
-      (certainly-ok (bound_at (published_of rows) session.edition) bound.0 bound.1))
+      let (bound, binds, (answer, answers, is)) =
+      Met-Gives (view_of (published_of rows) number session) (Ok view) gives in
+      subst (λ (one : View). AreApart one.cells) (sym is) (view_with-apart number session bound answer binds)
 
   -- as it stands too
   pub view_at-apart : (own : Own) (number : ℕ) (view : View) → Gives (view_at (published_of rows) own number) (Ok view)
       → AreApart view.cells
   view_at-apart own number view gives =
-      let session = Gives-bind_ok (session_of own.sessions number) (view_of (published_of rows) number) view gives in
-      view-apart number session.0 view session.2
+      let (session, stands, shown) =
+      Gives-bind_ok (session_of own.sessions number) (view_of (published_of rows) number) view gives in
+      view-apart number session view shown

@@ -15,7 +15,6 @@ use Rattle.desk_words.specs.declared.refusal.Refusal.TheVariants.{InConflict, No
 use Rattle.desk_words.specs.declared.rows.edition.EditionRow.{EditionRow}
 use Rattle.desk_words.specs.declared.rows.session.SessionRow.{SessionRow}
 use Rattle.desk_words.specs.Tables.{Rows, published_of}
-use Rattle.desk_valid.specs.declared.bound.Bound.{Bound}
 use Rattle.desk_valid.specs.Readings.{width_at}
 use Rattle.desk_valid.specs.Valid.{AreValid}
 use Rattle.fix_engine.specs.declared.verdict.Verdict.{Verdict}
@@ -24,11 +23,11 @@ use Rattle.fix_model.specs.declared.state.State.{State}
 use Rattle.fix_model.specs.Run.{end_of}
 use Rattle.fix_model.specs.States.{cell_at, fixed_by, uncovered_count}
 use Rattle.machine_core.specs.Answers.{bound_for, state_of}
-use Rattle.machine_core.specs.Checked.{Checked, ◌>>=◌, done, each, some_or, Gives}
+use Rattle.machine_core.specs.Checked.{some_or, Gives}
 use Rattle.machine_core.specs.Clerk.Batch.{another_column}
 use Rattle.machine_core.specs.Clerk.Carry.{carry_row}
 use Rattle.machine_core.specs.Clerk.Commit.{accepts, not_in_conflict}
-use Rattle.machine_core.specs.Clerk.Confirm.{confirm_row, with_cells}
+use Rattle.machine_core.specs.Clerk.Confirm.{confirm_row}
 use Rattle.machine_core.specs.Clerk.Withdraw.{confirmed_place}
 use Rattle.machine_core.specs.declared.column.Column.{Column}
 use Rattle.machine_core.specs.Faults.{sheet_refusal}
@@ -41,10 +40,9 @@ use Rattle.machine_core.specs.Sessions.{IsSessionOf}
 use Rattle.machine_core.specs.Tests.{active_session, attribute_of, session_of, typed_cell}
 use Rattle.machine_core.specs.Views.{edition_at}
 use Rattle.machine_core.proofs.Carried.{carried-stands}
-use Rattle.machine_core.proofs.Chains.{Gives-bind_ok, done-value}
 use Rattle.machine_core.proofs.Tested.{some_or-ok, unless-ok}
 use Rattle.machine_core.proofs.Widths.{length-confirmed_at, length-typed_over}
-use Rattle.machine_laws.proofs.Carries.{carry-found}
+use Rattle.machine_core.proofs.Commands.{carry_row-ok, confirm_row-ok}
 use Rattle.machine_laws.proofs.Comparing.{view_at-apart}
 use Rattle.machine_laws.proofs.Makings.{place_of-within}
 use Rattle.machine_laws.proofs.Outcomes.{HasOutcome, outcome-all, outcome-behind, outcome-bind, outcome-changes}
@@ -53,7 +51,7 @@ use Rattle.machine_laws.proofs.Outcomes.{outcome-value_or, plain_tests}
 use Rattle.machine_laws.proofs.OwnOutcomes.{outcome-bound, outcome-report, outcome-view, outcome-view_at}
 use Rattle.machine_laws.proofs.OwnOutcomes.{session-advised, session-answered, session-explained, session-of}
 use Rattle.machine_laws.proofs.OwnOutcomes.{sessions-of}
-use Rattle.machine_laws.proofs.Sessions.{active_session-ok, session_at-found}
+use Rattle.machine_laws.proofs.Sessions.{active_session-ok, session_at-found, IsActiveAt-session}
 
 -- an active session is found, or it is refused
 outcome-active : (sessions : List SessionRow) (number : ℕ) → HasOutcome (active_session sessions number)
@@ -133,21 +131,16 @@ module _ (rows : Rows) (valid : AreValid rows) where
         → Gives (confirm_row (published_of rows) own number cells) (Ok session)
         → IsSessionOf (published_of rows) session
     confirmed-of number cells session gives =
-        let rest : SessionRow → Bound → Checked SessionRow = λ one bound.
-        each (typed_cell bound.names.attributes) cells >>= (λ texts. done (with_cells one texts)) in
-        let found = Gives-bind_ok (active_session own.sessions number) (λ one. bound_for (published_of rows) one
-        >>= rest one) session gives in
-        let bound = Gives-bind_ok (bound_for (published_of rows) found.0) (rest found.0) session found.2 in
-        let texts = Gives-bind_ok (each (typed_cell bound.0.names.attributes) cells) (λ texts. done (with_cells found.0
-        texts)) session bound.2 in
-        let old = active-of number found.0 found.1 in
-        let is : session ≡ with_cells found.0 texts.0 = done-value (with_cells found.0 texts.0) session texts.2 in
-        subst (IsSessionOf (published_of rows)) (sym is) (record {
+        let met = confirm_row-ok (published_of rows) own number cells session gives in
+        let there = IsActiveAt-session own.sessions number met.old met.stands in
+        let old = session-of rows valid own are (number - 1) met.old there.stands in
+        let Wide : ℕ → Type 0 = λ count.
+        IfSome (width_at (published_of rows) met.old.edition) (λ width. count ≡ width) in
+        subst (IsSessionOf (published_of rows)) (sym met.is) (record {
           edition = old.edition;
-          typed = subst (λ count. IfSome (width_at (published_of rows) found.0.edition) (λ width. count ≡ width))
-              (sym (length-typed_over found.0.typed texts.0)) old.typed;
-          confirmed = subst (λ count. IfSome (width_at (published_of rows) found.0.edition) (λ width. count ≡ width))
-              (sym (length-confirmed_at found.0.confirmed (map (λ cell. cell.0) texts.0))) old.confirmed;
+          typed = subst Wide (sym (length-typed_over met.old.typed met.texts)) old.typed;
+          confirmed = subst Wide (sym (length-confirmed_at met.old.confirmed (map (λ cell. cell.0) met.texts)))
+              old.confirmed;
         })
 
     -- a session by its number stands
@@ -174,9 +167,9 @@ module _ (rows : Rows) (valid : AreValid rows) where
         → Gives (carry_row (published_of rows) own number version) (Ok session) → IsSessionOf (published_of rows)
         session
     carried-of number version session gives =
-        let found = carry-found (published_of rows) own number version session gives in
+        let found = carry_row-ok (published_of rows) own number version session gives in
         subst (IsSessionOf (published_of rows)) (sym found.is) (carried-stands (published_of rows) found.session
-        found.edition found.before found.behind found.binds_behind)
+        found.edition found.before found.after found.binds_after)
 
     -- each command of a clerk
     pub outcome-deed : (work : ClerkWork) → HasOutcome (deed_of (published_of rows) own work)
@@ -196,11 +189,11 @@ module _ (rows : Rows) (valid : AreValid rows) where
     outcome-deed (Commit number accept) = outcome-bind (outcome-bind
         (outcome-active own.sessions number) (λ session is.
         outcome-bind (outcome-active_bound number session is) (λ bound binds.
-        outcome-bind (session-answered rows valid session bound (active-of number session is) binds) (λ answer given.
-        outcome-bind (outcome-bind (outcome-not_in_conflict answer.verdict) (λ fix is_fix. outcome-done _))
+        outcome-bind (outcome-bind (session-answered rows valid session bound (active-of number session is) binds)
+        (λ answer given. outcome-bind (outcome-not_in_conflict answer.verdict) (λ fix is_fix. outcome-done _)))
         (λ end ended.
         outcome-bind (outcome-bind (outcome-accepts accept (uncovered_count end)) (λ enough is_enough. outcome-done _))
-        (λ row made. search plain_tests)))))) (λ both ok. outcome-done _)
+        (λ row made. search plain_tests))))) (λ both ok. outcome-done _)
     outcome-deed (Abandon number) = outcome-bind (outcome-active own.sessions number) (λ session is. outcome-done _)
     outcome-deed (Batch edition body) = outcome-bind
         (outcome-some_or (newest_edition rows.editions edition) (NoSuch kind.Edition)) (λ place found.

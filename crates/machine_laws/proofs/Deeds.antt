@@ -20,15 +20,12 @@ use Rattle.machine_core.specs.Ticket.{ticketed}
 use Rattle.machine_core.specs.OwnRows.{PutsFit}
 use Rattle.machine_laws.proofs.Lists.{list_at-set_same}
 use Rattle.machine_laws.proofs.Valid.{with_own}
+pub use Rattle.desk_words.proofs.Changes.{put-end}
 
 -- an item that stands in the list is written over
 pub put-within : {T : Type 0} (items : List T) (place : ℕ) (item : T) → place < length items
     → put items place item ≡ set items place item
 put-within items place item within = grind (arith, nat_tests)
-
--- and behind the others it is the last
-pub put-end : {T : Type 0} (items : List T) (item : T) → put items (length items) item ≡ items ++ item ∷ []
-put-end items item = grind (arith, nat_tests)
 
 -- a list more comes with a new clerk alone
 pub with_clerk-within : {T : Type 0} (lists : List (List T)) (place clerks : ℕ) → place < clerks

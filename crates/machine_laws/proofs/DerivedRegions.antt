@@ -11,20 +11,19 @@ use Rattle.desk_words.specs.declared.rows.region.RegionRow.{RegionRow}
 use Rattle.desk_words.specs.declared.steward_work.StewardWork.TheVariants.{AddDerived}
 use Rattle.desk_words.specs.Tables.{Published, Rows, published_of}
 use Rattle.desk_valid.specs.Valid.{AreValid}
-use Rattle.machine_core.specs.Checked.{Checked, ◌>>=◌, ◌>>◌, done, Gives}
+use Rattle.machine_core.specs.Checked.{Gives}
 use Rattle.machine_core.specs.declared.derivation.Derivation.{Derivation}
 use Rattle.machine_core.specs.Deriving.{derivation_of, derived_rows}
-use Rattle.machine_core.specs.Limits.{within}
 use Rattle.machine_core.specs.Machine.{making_of}
 use Rattle.machine_core.specs.declared.making.Making.{Making}
 use Rattle.machine_core.specs.Steward.AddDerived.{derived_region, region_from}
 use Rattle.machine_core.specs.Steward.AddRegion.{region_count}
-use Rattle.machine_core.proofs.Chains.{Gives-bind_ok, done-value}
 use Rattle.machine_core.proofs.Deriving.{derivation-made, derived_rows-full}
-use Rattle.machine_core.proofs.Tested.{within-ok}
 use Rattle.machine_core.proofs.Widths.{edition-stands, width-bound}
 use Rattle.machine_laws.proofs.Makings.{IsSoundMaking}
 use Rattle.machine_laws.proofs.Regions.{IsSoundMaking-region, regions-few}
+use Rattle.machine_core.proofs.Walks.{Met-Gives, Gives-Met}
+use Rattle.machine_core.proofs.Commands.{few-stand}
 
 -- what the tests of an AddDerived found, and the region after them
 pub record IsRegionOfDerived (published : Published) (name : List ℕ) (version : ℕ) (master : List ℕ)
@@ -41,23 +40,15 @@ pub derived_region-found : (published : Published) (name : List ℕ) (version : 
     → Gives (derived_region published name version master pairs from) (Ok row)
     → IsRegionOfDerived published name version master pairs from row
 derived_region-found published name version master pairs from row gives =
-    let taking : Derivation → Checked RegionRow = λ derivation.
-    derived_rows published derivation >>= (λ rows. done (region_from derivation from rows)) in
-    let counted : Derivation → Checked RegionRow = λ derivation.
-    within which.Regions (region_count published.regions derivation.edition + 1) >> taking derivation in
-    let derivation = Gives-bind_ok (derivation_of published name version master pairs) counted row gives in
-    let few = Gives-bind_ok (within which.Regions (region_count published.regions derivation.0.edition + 1)) (λ _.
-    taking derivation.0) row derivation.2 in
-    let rows = Gives-bind_ok (derived_rows published derivation.0) (λ rows. done (region_from derivation.0 from rows))
-    row
-    few.2 in
+    let (derivation, found, (_, few, (rows, are, is))) =
+    Met-Gives (derived_region published name version master pairs from) (Ok row) gives in
     record {
-      derivation = derivation.0;
-      found = derivation.1;
-      few = within-ok which.Regions (region_count published.regions derivation.0.edition + 1) few.0 few.1;
-      rows = rows.0;
-      gives = rows.1;
-      is = done-value (region_from derivation.0 from rows.0) row rows.2;
+      derivation = derivation;
+      found = Gives-Met (derivation_of published name version master pairs) (Ok derivation) found;
+      few = few-stand which.Regions (region_count published.regions derivation.edition + 1) few;
+      rows = rows;
+      gives = Gives-Met (derived_rows published derivation) (Ok rows) are;
+      is = is;
     }
 
 module _ (rows : Rows) (valid : AreValid rows) where
@@ -96,10 +87,9 @@ module _ (rows : Rows) (valid : AreValid rows) where
       (from : ℕ) (making : Making) → Gives (making_of rows (AddDerived name version master pairs from)) (Ok making)
       → IsSoundMaking rows making
   IsSoundMaking-add_derived name version master pairs from making gives =
-      let made_of : RegionRow → Making = λ row.
-      record { change = change.Region row; act = act.Region; target = length rows.regions } in
-      let row = Gives-bind_ok (derived_region (published_of rows) name version master pairs from) (λ row.
-      done (made_of row)) making gives in
-      subst (IsSoundMaking rows) (sym (done-value (made_of row.0) making row.2))
-      (IsSoundMaking-derived name version master pairs from row.0
-      (derived_region-found (published_of rows) name version master pairs from row.0 row.1))
+      let (row, derives, is) =
+      Met-Gives (making_of rows (AddDerived name version master pairs from)) (Ok making) gives in
+      subst (IsSoundMaking rows) (sym is)
+      (IsSoundMaking-derived name version master pairs from row
+      (derived_region-found (published_of rows) name version master pairs from row
+      (Gives-Met (derived_region (published_of rows) name version master pairs from) (Ok row) derives)))

@@ -1,46 +1,17 @@
 -- Which rows a grid gives for attributes and columns is always told.
-use Rattle.std.proofs.Common.{◌≡◌, ◌≢◌, ◌+◌, ◌<◌, ℕ, zero, suc, true, false, List, [], ◌∷◌, ◌++◌, length, inl, inr}
+use Rattle.std.proofs.Common.{◌≡◌, ◌≢◌, ◌+◌, ◌<◌, ℕ, zero, suc, List, [], ◌∷◌, ◌++◌, length, inl, inr}
 use Rattle.std.proofs.Common.{subst, arith}
 use Rattle.desk_base.specs.Grid.{GridRows}
 use Rattle.fix_model.specs.declared.kit.Kit.{Kit}
-use Rattle.fix_model.specs.declared.region.RowVerdict.TheVariants as row
-use Rattle.fix_model.specs.declared.state.State.{State}
-use Rattle.fix_model.specs.declared.state.Step.{Step}
-use Rattle.fix_model.specs.Fix.{HasFix}
 use Rattle.fix_model.specs.Regions.{row_state}
-use Rattle.fix_model.specs.States.{Fits}
 use Rattle.fix_model.specs.Valid.{IsValid}
 use Rattle.fix_model.proofs.Deciding.{Decided, both, decide_all, decide_equal, decide_less, opposite}
-use Rattle.fix_engine.specs.declared.verdict.Verdict.{Verdict}
-use Rattle.fix_engine.specs.declared.verdict.Verdict.TheVariants.{Fix, Conflict}
-use Rattle.fix_engine.specs.Verdicts.{IsAnswer}
-use Rattle.region_suggest.proofs.Pairs.{certain-only}
 use Rattle.fix_engine.proofs.Rows.{Fits-row}
 use Rattle.region_derive.specs.Derived.{AreDerived, IsDerived, texts_in}
 use Rattle.region_derive.proofs.Firsts.{first_among}
 use Rattle.region_derive.proofs.Rows.{AreDerivedBefore, AreDerivedBefore-more, AreDerivedBefore-passed}
 use Rattle.region_derive.proofs.Rows.{AreDerivedBefore-whole}
-use Rattle.machine_laws.proofs.Answering.{some-answer}
-
--- whether a state has a certain fix
-decide_certain : (kit : Kit) (state : State) → IsValid kit → Fits kit state → Decided (HasFix kit state true)
-decide_certain kit state valid fits =
-    let answer = some-answer kit state valid fits in
-    by_verdict answer.0.first answer.0.second answer.0.verdict answer.1
-  where
-    by_verdict : (first second : List Step) (verdict : Verdict) → IsAnswer kit state first second verdict
-        → Decided (HasFix kit state true)
-    by_verdict first second (Fix true dissent) is = inl (first, dissent, is.0)
-    by_verdict first second (Fix false dissent) is = inr (λ certain.
-        let same = certain-only kit state row.Partial (first, dissent, is.0) certain in
-        cc)
-    by_verdict first second Conflict is = inr (λ certain.
-        let same = certain-only kit state row.Conflict (
-          first,
-          is.is_first,
-          (second, is.is_second.holds),
-        ) certain in
-        cc)
+use Rattle.machine_laws.proofs.Answering.{decide_certain}
 
 module _ (kit : Kit) (grid : GridRows) (attributes columns : List ℕ) (valid : IsValid kit) where
   -- whether no earlier row has the texts of a row

@@ -1,5 +1,5 @@
 -- Why a derivation is refused.
-use Rattle.std.proofs.Common.{◌≡◌, ◌≢◌, ◌∙◌, ℕ, zero, suc, Bool, true, false, List, [], ◌∷◌, ◌++◌, get_or, map, Option}
+use Rattle.std.proofs.Common.{◌≡◌, ◌≢◌, ◌∙◌, ℕ, zero, suc, Bool, true, false, List, [], ◌∷◌, ◌++◌, get_or, map}
 use Rattle.std.proofs.Common.{Some, inl, inr, refl, sym, ap, subst, arith}
 use Rattle.std.specs.Prelude.{◌==◌, All, Contains, Ok, Err, find, not, position}
 use Rattle.std.specs.List.{list_any}
@@ -20,6 +20,7 @@ use Rattle.desk_valid.specs.Readings.{master_at}
 use Rattle.master_rows.specs.declared.master.Master.{Master}
 use Rattle.machine_core.specs.Causes.{AreWords, AsksMaster, Cause, IsAbout, StandsTwice}
 use Rattle.machine_core.specs.Checked.{Checked, ◌>>=◌, ◌>>◌, certainly, done, each_behind, some_or, unless, Gives}
+use Rattle.machine_core.specs.Checked.{IsFound, told}
 use Rattle.machine_core.specs.declared.derivation.Derivation.{Derivation}
 use Rattle.machine_core.specs.Deriving.{another_master_column, another_pair, derivation_of, derived_rows}
 use Rattle.machine_core.specs.Deriving.{master_of, places_of}
@@ -28,11 +29,11 @@ use Rattle.machine_core.specs.Named.{attributes_in, columns_in, master_in, versi
 use Rattle.machine_core.specs.Steward.AddEdition.{master_name}
 use Rattle.machine_core.specs.Tests.{another_attribute}
 use Rattle.machine_core.specs.Views.{edition_at}
-use Rattle.machine_core.proofs.Chains.{Gives-bind_ok, done-value}
 use Rattle.machine_core.proofs.Tested.{certainly-ok, certainly-why, chain-why, done-why, each_behind-found}
 use Rattle.machine_core.proofs.Tested.{each_behind-refused, some_or-ok, some_or-why, unless-why}
 use Rattle.machine_laws.proofs.Lists.{find-None}
 use Rattle.machine_laws.proofs.Why.{Contains-image, none-equal, word-at}
+use Rattle.machine_core.proofs.Walks.{Gives-Met, Met-Gives, Met}
 
 -- an image is the image of an item
 image-of : {A B : Type 0} (image : A → B) (items : List A) (found : B) → Contains (map image items) found
@@ -40,8 +41,8 @@ image-of : {A B : Type 0} (image : A → B) (items : List A) (found : B) → Con
 image-of image [] found there = absurd (omega (arith, there.1))
 image-of image (item ∷ items) found (zero, within, is) = (item, (0, omega arith, refl), is)
 image-of image (item ∷ items) found (suc place, within, is) =
-    let rest = image-of image items found (place, omega (arith, within), is) in
-    (rest.0, (suc rest.1.0, omega (arith, rest.1.1), rest.1.2), rest.2)
+    let (one, (index, inside, there), same) = image-of image items found (place, omega (arith, within), is) in
+    (one, (suc index, omega (arith, inside), there), same)
 
 -- the place of a word that is none of those before it
 abbrev another : List (List ℕ) → List ℕ → List ℕ → Refusal → Checked ℕ
@@ -57,11 +58,13 @@ another-why P words before word missing unknown twice =
     let taken : ℕ → ℕ → Bool = λ at earlier. earlier == at in
     chain-why P (some_or (position (bytes_eq word) words) missing) _
     (some_or-why P (position (bytes_eq word) words) missing (λ none. unknown (none-equal word words none)))
-    (λ at found. chain-why P _ _ (unless-why P (not (list_any (taken at) before)) (Twice word) (λ some.
-    let any = Any-from_list_any (taken at) before (not-false (list_any (taken at) before) some) in
-    let same : any.1 ≡ at = grind (arith, nat_tests, any.4) in
+    (λ at found. chain-why P (unless (not (list_any (taken at) before)) (Twice word)) _
+    (unless-why P (not (list_any (taken at) before)) (Twice word) (λ some.
+    let (index, one, inside, is, holds) = Any-from_list_any (taken at) before
+    (not-false (list_any (taken at) before) some) in
+    let same : one ≡ at = grind (arith, nat_tests, holds) in
     twice at (word-at word words at (some_or-ok (position (bytes_eq word) words) missing at found))
-    (subst (λ one. Contains before one) same (any.0, any.2, any.3)))) (λ passed ok. done-why P _))
+    (subst (λ one. Contains before one) same (index, inside, is)))) (λ passed ok. done-why P _))
   where
     not-false : (told : Bool) → not told ≡ false → told ≡ true
     not-false true is = refl
@@ -71,12 +74,8 @@ another-why P words before word missing unknown twice =
 another-word : (words : List (List ℕ)) (before word : List ℕ) (missing : Refusal) (found : ℕ)
     → Gives (another words before word missing) (Ok found) → word ≡ get_or words found []
 another-word words before word missing found gives =
-    let at = Gives-bind_ok (some_or (position (bytes_eq word) words) missing) (λ at.
-    unless (not (list_any (λ earlier. earlier == at) before)) (Twice word) >> done at) found gives in
-    let free = Gives-bind_ok (unless (not (list_any (λ earlier. earlier == at.0) before)) (Twice word)) (λ _. done at.0)
-    found at.2 in
-    word-at word words at.0 (some_or-ok (position (bytes_eq word) words) missing at.0 at.1)
-    ∙ ap (λ place. get_or words place []) (sym (done-value at.0 found free.2))
+    let (at, there, (passed, free, is)) = Met-Gives (another words before word missing) (Ok found) gives in
+    word-at word words at there ∙ ap (λ place. get_or words place []) (sym is)
 
 -- an item whose word has the place of an earlier one has a name that stands twice
 twice-among : {A B : Type 0} (find_it : List B → A → Checked B) (name : A → List ℕ) (place : B → ℕ)
@@ -86,18 +85,18 @@ twice-among : {A B : Type 0} (find_it : List B → A → Checked B) (name : A �
     → Gives (each_behind [] find_it earlier) (Ok sofar) → (at : ℕ) → name item ≡ get_or words at []
     → Contains (map place sofar) at → StandsTwice (map name items) (name item)
 twice-among find_it name place words named items earlier later item sofar is gives at at_word there =
-    let origin = image-of place sofar at there in
-    elim (each_behind-found find_it earlier [] sofar origin.0 gives origin.1) [
+    let (origin, placed, same) = image-of place sofar at there in
+    elim (each_behind-found find_it earlier [] sofar origin gives placed) [
       | inl none ↦ absurd (omega (arith, none.1))
       | inr before ↦
-          let equal : name before.0 ≡ name item = named before.2 before.0 origin.0 before.3
-          ∙ ap (λ one. get_or words one []) origin.2 ∙ sym at_word in
+          let equal : name before.item ≡ name item = named before.sofar before.item origin before.gave
+          ∙ ap (λ one. get_or words one []) same ∙ sym at_word in
           record {
             earlier = map name earlier;
             later = map name later;
             is = ap (map name) is ∙ map-append name earlier (item ∷ later);
             twice = subst (λ one. Contains (map name earlier) one) equal
-                (Contains-image name earlier before.0 before.1);
+                (Contains-image name earlier before.item before.listed);
           }
     ]
 
@@ -106,15 +105,15 @@ pub pair-words : (words names : List (List ℕ)) (before : List (ℕ × ℕ)) (p
     → Gives (another_pair words names before pair) (Ok found)
     → (pair.0 ≡ get_or words found.0 []) × (pair.1 ≡ get_or names found.1 [])
 pair-words words names before pair found gives =
-    let attribute = Gives-bind_ok (another_attribute words (map (λ one. one.0) before) pair.0) (λ attribute.
-    another_master_column names (map (λ one. one.1) before) pair.1 >>= (λ column. done (attribute, column))) found
-    gives in
-    let column = Gives-bind_ok (another_master_column names (map (λ one. one.1) before) pair.1) (λ column.
-    done (attribute.0, column)) found attribute.2 in
-    let is : found ≡ (attribute.0, column.0) = done-value (attribute.0, column.0) found column.2 in (
-      another-word words (map (λ one. one.0) before) pair.0 (UnknownAttr pair.0) attribute.0 attribute.1
+    let (attribute, is_attribute, (column, is_column, is)) =
+    Met-Gives (another_pair words names before pair) (Ok found) gives in
+    let attributes : List ℕ = map (λ one. one.0) before in
+    let columns : List ℕ = map (λ one. one.1) before in (
+      another-word words attributes pair.0 (UnknownAttr pair.0) attribute
+          (Gives-Met (another_attribute words attributes pair.0) (Ok attribute) is_attribute)
           ∙ ap (λ (one : ℕ × ℕ). get_or words one.0 []) (sym is),
-      another-word names (map (λ one. one.1) before) pair.1 (NoColumn pair.1) column.0 column.1
+      another-word names columns pair.1 (NoColumn pair.1) column
+          (Gives-Met (another_master_column names columns pair.1) (Ok column) is_column)
           ∙ ap (λ (one : ℕ × ℕ). get_or names one.1 []) (sym is),
     )
 
@@ -131,22 +130,24 @@ pairs-why P words names pairs unknown twice missing twice_too =
     let attribute_in : List ℕ × List ℕ → List ℕ = λ pair. pair.0 in
     let column_in : List ℕ × List ℕ → List ℕ = λ pair. pair.1 in
     let says = each_behind-refused (another_pair words names) pairs [] refusal gives in
-    let pair : List ℕ × List ℕ = says.1 in
-    let listed : Contains pairs pair = subst (λ list. Contains list pair) (sym says.4)
-    (Contains-append_right says.0 (pair ∷ says.2) pair (0, omega arith, refl)) in
-    chain-why P (another_attribute words (map (λ one. one.0) says.3) pair.0) _
-    (another-why P words (map (λ one. one.0) says.3) pair.0 (UnknownAttr pair.0)
+    let pair : List ℕ × List ℕ = says.item in
+    let listed : Contains pairs pair = subst (λ list. Contains list pair) (sym says.same)
+    (Contains-append_right says.earlier (pair ∷ says.later) pair (0, omega arith, refl)) in
+    chain-why P (another_attribute words (map (λ one. one.0) says.sofar) pair.0) _
+    (another-why P words (map (λ one. one.0) says.sofar) pair.0 (UnknownAttr pair.0)
     (unknown pair.0 (Contains-image attribute_in pairs pair listed))
     (λ at at_word there. twice pair.0 (twice-among (another_pair words names) attribute_in (λ one. one.0) words
-    (λ before item found gave. (pair-words words names before item found gave).0) pairs says.0 says.2 pair says.3 says.4
-    says.5 at at_word there)))
-    (λ attribute ok. chain-why P (another_master_column names (map (λ one. one.1) says.3) pair.1) _
-    (another-why P names (map (λ one. one.1) says.3) pair.1 (NoColumn pair.1)
+    (λ before item found gave. (pair-words words names before item found gave).0) pairs says.earlier says.later pair
+    says.sofar says.same
+    says.passed at at_word there)))
+    (λ attribute ok. chain-why P (another_master_column names (map (λ one. one.1) says.sofar) pair.1) _
+    (another-why P names (map (λ one. one.1) says.sofar) pair.1 (NoColumn pair.1)
     (missing pair.1 (Contains-image column_in pairs pair listed))
     (λ at at_word there. twice_too pair.1 (twice-among (another_pair words names) column_in (λ one. one.1) names
-    (λ before item found gave. (pair-words words names before item found gave).1) pairs says.0 says.2 pair says.3 says.4
-    says.5 at at_word there)))
-    (λ column ok_too. done-why P _)) refusal says.6)
+    (λ before item found gave. (pair-words words names before item found gave).1) pairs says.earlier says.later pair
+    says.sofar says.same
+    says.passed at at_word there)))
+    (λ column ok_too. done-why P _)) refusal says.refused_so)
     (λ places ok. done-why P _)
 
 -- the edition has no master of the name
@@ -168,18 +169,10 @@ master_of-why P published edition name missing =
 
 -- a master that is given is done
 master_of-done : (published : Published) (edition : EditionRow) (name : List ℕ) (sheet : Master)
-    → Gives (master_of published edition name) (Ok sheet) → master_of published edition name ≡ done sheet
+    → Gives (master_of published edition name) (Ok sheet) → IsFound (master_of published edition name) sheet
 master_of-done published edition name sheet gives =
-    let is_named : ℕ → Bool = λ place. bytes_eq (master_name published.masters place) name in
-    let read : Option (List ℕ × Master) → Checked Master = λ found. certainly found >>= (λ one. done one.1) in
-    let reading : Option ℕ → Checked Master = λ found.
-    some_or found (NoSuch kind.Master) >>= (λ place. read (master_at published place)) in
-    let place = Gives-bind_ok (some_or (find is_named edition.masters) (NoSuch kind.Master)) (λ place.
-    read (master_at published place)) sheet gives in
-    let found = Gives-bind_ok (certainly (master_at published place.0)) (λ one. done one.1) sheet place.2 in
-    ap reading (some_or-ok (find is_named edition.masters) (NoSuch kind.Master) place.0 place.1)
-    ∙ ap read (certainly-ok (master_at published place.0) found.0 found.1)
-    ∙ ap done (sym (done-value found.0.1 sheet found.2))
+    let (place, there, (found, reads, is)) = Met-Gives (master_of published edition name) (Ok sheet) gives in
+    rw (there, reads) (ap (λ one. told (Ok one)) (sym is))
 
 -- what is asked of a derivation is refused
 pub derivation-why : (rows : Rows) (command : Command) (edition : List ℕ) (version : ℕ) (master : List ℕ)
@@ -232,5 +225,9 @@ derivation-why rows command edition version master pairs version_is master_is at
 -- the rows of a derivation are never refused
 pub derived_rows-why : (P : Refusal → Type 0) (published : Published) (derivation : Derivation) (refusal : Refusal)
     → Gives (derived_rows published derivation) (Err refusal) → P refusal
-derived_rows-why P published derivation = chain-why P (certainly (bound_at published derivation.edition)) _
-    (certainly-why P (bound_at published derivation.edition)) (λ bound is refusal gives. done-why P _ refusal gives.2)
+derived_rows-why P published derivation refusal gives =
+    none (Met-Gives (derived_rows published derivation) (Err refusal) gives)
+  where
+    none : Met (derived_rows published derivation) (Err refusal) → P refusal
+    none (inl never) = absurd never
+    none (inr (bound, binds, never)) = absurd never

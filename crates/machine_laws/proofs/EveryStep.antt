@@ -1,6 +1,6 @@
 -- Over valid tables each request has a step.
-use Rattle.std.proofs.Common.{◌≡◌, ℕ, ◌+◌, ◌<◌, ◌≤◌, Bool, true, false, List, [], length, None, refl, sym, subst, arith}
-use Rattle.std.specs.Prelude.{◌==◌, All, Ok, flat_map, nat_lt}
+use Rattle.std.proofs.Common.{◌≡◌, ℕ, ◌<◌, ◌≤◌, Bool, true, false, List, [], length, None, refl, sym, subst, arith}
+use Rattle.std.specs.Prelude.{◌==◌, All, Ok, flat_map}
 use Rattle.std.proofs.lemmas.Bool.Decides.{nat_tests}
 use Rattle.std.proofs.lemmas.List.{get_or_default}
 use Rattle.desk_words.specs.declared.change.Change.{Change}
@@ -8,7 +8,6 @@ use Rattle.desk_words.specs.declared.clerk_work.ClerkWork.{ClerkWork}
 use Rattle.desk_words.specs.declared.command.Command.{Command}
 use Rattle.desk_words.specs.declared.command.Command.TheVariants.{Steward, Clerk, Look, DeskReport, DeskDerive}
 use Rattle.desk_words.specs.declared.command.Ticket.{Ticket}
-use Rattle.desk_words.specs.declared.refusal.Refusal.TheVariants.{Gap, Stale}
 use Rattle.desk_words.specs.declared.reply.Reply.{Reply}
 use Rattle.desk_words.specs.declared.rows.act.Act.{Act}
 use Rattle.desk_words.specs.declared.rows.act.Act.TheVariants as act
@@ -25,48 +24,39 @@ use Rattle.machine_core.specs.OwnRows.{HasOwnTarget}
 use Rattle.machine_core.specs.Sessions.{IsSessionOf}
 use Rattle.machine_core.specs.declared.ticket.Use.{Use}
 use Rattle.machine_core.specs.declared.ticket.Use.TheVariants.{Fresh, Repeated}
-use Rattle.machine_core.specs.Ticket.{IsNumbered, use_of}
-use Rattle.machine_core.proofs.Chains.{done-value}
+use Rattle.machine_core.specs.Ticket.{IsNumbered, use_of, use_at}
 use Rattle.machine_laws.proofs.Accepted.{deed-sound, making-sound}
-use Rattle.machine_laws.proofs.Again.{use_at}
 use Rattle.machine_laws.proofs.Callers.{IsDone}
 use Rattle.machine_laws.proofs.DeedOutcomes.{outcome-deed, outcome-look}
 use Rattle.machine_laws.proofs.Lists.{slice_get-read, slice_get-there}
 use Rattle.machine_laws.proofs.MadeOutcomes.{outcome-made, outcome-making, outcome-sheet}
-use Rattle.machine_laws.proofs.Outcomes.{HasOutcome, outcome-bind, outcome-done, outcome-refused, plain_tests}
+use Rattle.machine_laws.proofs.Outcomes.{HasOutcome, outcome-bind, outcome-done, outcome-unless, plain_tests}
 use Rattle.machine_laws.proofs.OwnOutcomes.{outcome-kept, outcome-report, sessions-of}
 use Rattle.machine_laws.proofs.Totals.{all-flat}
 use Rattle.machine_laws.proofs.Valid.{own-rows}
 use Rattle.machine_laws.proofs.Writes.{IsPlaceOf, clerk_of-ok}
+use Rattle.machine_core.proofs.Walks.{Met, Met-Gives}
 
--- the number of a request is tested
-outcome-use_at : (stale gap same : Bool) (row : ClerkRow) (ticket : Ticket)
-    → HasOutcome (use_at stale gap same row ticket)
-outcome-use_at true gap same row ticket = outcome-refused (Stale row.last)
-outcome-use_at false true same row ticket = outcome-refused (Gap row.last)
-outcome-use_at false false true row ticket = search plain_tests
-outcome-use_at false false false row ticket = outcome-done Fresh
-
--- so it is a new one, the last one again, or refused
+-- the number of a request is the last one, or follows it, or it is refused
 outcome-use : (row : ClerkRow) (ticket : Ticket) → HasOutcome (use_of row ticket)
-outcome-use row ticket = outcome-use_at (nat_lt ticket.number row.last) (nat_lt (row.last + 1) ticket.number)
-    (ticket.number == row.last) row ticket
-
--- where it is the last one again, it is the last
-repeated-test : (stale gap same : Bool) (row : ClerkRow) (ticket : Ticket)
-    → Gives (use_at stale gap same row ticket) (Ok Repeated) → same ≡ true
-repeated-test true gap same row ticket gives = absurd (cc)
-repeated-test false true same row ticket gives = absurd (cc)
-repeated-test false false true row ticket gives = refl
-repeated-test false false false row ticket gives = absurd (let same = done-value Fresh Repeated gives in cc)
+outcome-use row ticket = outcome-bind (outcome-unless _ _) (λ _ _. outcome-bind (outcome-unless _ _) (λ _ _.
+    last_or_next (ticket.number == row.last)))
+  where
+    last_or_next : (same : Bool) → HasOutcome (use_at same row ticket)
+    last_or_next true = search plain_tests
+    last_or_next false = outcome-done Fresh
 
 -- a repeat has the last number
 pub use-repeated : (row : ClerkRow) (ticket : Ticket) → Gives (use_of row ticket) (Ok Repeated)
     → ticket.number ≡ row.last
 use-repeated row ticket gives =
-    let told = repeated-test (nat_lt ticket.number row.last) (nat_lt (row.last + 1) ticket.number)
-    (ticket.number == row.last) row ticket gives in
-    grind (arith, nat_tests, told)
+    let (_, fresh, (_, near, rest)) = Met-Gives (use_of row ticket) (Ok Repeated) gives in
+    again (ticket.number == row.last) refl rest
+  where
+    again : (same : Bool) → (ticket.number == row.last) ≡ same → Met (use_at same row ticket) (Ok Repeated)
+        → ticket.number ≡ row.last
+    again true is rest = grind (arith, nat_tests, is)
+    again false is rest = absurd (cc)
 
 -- a clerk is found, or there is none
 outcome-place : (clerks : List ClerkRow) (name : List ℕ) → HasOutcome (clerk_of clerks name)

@@ -5,8 +5,6 @@ use Rattle.std.proofs.lemmas.Bool.{cases_eq}
 use Rattle.fix_model.specs.declared.kit.Kit.{Kit}
 use Rattle.fix_model.specs.declared.pattern.Pat.{Pat}
 use Rattle.fix_model.specs.declared.rule.Rule.{Rule}
-use Rattle.fix_model.specs.declared.state.Cell.{Cell}
-use Rattle.fix_model.specs.declared.state.Cell.TheVariants.{Uncovered, Confirmed, Fixed}
 use Rattle.fix_model.specs.declared.state.State.{State}
 use Rattle.fix_model.specs.declared.state.Step.{Step}
 use Rattle.fix_model.specs.Rules.{rule_at}
@@ -19,18 +17,13 @@ use Rattle.fix_engine.specs.declared.verdict.Verdict.TheVariants.{Fix, Conflict}
 use Rattle.fix_engine.specs.Verdicts.{IsAnswer}
 use Rattle.fix_explain.specs.Reasons.{IsFixed}
 use Rattle.fix_explain.specs.Uses.{IsUse, Reads}
-use Rattle.fix_explain.proofs.Elements.{decide_any}
+use Rattle.fix_model.proofs.Deciding.{decide_any}
 use Rattle.fix_explain.proofs.Finding.{IsReason-exists}
-use Rattle.fix_explain.proofs.Listing.{ListsBelow, ListsBelow-nil, ListsBelow-no, ListsBelow-yes}
+use Rattle.fix_engine.proofs.Listing.{ListsBelow, ListsBelow-nil, ListsBelow-no, ListsBelow-yes}
 use Rattle.fix_explain.proofs.Used.{AreUses-listed}
 use Rattle.machine_core.specs.Checked.{Answer, Explanation, IsExplanation, answer_for, Gives}
 use Rattle.machine_core.proofs.Chains.{done-value}
-
--- whether a cell is confirmed
-decide_confirmed : (cell : Cell) → Decided (cell ≡ Confirmed)
-decide_confirmed Uncovered = inr (λ same. cc)
-decide_confirmed Confirmed = inl refl
-decide_confirmed (Fixed step) = inr (λ same. cc)
+use Rattle.machine_laws.proofs.Decisions.{decide_confirmed}
 
 -- whether a rule reads an attribute
 decide_reads : (rule : Rule) (attribute : ℕ) → Decided (Reads rule attribute)

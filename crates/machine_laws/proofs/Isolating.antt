@@ -19,7 +19,7 @@ use Rattle.desk_words.specs.declared.reply.Reply.TheVariants as reply
 use Rattle.desk_words.specs.Changes.{changed_all}
 use Rattle.desk_words.specs.Tables.{Published, Rows, published_of}
 use Rattle.desk_valid.specs.Valid.{AreValid}
-use Rattle.machine_core.specs.Checked.{Checked, done, refused, asked, advised, explained, derived, compared, never}
+use Rattle.machine_core.specs.Checked.{Checked, ComesTo, and_then, done, run, told, IsFound, Outcome}
 use Rattle.machine_core.specs.Checked.{◌>>=◌, some_or, Gives}
 use Rattle.machine_core.specs.Deriving.{derived_sheet}
 use Rattle.machine_core.specs.Machine.{IsStep, answered, changes_if, clerk_of, clerk_write, clerk_write_at, deed_of}
@@ -28,7 +28,7 @@ use Rattle.machine_core.specs.Own.{Own, after, changes_of, own_of}
 use Rattle.machine_core.specs.declared.ticket.Use.TheVariants.{Fresh}
 use Rattle.machine_core.specs.Ticket.{ticketed, use_of}
 use Rattle.machine_core.specs.Kept.{kept_reply}
-use Rattle.machine_core.proofs.Chains.{Gives-bind, Gives-bind_refused, Gives-unique, bind-assoc}
+use Rattle.machine_core.proofs.Chains.{Gives-bind, Gives-bind_refused, Gives-same, Gives-unique, and_then-assoc}
 use Rattle.machine_laws.specs.Alike.{LookAlike}
 use Rattle.machine_laws.specs.Callers.{clerk, own_by, place_of}
 use Rattle.machine_laws.proofs.Callers.{names_of}
@@ -45,40 +45,26 @@ replied made = made >>= (λ both. done both.0)
 -- the reply needs the place of the caller's row for nothing but the caller's rows
 replied-alone : {C D : Type 0} (places : Checked ℕ) (own : ℕ → Own) (write : Own → Checked (Reply × C))
     (changes : ℕ → C → D)
-    → replied (places >>= (λ place. write (own place) >>= (λ both. done (both.0, changes place both.1))))
-    ≡ ((places >>= (λ place. done (own place))) >>= (λ one. replied (write one)))
-replied-alone (done place) own write changes =
-    bind-assoc (write (own place)) (λ both. done (both.0, changes place both.1)) (λ both. done both.0)
-replied-alone (refused refusal) own write changes = refl
-replied-alone (asked kit state more) own write changes =
-    λ i. asked kit state (λ answer. replied-alone (more answer) own write changes i)
-replied-alone (advised kit state regions more) own write changes =
-    λ i. advised kit state regions (λ suggestion. replied-alone (more suggestion) own write changes i)
-replied-alone (explained kit state run attribute more) own write changes =
-    λ i. explained kit state run attribute (λ explanation. replied-alone (more explanation) own write changes i)
-replied-alone (derived kit grid attributes columns more) own write changes =
-    λ i. derived kit grid attributes columns (λ rows. replied-alone (more rows) own write changes i)
-replied-alone (compared before after_it more) own write changes =
-    λ i. compared before after_it (λ pairs. replied-alone (more pairs) own write changes i)
-replied-alone never own write changes = refl
+    → run (replied (places >>= (λ place. write (own place) >>= (λ both. done (both.0, changes place both.1)))))
+    ≡ run ((places >>= (λ place. done (own place))) >>= (λ one. replied (write one)))
+replied-alone {C} {D} places own write changes =
+    and_then-assoc (run places) (λ place. run (write (own place) >>= (λ both. done (both.0, changes place both.1))))
+    (λ both. told (Ok both.0))
+    ∙ (λ i. and_then (run places) (λ place.
+    let made : Reply × C → Outcome (Reply × D) = λ both. told (Ok (both.0, changes place both.1)) in
+    and_then-assoc (run (write (own place))) made (λ both. told (Ok both.0)) i))
+    ∙ sym (and_then-assoc (run places) (λ place. told (Ok (own place))) (λ one. run (replied (write one))))
 
 -- the same of a look
 looked-alone : {C : Type 0} (places : Checked ℕ) (own : ℕ → Own) (look : Own → Checked Reply) (none : C)
-    → replied (places >>= (λ place. look (own place) >>= (λ answer. done (answer, none))))
-    ≡ ((places >>= (λ place. done (own place))) >>= (λ one. replied (look one >>= (λ answer. done (answer, none)))))
-looked-alone (done place) own look none = refl
-looked-alone (refused refusal) own look none = refl
-looked-alone (asked kit state more) own look none =
-    λ i. asked kit state (λ answer. looked-alone (more answer) own look none i)
-looked-alone (advised kit state regions more) own look none =
-    λ i. advised kit state regions (λ suggestion. looked-alone (more suggestion) own look none i)
-looked-alone (explained kit state run attribute more) own look none =
-    λ i. explained kit state run attribute (λ explanation. looked-alone (more explanation) own look none i)
-looked-alone (derived kit grid attributes columns more) own look none =
-    λ i. derived kit grid attributes columns (λ rows. looked-alone (more rows) own look none i)
-looked-alone (compared before after_it more) own look none =
-    λ i. compared before after_it (λ pairs. looked-alone (more pairs) own look none i)
-looked-alone never own look none = refl
+    → run (replied (places >>= (λ place. look (own place) >>= (λ answer. done (answer, none)))))
+    ≡ run ((places >>= (λ place. done (own place))) >>= (λ one.
+    replied (look one >>= (λ answer. done (answer, none)))))
+looked-alone places own look none =
+    and_then-assoc (run places) (λ place. run (look (own place) >>= (λ answer. done (answer, none))))
+    (λ both. told (Ok both.0))
+    ∙ sym (and_then-assoc (run places) (λ place. told (Ok (own place)))
+    (λ one. run (replied (look one >>= (λ answer. done (answer, none))))))
 
 -- the reply to a clerk's request, from what was published and the clerk's own rows
 abbrev reply_to_write : Published → Checked Own → Ticket → ClerkWork → Checked Reply
@@ -113,13 +99,15 @@ shown-answered (Err refusal) = refl
 
 -- requests that come to the same reply are answered alike
 same-answer : (seen : Checked Reply) (rows other : Rows) (command : Command) (answer answer_too : Reply)
-    (changes others : List Change) → replied (machine rows command) ≡ seen → replied (machine other command) ≡ seen
+    (changes others : List Change) → run (replied (machine rows command)) ≡ run seen
+    → run (replied (machine other command)) ≡ run seen
     → IsStep rows command answer changes → IsStep other command answer_too others → answer ≡ answer_too
 same-answer seen rows other command answer answer_too changes others is is_too step step_too =
-    let P : Result Reply Refusal → Checked Reply → Type 0 = λ result checked. Gives checked result in
-    let mine : Gives seen (reply_result step.outcome) = subst (P (reply_result step.outcome)) is
+    let mine : Gives seen (reply_result step.outcome) =
+    Gives-same (replied (machine rows command)) seen (reply_result step.outcome) is
     (replied-gives (machine rows command) step.outcome step.gives) in
-    let theirs : Gives seen (reply_result step_too.outcome) = subst (P (reply_result step_too.outcome)) is_too
+    let theirs : Gives seen (reply_result step_too.outcome) =
+    Gives-same (replied (machine other command)) seen (reply_result step_too.outcome) is_too
     (replied-gives (machine other command) step_too.outcome step_too.gives) in
     let results = Gives-unique seen (reply_result step.outcome) (reply_result step_too.outcome) mine theirs in
     ap (λ (both : Reply × List Change). both.0) step.answers ∙ shown-answered step.outcome ∙ ap shown results
@@ -131,13 +119,13 @@ module _ (name : List ℕ) (rows other : Rows) (alike : LookAlike name rows othe
       → IsStep rows (Clerk name ticket work) answer changes → IsStep other (Clerk name ticket work) answer_too others
       → answer ≡ answer_too
   same-write ticket work answer answer_too changes others step step_too =
-      let of_rows : (one : Rows) → replied (machine one (Clerk name ticket work))
-      ≡ reply_to_write (published_of one) (own_by one (clerk name)) ticket work = λ one.
+      let of_rows : (one : Rows) → run (replied (machine one (Clerk name ticket work)))
+      ≡ run (reply_to_write (published_of one) (own_by one (clerk name)) ticket work) = λ one.
       replied-alone (clerk_of one.clerks name) (own_of one) (λ own. clerk_write (published_of one) own ticket work)
       (λ place deed. changes_if place (own_of one place).row ticket deed) in
-      let same : reply_to_write (published_of other) (own_by other (clerk name)) ticket work
-      ≡ reply_to_write (published_of rows) (own_by rows (clerk name)) ticket work =
-      λ i. reply_to_write (sym alike.published i) (sym alike.own i) ticket work in
+      let same : run (reply_to_write (published_of other) (own_by other (clerk name)) ticket work)
+      ≡ run (reply_to_write (published_of rows) (own_by rows (clerk name)) ticket work) =
+      λ i. and_then (sym alike.own i) (λ one. run (replied (clerk_write (sym alike.published i) one ticket work))) in
       same-answer (reply_to_write (published_of rows) (own_by rows (clerk name)) ticket work) rows other
       (Clerk name ticket work) answer answer_too changes others (of_rows rows) (of_rows other ∙ same) step step_too
 
@@ -146,12 +134,13 @@ module _ (name : List ℕ) (rows other : Rows) (alike : LookAlike name rows othe
       → IsStep rows (Look name look) answer changes → IsStep other (Look name look) answer_too others
       → answer ≡ answer_too
   same-look look answer answer_too changes others step step_too =
-      let of_rows : (one : Rows) → replied (machine one (Look name look))
-      ≡ reply_to_look (published_of one) (own_by one (clerk name)) look = λ one.
+      let of_rows : (one : Rows) → run (replied (machine one (Look name look)))
+      ≡ run (reply_to_look (published_of one) (own_by one (clerk name)) look) = λ one.
       looked-alone (clerk_of one.clerks name) (own_of one) (λ own. look_reply (published_of one) own look) no_changes in
-      let same : reply_to_look (published_of other) (own_by other (clerk name)) look
-      ≡ reply_to_look (published_of rows) (own_by rows (clerk name)) look =
-      λ i. reply_to_look (sym alike.published i) (sym alike.own i) look in
+      let same : run (reply_to_look (published_of other) (own_by other (clerk name)) look)
+      ≡ run (reply_to_look (published_of rows) (own_by rows (clerk name)) look) =
+      λ i. and_then (sym alike.own i) (λ one.
+      run (replied (look_reply (sym alike.published i) one look >>= (λ answer. done (answer, no_changes))))) in
       same-answer (reply_to_look (published_of rows) (own_by rows (clerk name)) look) rows other (Look name look) answer
       answer_too changes others (of_rows rows) (of_rows other ∙ same) step step_too
 
@@ -166,35 +155,36 @@ same-derived rows other same edition version master pairs answer answer_too chan
     replied (derived_sheet published edition version master pairs
     >>= (λ sheet. done (reply.Derived sheet, no_changes))) in
     same-answer (of_published (published_of rows)) rows other command answer answer_too changes others refl
-    (ap of_published (sym same)) step step_too
+    (ap (λ one. run (of_published one)) (sym same)) step step_too
 
 -- a clerk's own rows after a new write
 pub own_by-new : (rows : Rows) (name : List ℕ) (ticket : Ticket) (work : ClerkWork) (answer : Reply)
     (changes : List Change)
     → (valid : AreValid rows) → (new : IsNew rows name ticket work answer changes)
-    → own_by (changed_all rows changes) (clerk name) ≡ done (own_after (own_of rows new.place) ticket new.deed)
+    → IsFound (own_by (changed_all rows changes) (clerk name)) (own_after (own_of rows new.place) ticket new.deed)
 own_by-new rows name ticket work answer changes valid new =
     let own : Own = own_after (own_of rows new.place) ticket new.deed in
     let next : Rows = with_own rows new.place own in
     let names = names-set rows new.place own.row new.is_place.within refl in
-    let found : clerk_of next.clerks name ≡ done new.place =
+    let found : IsFound (clerk_of next.clerks name) new.place =
     clerk_of-same rows.clerks next.clerks name names ∙ new.is_place.found in
-    ap (λ (one : Rows). own_by one (clerk name)) (after-clerk rows valid name ticket work answer changes new)
-    ∙ ap (λ one. one >>= (λ there. done (own_of next there))) found
-    ∙ ap (λ one. done one) (own_of-with_same rows new.place own valid.tables new.is_place.within)
+    ap (λ (one : Rows). run (own_by one (clerk name))) (after-clerk rows valid name ticket work answer changes new)
+    ∙ ap (λ one. and_then one (λ there. told (Ok (own_of next there)))) found
+    ∙ ap (λ one. told (Ok one)) (own_of-with_same rows new.place own valid.tables new.is_place.within)
 
 -- a new write in tables that look alike is new there too, with the same deed
 new-alike : (name : List ℕ) (rows other : Rows) (ticket : Ticket) (work : ClerkWork) (answer answer_too : Reply)
     (changes others : List Change) → AreValid rows → AreValid other → LookAlike name rows other
     → IsNew rows name ticket work answer changes → IsStep other (Clerk name ticket work) answer_too others
-    → own_by (changed_all other others) (clerk name) ≡ own_by (changed_all rows changes) (clerk name)
+    → run (own_by (changed_all other others) (clerk name)) ≡ run (own_by (changed_all rows changes) (clerk name))
 new-alike name rows other ticket work answer answer_too changes others valid valid_too alike new step =
     let own : Own = own_of rows new.place in
-    let seen : own_by rows (clerk name) ≡ done own = ap (λ one. one >>= (λ place. done (own_of rows place)))
+    let seen : IsFound (own_by rows (clerk name)) own = ap
+    (λ one. and_then one (λ place. told (Ok (own_of rows place))))
     new.is_place.found in
     let there = chain-done (place_of other (clerk name)) (own_of other) own (sym alike.own ∙ seen) in
     let is_place : IsPlaceOf other.clerks name there.0 =
-    clerk_of-ok other.clerks name there.0 (subst (λ one. Gives one (Ok there.0)) (sym there.1) refl) in
+    clerk_of-ok other.clerks name there.0 (subst (λ one. ComesTo one (Ok there.0)) (sym there.1) refl) in
     let own_too : Own = own_of other there.0 in
     let made : Reply × List Change = (answer, changes_of there.0 own_too.row ticket new.deed) in
     let Used : Own → Type 0 = λ one. Gives (use_of one.row ticket) (Ok Fresh) in
@@ -220,7 +210,7 @@ new-alike name rows other ticket work answer answer_too changes others valid val
     let whole : Gives (machine other (Clerk name ticket work)) (Ok made) =
     Gives-bind (clerk_of other.clerks name) (λ place. clerk_write (published_of other) (own_of other place) ticket work
     >>= (λ both. done (both.0, changes_if place (own_of other place).row ticket both.1))) there.0 (Ok made)
-    (subst (λ one. Gives one (Ok there.0)) (sym there.1) refl)
+    (subst (λ one. ComesTo one (Ok there.0)) (sym there.1) refl)
     (Gives-bind (clerk_write (published_of other) own_too ticket work) (λ both. done (
       both.0,
       changes_if there.0 own_too.row
@@ -238,7 +228,7 @@ new-alike name rows other ticket work answer answer_too changes others valid val
       changed = ap (λ (both : Reply × List Change). both.1) pair;
     } in
     own_by-new other name ticket work answer others valid_too new_too
-    ∙ ap (λ one. done (own_after one ticket new.deed)) there.2
+    ∙ ap (λ one. told (Ok (own_after one ticket new.deed))) there.2
     ∙ sym (own_by-new rows name ticket work answer changes valid new)
 
 -- what was published stays where a clerk writes
@@ -302,20 +292,21 @@ write-alike name rows other ticket work answer answer_too changes others valid v
 
 -- a clerk's own rows are those of the place that is found
 own_by-places : (found : Option ℕ) (one other : ℕ → Own) → ((place : ℕ) → found ≡ Some place → one place ≡ other place)
-    → (some_or found NoClerk >>= (λ place. done (one place)))
-    ≡ (some_or found NoClerk >>= (λ place. done (other place)))
+    → run (some_or found NoClerk >>= (λ place. done (one place)))
+    ≡ run (some_or found NoClerk >>= (λ place. done (other place)))
 own_by-places None one other same = refl
-own_by-places (Some place) one other same = ap (λ own. done own) (same place refl)
+own_by-places (Some place) one other same = ap (λ own. told (Ok own)) (same place refl)
 
 -- where the names are the same, and each place that is found has the same rows, the own rows are the same
 pub own_by-same : (name : List ℕ) (rows other : Rows) → names_of other.clerks ≡ names_of rows.clerks
-    → ((place : ℕ) → clerk_of rows.clerks name ≡ done place → own_of rows place ≡ own_of other place)
-    → own_by rows (clerk name) ≡ own_by other (clerk name)
+    → ((place : ℕ) → IsFound (clerk_of rows.clerks name) place → own_of rows place ≡ own_of other place)
+    → run (own_by rows (clerk name)) ≡ run (own_by other (clerk name))
 own_by-same name rows other names same =
     let found : Option ℕ = option_map (λ place. place + 1)
     (position (λ row. bytes_eq row.name name) (drop 1 rows.clerks)) in
-    own_by-places found (own_of rows) (own_of other) (λ place is. same place (ap (λ one. some_or one NoClerk) is))
-    ∙ ap (λ one. one >>= (λ place. done (own_of other place))) (sym (clerk_of-same rows.clerks other.clerks name names))
+    own_by-places found (own_of rows) (own_of other) (λ place is. same place (ap (λ one. run (some_or one NoClerk)) is))
+    ∙ ap (λ one. and_then one (λ place. told (Ok (own_of other place))))
+    (sym (clerk_of-same rows.clerks other.clerks name names))
 
 -- a clerk's write leaves the names, and the steward's row
 pub clerk-names : (rows : Rows) (name : List ℕ) (ticket : Ticket) (work : ClerkWork) (answer : Reply)

@@ -1,5 +1,6 @@
 -- The kept reply stays where more is published.
 use Rattle.std.proofs.Common.{◌≡◌, ◌∙◌, ℕ, ◌+◌, ◌-◌, ◌<◌, ◌≤◌, List, [], ◌∷◌, length, get_or, take, drop, Option, Some}
+use Rattle.std.proofs.Common.{Ok}
 use Rattle.std.proofs.Common.{None, refl, sym, ap, arith}
 use Rattle.std.specs.Prelude.{All, option_and_then, option_map, slice_get}
 use Rattle.std.proofs.lemmas.List.{length-map}
@@ -24,7 +25,7 @@ use Rattle.desk_valid.specs.Rows.Edition.{IsEditionRow}
 use Rattle.desk_valid.specs.Rows.Region.{IsRegionRow}
 use Rattle.desk_valid.specs.Valid.{AreValid}
 use Rattle.machine_core.specs.Answers.{state_of}
-use Rattle.machine_core.specs.Checked.{Answer, done, ◌>>=◌, answer_for, certainly, each, some_or}
+use Rattle.machine_core.specs.Checked.{Answer, done, ◌>>=◌, answer_for, certainly, each, some_or, run, and_then, told}
 use Rattle.machine_core.specs.Finding.{session_at}
 use Rattle.machine_core.specs.Kept.{batch_reply, kept_made, kept_reply, region_made}
 use Rattle.machine_core.specs.Look.Report.{assessment_of}
@@ -67,30 +68,29 @@ module _ (rows : Rows) (valid : AreValid rows) (other : Published) (more : AreMo
 
   -- a session as it is shown
   pub view_of-more : (number : ℕ) (session : SessionRow) → session.edition < length rows.editions
-      → view_of other number session ≡ view_of (published_of rows) number session
+      → run (view_of other number session) ≡ run (view_of (published_of rows) number session)
   view_of-more number session within =
       let bound = bound_at-more session.edition within in
       let edition = edition_at-more session.edition within in
       let shown : EditionRow → Bound → Answer → _ = λ row bound answer.
       record (view_with (published_of rows) number session
       bound answer) { edition = row.name; version = row.version } in
-      λ i. certainly (bound i) >>= (λ kit. answer_for kit.kit (state_of session) >>=
-      (λ answer. done (shown (edition i) kit
-      answer)))
+      λ i. run (certainly (bound i) >>= (λ kit. answer_for kit.kit (state_of session)
+      >>= (λ answer. done (shown (edition i) kit answer))))
 
   -- what the rules make of a session
   assessment_of-more : (session : SessionRow) → session.edition < length rows.editions
-      → assessment_of other session ≡ assessment_of (published_of rows) session
+      → run (assessment_of other session) ≡ run (assessment_of (published_of rows) session)
   assessment_of-more session within = rw (bound_at-more session.edition within) refl
 
   each-more : (sessions : List SessionRow) → All (λ session. session.edition < length rows.editions) sessions
-      → each (assessment_of other) sessions ≡ each (assessment_of (published_of rows)) sessions
+      → run (each (assessment_of other) sessions) ≡ run (each (assessment_of (published_of rows)) sessions)
   each-more [] within = refl
   each-more (session ∷ sessions) within =
       let Within : SessionRow → Type 0 = λ one. one.edition < length rows.editions in
       let first = assessment_of-more session (All-head Within session sessions within) in
       let rest = each-more sessions (All-tail Within session sessions within) in
-      λ i. first i >>= (λ found. rest i >>= (λ more. done (found ∷ more)))
+      λ i. and_then (first i) (λ found. and_then (rest i) (λ more. told (Ok (found ∷ more))))
 
   -- the kept reply to a clerk whose own rows are good
   module _ (own : Own) (are : AreOwnRows (published_of rows) own.sessions own.records own.batches) where
@@ -99,28 +99,28 @@ module _ (rows : Rows) (valid : AreValid rows) (other : Published) (more : AreMo
         (are.sessions_valid index (get_or own.sessions index past)
         (slice_get-get_or own.sessions index past inside)).edition
 
-    pub view_at-more : (number : ℕ) → view_at other own number ≡ view_at (published_of rows) own number
+    pub view_at-more : (number : ℕ) → run (view_at other own number) ≡ run (view_at (published_of rows) own number)
     view_at-more number = found (session_at own.sessions number) (λ session is.
         (are.sessions_valid (number - 1) session (session_at-found own.sessions number session is).1).edition)
       where
         found : (one : Option SessionRow)
             → ((session : SessionRow) → one ≡ Some session → session.edition < length rows.editions)
-            → (some_or one (NoSuch kind.Session) >>= view_of other number)
-            ≡ (some_or one (NoSuch kind.Session) >>= view_of (published_of rows) number)
+            → run (some_or one (NoSuch kind.Session) >>= view_of other number)
+            ≡ run (some_or one (NoSuch kind.Session) >>= view_of (published_of rows) number)
         found None within = refl
         found (Some session) within = view_of-more number session (within session refl)
 
     pub kept_reply-more : (what : Act) (target : ℕ)
-        → kept_reply other own what target ≡ kept_reply (published_of rows) own what target
+        → run (kept_reply other own what target) ≡ run (kept_reply (published_of rows) own what target)
     kept_reply-more act.Opened target =
-        ap (λ view. view >>= (λ one. done (reply.Opened one))) (view_at-more (target + 1))
+        ap (λ view. and_then view (λ one. told (Ok (reply.Opened one)))) (view_at-more (target + 1))
     kept_reply-more act.Changed target =
-        ap (λ view. view >>= (λ one. done (reply.View one))) (view_at-more (target + 1))
+        ap (λ view. and_then view (λ one. told (Ok (reply.View one)))) (view_at-more (target + 1))
     kept_reply-more act.Committed target = refl
     kept_reply-more act.Batched target = found (slice_get own.batches target)
       where
-        found : (one : Option BatchRow) → (certainly one >>= batch_reply other own (target + 1))
-            ≡ (certainly one >>= batch_reply (published_of rows) own (target + 1))
+        found : (one : Option BatchRow) → run (certainly one >>= batch_reply other own (target + 1))
+            ≡ run (certainly one >>= batch_reply (published_of rows) own (target + 1))
         found None = refl
         found (Some row) = rw (each-more (take row.count (drop (row.first - 1) own.sessions))
             (All-take (λ session. session.edition < length rows.editions) row.count (drop (row.first - 1) own.sessions)
@@ -135,8 +135,8 @@ module _ (rows : Rows) (valid : AreValid rows) (other : Published) (more : AreMo
     kept_reply-more act.Region target = refl
 
 -- a clerk's name is read from the clerks' names
-pub made_clerk-names : (clerk : Option ClerkRow) → (certainly clerk >>= (λ row. done (made.Clerk row.name)))
-    ≡ (certainly (option_map (λ row. row.name) clerk) >>= (λ name. done (made.Clerk name)))
+pub made_clerk-names : (clerk : Option ClerkRow) → run (certainly clerk >>= (λ row. done (made.Clerk row.name)))
+    ≡ run (certainly (option_map (λ row. row.name) clerk) >>= (λ name. done (made.Clerk name)))
 made_clerk-names None = refl
 made_clerk-names (Some row) = refl
 
@@ -144,7 +144,7 @@ made_clerk-names (Some row) = refl
 module _ (rows other : Rows) (valid : AreValid rows) (more : AreMore (published_of rows) (published_of other))
     (names : Begins (names_of rows.clerks) (names_of other.clerks)) where
   region_made-more : (place : ℕ) (row : RegionRow) → place ≤ length rows.regions → row.edition < length rows.editions
-      → region_made (published_of other) place row ≡ region_made (published_of rows) place row
+      → run (region_made (published_of other) place row) ≡ run (region_made (published_of rows) place row)
   region_made-more place row within stands =
       rw (
         bound_at-more rows valid (published_of other) more row.edition stands,
@@ -153,7 +153,7 @@ module _ (rows other : Rows) (valid : AreValid rows) (more : AreMore (published_
       ) refl
 
   pub kept_made-more : (what : Act) (target : ℕ) → HasTarget rows 0 what target
-      → kept_made other what target ≡ kept_made rows what target
+      → run (kept_made other what target) ≡ run (kept_made rows what target)
   kept_made-more act.Clerk target has =
       let name_in : ClerkRow → List ℕ = λ row. row.name in
       let within : target < length (names_of rows.clerks) = omega (arith, has.1, length-map rows.clerks name_in) in
@@ -163,28 +163,28 @@ module _ (rows other : Rows) (valid : AreValid rows) (more : AreMore (published_
       ∙ slice_get-begins (names_of rows.clerks) (names_of other.clerks) names target within
       ∙ slice_get-map name_in rows.clerks target in
       made_clerk-names (slice_get other.clerks target)
-      ∙ ap (λ name. certainly name >>= (λ one. done (made.Clerk one))) same
+      ∙ ap (λ name. run (certainly name >>= (λ one. done (made.Clerk one)))) same
       ∙ sym (made_clerk-names (slice_get rows.clerks target))
   kept_made-more act.Schema target has =
-      ap (λ row. certainly row >>= (λ one. done (made.Schema one.name one.version)))
+      ap (λ row. run (certainly row >>= (λ one. done (made.Schema one.name one.version))))
       (slice_get-begins rows.schemas other.schemas more.schemas target has)
   kept_made-more act.Master target has =
-      ap (λ row. certainly row >>= (λ one. done (made.Master one.name one.version)))
+      ap (λ row. run (certainly row >>= (λ one. done (made.Master one.name one.version))))
       (slice_get-begins rows.masters other.masters more.masters target has)
   kept_made-more act.Rulebook target has =
-      ap (λ row. certainly row >>= (λ one. done (made.Rulebook one.name one.version)))
+      ap (λ row. run (certainly row >>= (λ one. done (made.Rulebook one.name one.version))))
       (slice_get-begins rows.rulebooks other.rulebooks more.rulebooks target has)
   kept_made-more act.Edition target has =
-      ap (λ row. certainly row >>= (λ one. done (made.Edition one.name one.version)))
+      ap (λ row. run (certainly row >>= (λ one. done (made.Edition one.name one.version))))
       (slice_get-begins rows.editions other.editions more.editions target has)
   kept_made-more act.Region target has =
       let row = slice_get-there rows.regions target has in
       let good : IsRegionRow (published_of rows) target row.0 = valid.regions target row.0 row.1 in
       let there : slice_get other.regions target ≡ Some row.0 =
       slice_get-begins rows.regions other.regions more.regions target has ∙ row.1 in
-      ap (λ one. certainly one >>= region_made (published_of other) target) there
+      ap (λ one. run (certainly one >>= region_made (published_of other) target)) there
       ∙ region_made-more target row.0 (omega (arith, has)) good.edition
-      ∙ sym (ap (λ one. certainly one >>= region_made (published_of rows) target) row.1)
+      ∙ sym (ap (λ one. run (certainly one >>= region_made (published_of rows) target)) row.1)
   kept_made-more act.Nothing target has = refl
   kept_made-more act.Opened target has = refl
   kept_made-more act.Changed target has = refl

@@ -1,9 +1,8 @@
 -- What a look at a Carry is told holds until the clerk's next accepted write.
 use Rattle.std.proofs.Common.{◌≡◌, ◌⊎◌, ◌∙◌, ℕ, ◌<◌, true, false, List, [], ◌∷◌, ◌++◌, length, Some, inl, refl, sym, ap}
-use Rattle.std.proofs.Common.{subst, arith}
+use Rattle.std.proofs.Common.{subst}
 use Rattle.std.specs.Prelude.{◌==◌, ◌&&◌, All, Ok}
 use Rattle.std.specs.Str.{bytes_eq}
-use Rattle.std.proofs.lemmas.Bool.Decides.{nat_tests}
 use Rattle.std.proofs.lemmas.List.Elements.{All-head, All-tail}
 use Rattle.desk_words.specs.declared.change.Change.{Change}
 use Rattle.desk_words.specs.declared.clerk_work.ClerkWork.TheVariants.{Carry}
@@ -18,9 +17,8 @@ use Rattle.desk_words.specs.declared.rows.edition.EditionRow.{EditionRow}
 use Rattle.desk_words.specs.declared.rows.session.SessionRow.{SessionRow}
 use Rattle.desk_words.specs.Changes.{changed_all}
 use Rattle.desk_words.specs.Tables.{Published, Rows, published_of}
-use Rattle.desk_valid.specs.Tallies.{is_active}
 use Rattle.desk_valid.specs.Valid.{AreValid}
-use Rattle.machine_core.specs.Checked.{done, Gives}
+use Rattle.machine_core.specs.Checked.{Gives, ComesTo, IsFound}
 use Rattle.machine_core.specs.Clerk.Carry.{carry_row}
 use Rattle.machine_core.specs.Finding.{edition_named}
 use Rattle.machine_core.specs.Machine.{IsStep}
@@ -33,25 +31,21 @@ use Rattle.machine_core.proofs.Widths.{edition-stands}
 use Rattle.machine_laws.specs.Callers.{asks, clerk}
 use Rattle.machine_laws.specs.Events.{AreAnswered, Event, is_accepted, is_write_of, tables_after}
 use Rattle.machine_laws.proofs.Carried.{IsCarryingOf, IsShown, carry-look, shown-after, shown-before}
-use Rattle.machine_laws.proofs.Carries.{carry-found}
+use Rattle.machine_core.proofs.Commands.{IsActiveSession, carry_row-ok}
 use Rattle.machine_laws.proofs.Kept.{bound_at-more, edition_at-more, view_at-more, view_of-more}
 use Rattle.machine_laws.proofs.Listed.{next-valid}
 use Rattle.machine_laws.proofs.More.{AreMore}
 use Rattle.machine_laws.proofs.Names.{clerk_of-begins, position-append}
 use Rattle.machine_laws.proofs.Numbers.{accepted-some, not-write}
-use Rattle.machine_laws.proofs.Sessions.{IsActiveAt}
 use Rattle.machine_laws.proofs.Staying.{IsLonger, step-kept, step-longer}
 use Rattle.machine_laws.proofs.Unchanged.{step-unchanged}
 use Rattle.machine_laws.proofs.Valid.{own-rows}
 use Rattle.machine_laws.proofs.Writes.{look-unchanged}
 
 -- an active session is found
-active-done : (sessions : List SessionRow) (number : ℕ) (session : SessionRow) → IsActiveAt sessions number session
-    → active_session sessions number ≡ done session
-active-done sessions number session is =
-    let apart : (number == 0) ≡ false = grind (arith, nat_tests, is.counted) in
-    let open_it : is_active session.stage ≡ true = ap is_active is.is_open in
-    rw (apart, is.stands, open_it) refl
+active-done : (sessions : List SessionRow) (number : ℕ) (session : SessionRow)
+    → IsActiveSession sessions number session → IsFound (active_session sessions number) session
+active-done sessions number session is = rw (is.found, is.active) refl
 
 module _ (rows : Rows) (valid : AreValid rows) (other : Published) (more : AreMore (published_of rows) other) where
   -- a version that is found is found where more is published
@@ -68,32 +62,32 @@ module _ (rows : Rows) (valid : AreValid rows) (other : Published) (more : AreMo
     carry_row-more : (moved : SessionRow) → Gives (carry_row (published_of rows) own number version) (Ok moved)
         → Gives (carry_row other own number version) (Ok moved)
     carry_row-more moved gives =
-        let is = carry-found (published_of rows) own number version moved gives in
+        let is = carry_row-ok (published_of rows) own number version moved gives in
         let pinned : EditionRow = edition_at (published_of rows) is.session.edition in
         let here = edition-stands (published_of rows) is.session.edition is.before is.binds in
-        let there = edition-stands (published_of rows) is.edition is.behind is.binds_behind in
-        subst (λ one. Gives one (Ok moved)) (sym (carry-newer other own number version is.session pinned
-        (active-done own.sessions number is.session is.is_active)
+        let there = edition-stands (published_of rows) is.edition is.after is.binds_after in
+        subst (λ one. ComesTo one (Ok moved)) (sym (carry-newer other own number version is.session pinned
+        (active-done own.sessions number is.session is.stands)
         (sym (edition_at-more rows valid other more is.session.edition here)) is.edition
-        (edition_named-more pinned.name version is.edition is.named) is.before is.behind is.newer
+        (edition_named-more pinned.name version is.edition is.named) is.before is.after is.newer
         (bound_at-more rows valid other more is.session.edition here ∙ is.binds)
-        (bound_at-more rows valid other more is.edition there ∙ is.binds_behind))) (ap Ok is.is)
+        (bound_at-more rows valid other more is.edition there ∙ is.binds_after))) (ap Ok is.is)
 
     -- what is told of it stays
     IsCarryingOf-more : (carried : Carried) → IsCarryingOf (published_of rows) own number version carried
         → IsCarryingOf other own number version carried
     IsCarryingOf-more carried is =
-        let found = carry-found (published_of rows) own number version is.moved is.carries in
+        let found = carry_row-ok (published_of rows) own number version is.moved is.carries in
         let within : is.moved.edition < length rows.editions =
         subst (λ (one : SessionRow). one.edition < length rows.editions) (sym found.is)
-        (edition-stands (published_of rows) found.edition found.behind found.binds_behind) in
+        (edition-stands (published_of rows) found.edition found.after found.binds_after) in
         record {
           moved = is.moved;
           carries = carry_row-more is.moved is.carries;
-          before = subst (λ one. Gives one (Ok carried.before))
+          before = subst (λ one. ComesTo one (Ok carried.before))
               (sym (view_at-more rows valid other more own are number))
               is.before;
-          behind = subst (λ one. Gives one (Ok carried.after))
+          behind = subst (λ one. ComesTo one (Ok carried.after))
               (sym (view_of-more rows valid other more number is.moved within)) is.behind;
           changed = is.changed;
         }

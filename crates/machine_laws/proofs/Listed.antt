@@ -13,7 +13,7 @@ use Rattle.desk_words.specs.Changes.{changed_all}
 use Rattle.desk_words.specs.Tables.{Rows}
 use Rattle.desk_valid.specs.Valid.{AreValid}
 use Rattle.machine_core.specs.Machine.{IsStep}
-use Rattle.machine_core.specs.Checked.{done}
+use Rattle.machine_core.specs.Checked.{IsFound}
 use Rattle.machine_core.specs.Own.{Own, own_of}
 use Rattle.machine_core.specs.Ticket.{IsNumbered}
 use Rattle.machine_laws.specs.Callers.{Caller, asks, number_of, place_of}
@@ -103,7 +103,7 @@ stale-listed rows caller event one again earlier later valid asked_it accepted w
 
 -- a caller's accepted writes have numbers that go up by one, from the one behind the last
 pub numbers-from : (rows : Rows) (caller : Caller) (place : ℕ) (events : List Event) → AreValid rows
-    → place_of rows caller ≡ done place → AreAnswered rows events
+    → IsFound (place_of rows caller) place → AreAnswered rows events
     → numbers_of caller events ≡ range_with_len ((own_of rows place).row.last + 1) (length (numbers_of caller events))
 numbers-from rows caller place [] valid found steps = refl
 numbers-from rows caller place (event ∷ events) valid found steps =

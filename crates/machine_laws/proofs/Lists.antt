@@ -3,21 +3,15 @@ use Rattle.std.proofs.Common.{◌≡◌, ◌≢◌, ◌∙◌, ℕ, zero, suc, �
 use Rattle.std.proofs.Common.{length, get_or, map, set, take, Some, None, inl, inr, refl, sym, ap, subst, arith}
 use Rattle.std.specs.Prelude.{All, Contains, find, slice_get}
 use Rattle.std.proofs.lemmas.Bool.{cases_Bool, cases_eq, cases_lt}
-use Rattle.std.proofs.lemmas.List.{append-nil, get_or-map, get_or-set_other, get_or-set_same, get_or_at, get_or_past}
-use Rattle.std.proofs.lemmas.List.{get_or_append_left, length-append, length-map, length-set, take-append-le}
+use Rattle.std.proofs.lemmas.List.{append-nil, get_or-set_other, get_or-set_same, get_or_at, get_or_past}
+use Rattle.std.proofs.lemmas.List.{get_or_append_left, length-append, length-set, take-append-le}
 use Rattle.std.proofs.lemmas.List.Elements.{All-cons, All-nil}
 use Rattle.std.proofs.lemmas.Option.{same_Some, slice_get_within}
 use Rattle.desk_words.specs.Tables.{list_at}
 use Rattle.desk_valid.specs.Valid.{EachAt}
+pub use Rattle.desk_base.proofs.Lists.{slice_get-set_same, slice_get-there}
 
--- within a list something stands
-pub slice_get-there : {T : Type 0} (rows : List T) (place : ℕ) → place < length rows
-    → (row : T) × (slice_get rows place ≡ Some row)
-slice_get-there [] place within = absurd (omega arith)
-slice_get-there (row ∷ rows) zero within = (row, refl)
-slice_get-there (row ∷ rows) (suc place) within = slice_get-there rows place (omega arith)
-
--- and behind it nothing does
+-- after the last item nothing stands
 pub nothing-behind : {T : Type 0} (rows : List T) (place : ℕ) (row : T) → length rows ≤ place
     → slice_get rows place ≡ Some row → ⊥
 nothing-behind rows place row behind stands = omega (arith, slice_get_within rows place row stands, behind)
@@ -29,14 +23,7 @@ slice_get-append [] others place within = absurd (omega arith)
 slice_get-append (row ∷ rows) others zero within = refl
 slice_get-append (row ∷ rows) others (suc place) within = slice_get-append rows others place (omega arith)
 
--- what was put stands at its place
-pub slice_get-set_same : {T : Type 0} (rows : List T) (place : ℕ) (row : T) → place < length rows
-    → slice_get (set rows place row) place ≡ Some row
-slice_get-set_same [] place row within = absurd (omega arith)
-slice_get-set_same (first ∷ rows) zero row within = refl
-slice_get-set_same (first ∷ rows) (suc place) row within = slice_get-set_same rows place row (omega arith)
-
--- and elsewhere stands what stood there
+-- elsewhere than where a row was put stands what stood there
 pub slice_get-set_other : {T : Type 0} (rows : List T) (place other : ℕ) (row : T) → other ≢ place
     → slice_get (set rows place row) other ≡ slice_get rows other
 slice_get-set_other [] place other row apart = refl
@@ -61,12 +48,6 @@ map-set_same name (first ∷ rows) zero row old stands same =
     ap (λ one. one ∷ map name rows) (same ∙ ap name (sym (same_Some first old stands)))
 map-set_same name (first ∷ rows) (suc place) row old stands same =
     ap (λ others. name first ∷ others) (map-set_same name rows place row old stands same)
-
--- what holds of the names of all rows holds of each row's name
-pub All-from_map : {T U : Type 0} (P : U → Type 0) (name : T → U) (rows : List T) → All P (map name rows)
-    → All (λ row. P (name row)) rows
-All-from_map P name rows all place past within =
-    subst P (get_or-map name rows place past (name past) within) (all place (name past) (rw length-map within))
 
 -- the other list begins with this one
 abbrev pub Begins : {T : Type 0} → List T → List T → Type 0

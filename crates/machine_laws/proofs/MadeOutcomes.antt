@@ -117,7 +117,7 @@ module _ (rows : Rows) (valid : AreValid rows) where
       first-there : (found : Option (List ℕ × Master)) (all : List (List ℕ × Master)) → all_of (found ∷ []) ≡ Some all
           → HasOutcome (certainly found)
       first-there None all is = absurd (cc)
-      first-there (Some master) all is = outcome-done master
+      first-there (Some master) all is = outcome-certainly (Some master) master refl
 
   -- the parts of an edition read
   parts-there : (row : EditionRow) → row.rulebook < length rows.rulebooks

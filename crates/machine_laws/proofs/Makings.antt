@@ -1,23 +1,16 @@
 -- What the steward makes is good where it is put: schemas, masters, rulebooks and clerks.
 use Rattle.std.proofs.Common.{◌≡◌, ◌≢◌, ◌∙◌, ℕ, ◌+◌, ◌<◌, ◌≤◌, Bool, List, [], ◌∷◌, ◌++◌, length, get_or, Some, refl}
 use Rattle.std.proofs.Common.{sym, ap, subst, arith}
-use Rattle.std.specs.Prelude.{◌&&◌, ◌==◌, All, IfSome, IsSome, IsTrue, Ok, count_by, not, slice_get}
-use Rattle.std.specs.List.{list_any}
+use Rattle.std.specs.Prelude.{◌&&◌, ◌==◌, All, IfSome, IsSome, IsTrue, Ok, count_by, slice_get}
 use Rattle.std.specs.Str.{bytes_eq}
 use Rattle.std.proofs.lemmas.List.{get_or_append_left, get_or_at, get_or_past, length-append, map-append, take_at}
 use Rattle.std.proofs.lemmas.List.Quantifiers.{position-Some}
 use Rattle.std.proofs.lemmas.Slice.Eq.{bytes_eq-Decides}
 use Rattle.desk_base.specs.Words.{is_name}
-use Rattle.schema_core.specs.Reading.{schema_of}
-use Rattle.schema_core.specs.declared.schema.Schema.{Schema}
 use Rattle.schema_core.proofs.Sound.{IsSchema-from_bytes}
-use Rattle.master_rows.specs.declared.master.Master.{Master}
-use Rattle.master_rows.specs.Sheet.{read_sheet}
-use Rattle.rule_text.specs.Reading.{read_rules}
 use Rattle.desk_words.specs.declared.change.Change.TheVariants as change
 use Rattle.desk_words.specs.declared.limit.Which.TheVariants as which
-use Rattle.desk_words.specs.declared.refusal.Kind.TheVariants as kind
-use Rattle.desk_words.specs.declared.refusal.Refusal.TheVariants.{BadName, NoSuch, Taken}
+use Rattle.desk_words.specs.declared.refusal.Refusal.TheVariants.{BadName}
 use Rattle.desk_words.specs.declared.rows.act.Act.TheVariants as act
 use Rattle.desk_words.specs.declared.rows.clerk.ClerkRow.{ClerkRow}
 use Rattle.desk_words.specs.declared.rows.master.MasterRow.{MasterRow}
@@ -27,33 +20,29 @@ use Rattle.desk_words.specs.declared.steward_work.StewardWork.TheVariants.{AddCl
 use Rattle.desk_words.specs.Changes.{Fits, changed}
 use Rattle.desk_words.specs.Tables.{AreTables, Published, Rows, new_clerk, published_of}
 use Rattle.desk_words.proofs.Changes.{AreTables-changed}
-use Rattle.desk_valid.specs.Readings.{read, rules_over, schema_at}
+use Rattle.desk_valid.specs.Readings.{read, rules_over}
 use Rattle.desk_valid.specs.Rows.Clerk.{IsClerkRow}
 use Rattle.desk_valid.specs.Rows.Master.{IsMasterRow}
 use Rattle.desk_valid.specs.Rows.Rulebook.{IsRulebookRow}
 use Rattle.desk_valid.specs.Rows.Schema.{IsSchemaRow}
-use Rattle.desk_valid.specs.Tallies.{cell_count, master_cells}
 use Rattle.desk_valid.specs.Valid.{AreValid}
 use Rattle.desk_valid.specs.Versions.{IsVersion}
-use Rattle.machine_core.specs.Checked.{Checked, ◌>>=◌, ◌>>◌, certainly, done, some_or, unless, value_or, Gives}
-use Rattle.machine_core.specs.Faults.{rules_refusal, schema_refusal, sheet_refusal}
-use Rattle.machine_core.specs.Finding.{next_version, place_of, schema_named}
+use Rattle.machine_core.specs.Checked.{Gives}
+use Rattle.machine_core.specs.Finding.{next_version, place_of}
 use Rattle.machine_core.specs.Limits.{within}
 use Rattle.machine_core.specs.Machine.{making_of}
 use Rattle.machine_core.specs.declared.making.Making.{Making}
 use Rattle.machine_core.specs.Own.{Own, own_of}
-use Rattle.machine_core.specs.Steward.AddClerk.{clerk_row}
-use Rattle.machine_core.specs.Steward.AddMaster.{master_row}
-use Rattle.machine_core.specs.Steward.AddRulebook.{rulebook_row}
-use Rattle.machine_core.specs.Steward.AddSchema.{schema_row}
 use Rattle.machine_core.specs.Tests as tests
-use Rattle.machine_core.proofs.Chains.{Gives-bind_ok, done-value}
 use Rattle.machine_core.proofs.Masters.{not-any}
-use Rattle.machine_core.proofs.Tested.{certainly-ok, some_or-ok, unless-ok, value_or-ok, within-ok}
+use Rattle.machine_core.proofs.Tested.{unless-ok}
 use Rattle.machine_laws.proofs.Callers.{IsDone, names_of}
 use Rattle.machine_laws.proofs.Deeds.{put-end, with_clerk-end}
-use Rattle.machine_laws.proofs.Lists.{Begins, Begins-push, Begins-same, list_at-push, nothing-behind, pushed}
-use Rattle.machine_laws.proofs.Valid.{AreValid-new, AreValid-published, with_new}
+use Rattle.machine_laws.proofs.Lists.{Begins, Begins-same, list_at-push, nothing-behind, pushed}
+use Rattle.machine_laws.proofs.Valid.{AreValid-new, AreValid-published, with_new, AreGoodBehind, with_published}
+use Rattle.machine_core.proofs.Walks.{Met-Gives}
+use Rattle.machine_core.proofs.Commands.{few-stand}
+use Rattle.machine_laws.proofs.More.{AreMore-changed}
 
 -- what is a new clerk's own
 abbrev pub new_own : List ℕ → Own
@@ -128,60 +117,63 @@ own-last rows name place tables last =
     λ i. record { row = caller i; sessions = sessions i; records = records i; batches = batches i }
 
 module _ (rows : Rows) (valid : AreValid rows) where
+  -- a change of what is published, in which new rows alone have to be good, is sound
+  pub IsSoundMaking-published : (making : Making) → (fits : Fits rows making.change)
+      → let published : Published = published_of (changed rows making.change) in
+      changed rows making.change ≡ with_published rows published → AreGoodBehind (published_of rows) published
+      → IsDone (with_published rows published) 0 making.act making.target → IsSoundMaking rows making
+  IsSoundMaking-published making fits same good has_done = record {
+    fits = fits;
+    valid = subst AreValid (sym same) (AreValid-published rows (published_of (changed rows making.change)) valid
+        (AreMore-changed rows making.change) good
+        (subst AreTables same (AreTables-changed rows making.change fits valid.tables)));
+    names = subst (λ (one : Rows). Begins (names_of rows.clerks) (names_of one.clerks)) (sym same)
+        (Begins-same (names_of rows.clerks));
+    own = λ place within. ap (λ (one : Rows). own_of one place) same;
+    new = λ place behind within. absurd (omega (arith, behind, within, ap (λ (one : Rows). length one.clerks) same));
+    is_done = subst (λ one. IsDone one 0 making.act making.target) (sym same) has_done;
+  }
+
+module _ (rows : Rows) (valid : AreValid rows) where
   -- a new schema
   IsSoundMaking-schema : (row : SchemaRow) → length rows.schemas + 1 ≤ 128
       → IsSchemaRow (record (published_of rows) { schemas = rows.schemas ++ row ∷ [] }) (length rows.schemas) row
       → IsSoundMaking rows (record { change = change.Schema row; act = act.Schema; target = length rows.schemas })
   IsSoundMaking-schema row few good =
       let published : Published = record (published_of rows) { schemas = rows.schemas ++ row ∷ [] } in
-      let fits : Fits rows (change.Schema row) = (omega arith, omega (arith, few)) in
-      record {
-        fits = fits;
-        valid = AreValid-published rows published valid (record {
-          schemas = Begins-push rows.schemas row;
-          masters = Begins-same rows.masters;
-          rulebooks = Begins-same rows.rulebooks;
-          editions = Begins-same rows.editions;
-          regions = Begins-same rows.regions;
-        }) (record {
-          schemas = pushed (IsSchemaRow published) rows.schemas row good;
-          masters = stays _ rows.masters;
-          rulebooks = stays _ rows.rulebooks;
-          editions = stays _ rows.editions;
-          regions = stays _ rows.regions;
-        }) (AreTables-changed rows (change.Schema row) fits valid.tables);
-        names = Begins-same (names_of rows.clerks);
-        own = λ place within. refl;
-        new = λ place behind within. absurd (omega (arith, behind, within));
-        is_done = record {
-          some = λ same. cc;
-          steward = λ first. tt;
-          clerk = λ behind. absurd (omega (arith, behind));
-          stands = omega (arith, length-append rows.schemas (row ∷ []));
-        };
-      }
+      IsSoundMaking-published rows valid
+      (record { change = change.Schema row; act = act.Schema; target = length rows.schemas })
+      (omega arith, omega (arith, few)) refl
+      (record {
+        schemas = pushed (IsSchemaRow published) rows.schemas row good;
+        masters = stays _ rows.masters;
+        rulebooks = stays _ rows.rulebooks;
+        editions = stays _ rows.editions;
+        regions = stays _ rows.regions;
+      })
+      (record {
+        some = λ same. cc;
+        steward = λ first. tt;
+        clerk = λ behind. absurd (omega (arith, behind));
+        stands = omega (arith, length-append rows.schemas (row ∷ []));
+      })
 
   pub IsSoundMaking-add_schema : (body : List ℕ) (making : Making) → Gives (making_of rows (AddSchema body)) (Ok making)
       → IsSoundMaking rows making
   IsSoundMaking-add_schema body making gives =
-      let made_of : SchemaRow → Making = λ row.
-      record { change = change.Schema row; act = act.Schema; target = length rows.schemas } in
-      let row_of : Schema → SchemaRow = λ schema.
-      record { name = schema.name; version = next_version (λ row. row.name) rows.schemas schema.name; body = body } in
-      let row = Gives-bind_ok (schema_row rows.schemas body) (λ row. done (made_of row)) making gives in
-      let schema = Gives-bind_ok (value_or (schema_of body) schema_refusal) (λ schema. within which.Schemas
-      (length rows.schemas + 1) >> done (row_of schema)) row.0 row.1 in
-      let few = Gives-bind_ok (within which.Schemas (length rows.schemas + 1)) (λ _. done (row_of schema.0)) row.0
-      schema.2 in
-      let reads = value_or-ok (schema_of body) schema_refusal schema.0 schema.1 in
-      subst (IsSoundMaking rows) (sym (done-value (made_of row.0) making row.2
-      ∙ ap made_of (done-value (row_of schema.0) row.0 few.2)))
-      (IsSoundMaking-schema (row_of schema.0) (within-ok which.Schemas (length rows.schemas + 1) few.0 few.1) (record {
-        schema = schema.0;
+      let (row, (schema, reads, (_, few, is_row)), is) = Met-Gives (making_of rows (AddSchema body)) (Ok making) gives
+      in
+      let made_of : SchemaRow → Making = λ one.
+      record { change = change.Schema one; act = act.Schema; target = length rows.schemas } in
+      let new : SchemaRow =
+      record { name = schema.name; version = next_version (λ one. one.name) rows.schemas schema.name; body = body } in
+      subst (IsSoundMaking rows) (sym (is ∙ ap made_of is_row))
+      (IsSoundMaking-schema new (few-stand which.Schemas (length rows.schemas + 1) few) (record {
+        schema = schema;
         reads = ap read reads;
         name = refl;
-        version = IsVersion-next (λ row. row.name) rows.schemas (row_of schema.0) schema.0.name
-            (IsSchema-from_bytes body schema.0 reads).named;
+        version = IsVersion-next (λ one. one.name) rows.schemas new schema.name
+            (IsSchema-from_bytes body schema reads).named;
       }))
 
   -- a new master
@@ -190,56 +182,35 @@ module _ (rows : Rows) (valid : AreValid rows) where
       → IsSoundMaking rows (record { change = change.Master row; act = act.Master; target = length rows.masters })
   IsSoundMaking-master row few good =
       let published : Published = record (published_of rows) { masters = rows.masters ++ row ∷ [] } in
-      let fits : Fits rows (change.Master row) = (omega arith, omega (arith, few)) in
-      record {
-        fits = fits;
-        valid = AreValid-published rows published valid (record {
-          schemas = Begins-same rows.schemas;
-          masters = Begins-push rows.masters row;
-          rulebooks = Begins-same rows.rulebooks;
-          editions = Begins-same rows.editions;
-          regions = Begins-same rows.regions;
-        }) (record {
-          schemas = stays _ rows.schemas;
-          masters = pushed (IsMasterRow published) rows.masters row good;
-          rulebooks = stays _ rows.rulebooks;
-          editions = stays _ rows.editions;
-          regions = stays _ rows.regions;
-        }) (AreTables-changed rows (change.Master row) fits valid.tables);
-        names = Begins-same (names_of rows.clerks);
-        own = λ place within. refl;
-        new = λ place behind within. absurd (omega (arith, behind, within));
-        is_done = record {
-          some = λ same. cc;
-          steward = λ first. tt;
-          clerk = λ behind. absurd (omega (arith, behind));
-          stands = omega (arith, length-append rows.masters (row ∷ []));
-        };
-      }
+      IsSoundMaking-published rows valid
+      (record { change = change.Master row; act = act.Master; target = length rows.masters })
+      (omega arith, omega (arith, few)) refl
+      (record {
+        schemas = stays _ rows.schemas;
+        masters = pushed (IsMasterRow published) rows.masters row good;
+        rulebooks = stays _ rows.rulebooks;
+        editions = stays _ rows.editions;
+        regions = stays _ rows.regions;
+      })
+      (record {
+        some = λ same. cc;
+        steward = λ first. tt;
+        clerk = λ behind. absurd (omega (arith, behind));
+        stands = omega (arith, length-append rows.masters (row ∷ []));
+      })
 
   pub IsSoundMaking-add_master : (name body : List ℕ) (making : Making)
       → Gives (making_of rows (AddMaster name body)) (Ok making) → IsSoundMaking rows making
   IsSoundMaking-add_master name body making gives =
-      let made_of : MasterRow → Making = λ row.
-      record { change = change.Master row; act = act.Master; target = length rows.masters } in
+      let (row, (_, named, (master, reads, (_, few, (_, cells, is_row)))), is) =
+      Met-Gives (making_of rows (AddMaster name body)) (Ok making) gives in
+      let made_of : MasterRow → Making = λ one.
+      record { change = change.Master one; act = act.Master; target = length rows.masters } in
       let new : MasterRow =
-      record { name = name; version = next_version (λ row. row.name) rows.masters name; body = body } in
-      let cells : Master → ℕ = λ master. master_cells rows.masters + cell_count master in
-      let counted : Master → Checked MasterRow = λ master. within which.MasterCells (cells master) >> done new in
-      let counting : Master → Checked MasterRow = λ master.
-      within which.Masters (length rows.masters + 1) >> counted master in
-      let row = Gives-bind_ok (master_row rows.masters name body) (λ row. done (made_of row)) making gives in
-      let named = Gives-bind_ok (tests.proper_name name) (λ _. value_or (read_sheet body) sheet_refusal >>= counting)
-      row.0
-      row.1 in
-      let master = Gives-bind_ok (value_or (read_sheet body) sheet_refusal) counting row.0 named.2 in
-      let few = Gives-bind_ok (within which.Masters (length rows.masters + 1)) (λ _. counted master.0) row.0 master.2 in
-      let last = Gives-bind_ok (within which.MasterCells (cells master.0)) (λ _. done new) row.0 few.2 in
-      let reads = value_or-ok (read_sheet body) sheet_refusal master.0 master.1 in
-      subst (IsSoundMaking rows) (sym
-      (done-value (made_of row.0) making row.2 ∙ ap made_of (done-value new row.0 last.2)))
-      (IsSoundMaking-master new (within-ok which.Masters (length rows.masters + 1) few.0 few.1) (record {
-        version = IsVersion-next (λ row. row.name) rows.masters new name (name-ok name named.0 named.1);
+      record { name = name; version = next_version (λ one. one.name) rows.masters name; body = body } in
+      subst (IsSoundMaking rows) (sym (is ∙ ap made_of is_row))
+      (IsSoundMaking-master new (few-stand which.Masters (length rows.masters + 1) few) (record {
+        version = IsVersion-next (λ one. one.name) rows.masters new name named;
         reads = rw reads refl;
       }))
 
@@ -250,76 +221,43 @@ module _ (rows : Rows) (valid : AreValid rows) where
       → IsSoundMaking rows (record { change = change.Rulebook row; act = act.Rulebook; target = length rows.rulebooks })
   IsSoundMaking-rulebook row few good =
       let published : Published = record (published_of rows) { rulebooks = rows.rulebooks ++ row ∷ [] } in
-      let fits : Fits rows (change.Rulebook row) = (omega arith, omega (arith, few)) in
-      record {
-        fits = fits;
-        valid = AreValid-published rows published valid (record {
-          schemas = Begins-same rows.schemas;
-          masters = Begins-same rows.masters;
-          rulebooks = Begins-push rows.rulebooks row;
-          editions = Begins-same rows.editions;
-          regions = Begins-same rows.regions;
-        }) (record {
-          schemas = stays _ rows.schemas;
-          masters = stays _ rows.masters;
-          rulebooks = pushed (IsRulebookRow published) rows.rulebooks row good;
-          editions = stays _ rows.editions;
-          regions = stays _ rows.regions;
-        }) (AreTables-changed rows (change.Rulebook row) fits valid.tables);
-        names = Begins-same (names_of rows.clerks);
-        own = λ place within. refl;
-        new = λ place behind within. absurd (omega (arith, behind, within));
-        is_done = record {
-          some = λ same. cc;
-          steward = λ first. tt;
-          clerk = λ behind. absurd (omega (arith, behind));
-          stands = omega (arith, length-append rows.rulebooks (row ∷ []));
-        };
-      }
+      IsSoundMaking-published rows valid
+      (record { change = change.Rulebook row; act = act.Rulebook; target = length rows.rulebooks })
+      (omega arith, omega (arith, few)) refl
+      (record {
+        schemas = stays _ rows.schemas;
+        masters = stays _ rows.masters;
+        rulebooks = pushed (IsRulebookRow published) rows.rulebooks row good;
+        editions = stays _ rows.editions;
+        regions = stays _ rows.regions;
+      })
+      (record {
+        some = λ same. cc;
+        steward = λ first. tt;
+        clerk = λ behind. absurd (omega (arith, behind));
+        stands = omega (arith, length-append rows.rulebooks (row ∷ []));
+      })
 
   pub IsSoundMaking-add_rulebook : (name schema : List ℕ) (version : ℕ) (body : List ℕ) (making : Making)
       → Gives (making_of rows (AddRulebook name schema version body)) (Ok making) → IsSoundMaking rows making
   IsSoundMaking-add_rulebook name schema_name version body making gives =
-      let made_of : RulebookRow → Making = λ row.
-      record { change = change.Rulebook row; act = act.Rulebook; target = length rows.rulebooks } in
-      let new : ℕ → RulebookRow = λ place. record {
+      let (row, (_, named, (place, found, (schema, stands, (rulebook, reads, (_, few, is_row))))), is) =
+      Met-Gives (making_of rows (AddRulebook name schema_name version body)) (Ok making) gives in
+      let made_of : RulebookRow → Making = λ one.
+      record { change = change.Rulebook one; act = act.Rulebook; target = length rows.rulebooks } in
+      let new : RulebookRow = record {
         name = name;
-        version = next_version (λ row. row.name) rows.rulebooks name;
+        version = next_version (λ one. one.name) rows.rulebooks name;
         schema = place;
         body = body;
       } in
-      let counted : ℕ → Checked RulebookRow = λ place.
-      within which.Rulebooks (length rows.rulebooks + 1) >> done (new place) in
-      let reading : ℕ → Schema → Checked RulebookRow = λ place schema.
-      value_or (read_rules body schema) rules_refusal >>= (λ rulebook. counted place) in
-      let over : ℕ → Checked RulebookRow = λ place.
-      certainly (schema_at (published_of rows) place) >>= reading place in
-      let row = Gives-bind_ok (rulebook_row (published_of rows) name schema_name version body)
-      (λ row. done (made_of row))
-      making gives in
-      let named = Gives-bind_ok (tests.proper_name name) (λ _. some_or (schema_named rows.schemas schema_name version)
-      (NoSuch kind.Schema) >>= over) row.0 row.1 in
-      let place = Gives-bind_ok (some_or (schema_named rows.schemas schema_name version) (NoSuch kind.Schema)) over
-      row.0
-      named.2 in
-      let schema = Gives-bind_ok (certainly (schema_at (published_of rows) place.0)) (reading place.0) row.0 place.2 in
-      let rulebook = Gives-bind_ok (value_or (read_rules body schema.0) rules_refusal) (λ rulebook. counted place.0)
-      row.0
-      schema.2 in
-      let few = Gives-bind_ok (within which.Rulebooks (length rows.rulebooks + 1)) (λ _. done (new place.0)) row.0
-      rulebook.2 in
-      let found = some_or-ok (schema_named rows.schemas schema_name version) (NoSuch kind.Schema) place.0 place.1 in
-      let is = certainly-ok (schema_at (published_of rows) place.0) schema.0 schema.1 in
-      let reads : IsSome (rules_over body schema.0) =
-      rw (value_or-ok (read_rules body schema.0) rules_refusal rulebook.0 rulebook.1) refl in
-      subst (IsSoundMaking rows) (sym (done-value (made_of row.0) making row.2
-      ∙ ap made_of (done-value (new place.0) row.0 few.2)))
-      (IsSoundMaking-rulebook (new place.0) (within-ok which.Rulebooks (length rows.rulebooks + 1) few.0 few.1)
-      (record {
-        version = IsVersion-next (λ row. row.name) rows.rulebooks (new place.0) name (name-ok name named.0 named.1);
-        schema = place_of-within (λ row. row.name) (λ row. row.version) rows.schemas schema_name version place.0
+      let reads_so : IsSome (rules_over body schema) = rw reads refl in
+      subst (IsSoundMaking rows) (sym (is ∙ ap made_of is_row))
+      (IsSoundMaking-rulebook new (few-stand which.Rulebooks (length rows.rulebooks + 1) few) (record {
+        version = IsVersion-next (λ one. one.name) rows.rulebooks new name named;
+        schema = place_of-within (λ one. one.name) (λ one. one.version) rows.schemas schema_name version place
             (record { name = []; version = 0; body = [] }) found;
-        reads = subst (λ one. IfSome one (λ schema. IsSome (rules_over body schema))) (sym is) reads;
+        reads = subst (λ one. IfSome one (λ schema. IsSome (rules_over body schema))) (sym stands) reads_so;
       }))
 
   -- a new clerk
@@ -384,19 +322,12 @@ module _ (rows : Rows) (valid : AreValid rows) where
   pub IsSoundMaking-add_clerk : (name : List ℕ) (making : Making) → Gives (making_of rows (AddClerk name)) (Ok making)
       → IsSoundMaking rows making
   IsSoundMaking-add_clerk name making gives =
-      let made_of : ClerkRow → Making = λ row.
-      record { change = change.Clerk (length rows.clerks) row; act = act.Clerk; target = length rows.clerks } in
+      let (row, (_, named, (_, free, (_, few, is_row))), is) =
+      Met-Gives (making_of rows (AddClerk name)) (Ok making) gives in
+      let made_of : ClerkRow → Making = λ one.
+      record { change = change.Clerk (length rows.clerks) one; act = act.Clerk; target = length rows.clerks } in
       let is_named : ClerkRow → Bool = λ clerk. bytes_eq clerk.name name in
-      let counted : Checked ClerkRow = within which.Clerks (length rows.clerks) >> done (new_clerk name) in
-      let row = Gives-bind_ok (clerk_row rows.clerks name) (λ row. done (made_of row)) making gives in
-      let named = Gives-bind_ok (tests.proper_name name) (λ _. unless (not (list_any is_named rows.clerks)) (Taken name)
-      >> counted) row.0 row.1 in
-      let free = Gives-bind_ok (unless (not (list_any is_named rows.clerks)) (Taken name)) (λ _. counted) row.0
-      named.2 in
-      let few = Gives-bind_ok (within which.Clerks (length rows.clerks)) (λ _. done (new_clerk name)) row.0 free.2 in
-      subst (IsSoundMaking rows) (sym (done-value (made_of row.0) making row.2
-      ∙ ap made_of (done-value (new_clerk name) row.0 few.2)))
-      (IsSoundMaking-clerk name (within-ok which.Clerks (length rows.clerks) few.0 few.1) (name-ok name named.0 named.1)
+      subst (IsSoundMaking rows) (sym (is ∙ ap made_of is_row))
+      (IsSoundMaking-clerk name (few-stand which.Clerks (length rows.clerks) few) named
       (λ index past inside same. not-any is_named rows.clerks
-      (unless-ok (not (list_any is_named rows.clerks)) (Taken name)
-      free.0 free.1) index past inside ((bytes_eq-Decides (get_or rows.clerks index past).name name).1 same)))
+      free index past inside ((bytes_eq-Decides (get_or rows.clerks index past).name name).1 same)))

@@ -27,6 +27,10 @@ use Rattle.desk_valid.specs.Valid.{AreValid}
 use Rattle.desk_valid.specs.Versions.{IsVersion}
 use Rattle.machine_core.specs.OwnRows.{AreOwnRows}
 use Rattle.machine_laws.proofs.Lists.{Begins, length-begins, slice_get-begins, slice_get-there, take-begins}
+use Rattle.machine_laws.proofs.Lists.{Begins-push, Begins-same}
+use Rattle.desk_words.specs.declared.change.Change.{Change}
+use Rattle.desk_words.specs.declared.change.Change.TheVariants as change
+use Rattle.desk_words.specs.Changes.{changed}
 
 -- each list begins with what was published before
 pub record AreMore (one other : Published) : Type 0 where
@@ -35,6 +39,53 @@ pub record AreMore (one other : Published) : Type 0 where
   pub rulebooks : Begins one.rulebooks other.rulebooks
   pub editions : Begins one.editions other.editions
   pub regions : Begins one.regions other.regions
+
+-- what was published stays
+pub AreMore-same : (published : Published) → AreMore published published
+AreMore-same published = record {
+  schemas = Begins-same published.schemas;
+  masters = Begins-same published.masters;
+  rulebooks = Begins-same published.rulebooks;
+  editions = Begins-same published.editions;
+  regions = Begins-same published.regions;
+}
+
+are_more : (one other : Published) → Begins one.schemas other.schemas → Begins one.masters other.masters
+    → Begins one.rulebooks other.rulebooks → Begins one.editions other.editions → Begins one.regions other.regions
+    → AreMore one other
+are_more one other schemas masters rulebooks editions regions = record {
+  schemas = schemas;
+  masters = masters;
+  rulebooks = rulebooks;
+  editions = editions;
+  regions = regions;
+}
+
+-- what was published begins what is published after a change
+pub AreMore-changed : (rows : Rows) (one : Change) → AreMore (published_of rows) (published_of (changed rows one))
+AreMore-changed rows (change.Clerk place row) = AreMore-same (published_of rows)
+AreMore-changed rows (change.Schema row) = are_more (published_of rows)
+    (published_of (changed rows (change.Schema row)))
+    (Begins-push rows.schemas row) (Begins-same rows.masters) (Begins-same rows.rulebooks) (Begins-same rows.editions)
+    (Begins-same rows.regions)
+AreMore-changed rows (change.Master row) = are_more (published_of rows)
+    (published_of (changed rows (change.Master row)))
+    (Begins-same rows.schemas) (Begins-push rows.masters row) (Begins-same rows.rulebooks) (Begins-same rows.editions)
+    (Begins-same rows.regions)
+AreMore-changed rows (change.Rulebook row) = are_more (published_of rows)
+    (published_of (changed rows (change.Rulebook row))) (Begins-same rows.schemas) (Begins-same rows.masters)
+    (Begins-push rows.rulebooks row) (Begins-same rows.editions) (Begins-same rows.regions)
+AreMore-changed rows (change.Edition row) = are_more (published_of rows)
+    (published_of (changed rows (change.Edition row)))
+    (Begins-same rows.schemas) (Begins-same rows.masters) (Begins-same rows.rulebooks) (Begins-push rows.editions row)
+    (Begins-same rows.regions)
+AreMore-changed rows (change.Region row) = are_more (published_of rows)
+    (published_of (changed rows (change.Region row)))
+    (Begins-same rows.schemas) (Begins-same rows.masters) (Begins-same rows.rulebooks) (Begins-same rows.editions)
+    (Begins-push rows.regions row)
+AreMore-changed rows (change.Session caller place row) = AreMore-same (published_of rows)
+AreMore-changed rows (change.Record caller row) = AreMore-same (published_of rows)
+AreMore-changed rows (change.Batch caller row) = AreMore-same (published_of rows)
 
 -- a version is the next of its name still
 IsVersion-more : {T : Type 0} (name_of : T → List ℕ) (rows others : List T) (begins : Begins rows others) (place : ℕ)

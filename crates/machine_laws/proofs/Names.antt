@@ -1,5 +1,5 @@
 -- Clerks are found by their names alone.
-use Rattle.std.proofs.Common.{◌≡◌, ◌∙◌, ℕ, zero, suc, ◌+◌, ◌<◌, ◌≤◌, Bool, true, false, cond, List, [], ◌∷◌, ◌++◌}
+use Rattle.std.proofs.Common.{◌≡◌, ◌∙◌, ℕ, zero, suc, ◌+◌, ◌<◌, ◌≤◌, Bool, true, false, cond, List, [], ◌∷◌, ◌++◌, Ok}
 use Rattle.std.proofs.Common.{length, get_or, drop, map, Option, Some, None, eqb, refl, sym, ap, arith}
 use Rattle.std.specs.Prelude.{nat_lt, not, option_map, position}
 use Rattle.std.specs.List.{position_or_len, prefix_len}
@@ -10,7 +10,7 @@ use Rattle.std.proofs.lemmas.List.Folds.{prefix_len-append}
 use Rattle.std.proofs.lemmas.Option.{cond_some}
 use Rattle.desk_words.specs.declared.refusal.Refusal.TheVariants.{NoClerk}
 use Rattle.desk_words.specs.declared.rows.clerk.ClerkRow.{ClerkRow}
-use Rattle.machine_core.specs.Checked.{Checked, done, some_or}
+use Rattle.machine_core.specs.Checked.{Checked, some_or, IsFound, run, told}
 use Rattle.machine_core.specs.Machine.{clerk_of}
 use Rattle.machine_laws.proofs.Callers.{names_of}
 use Rattle.machine_laws.proofs.Lists.{Begins}
@@ -83,41 +83,43 @@ abbrev clerk_in : List (List ℕ) → List ℕ → Checked ℕ
 clerk_in names name =
     some_or (option_map (λ place. place + 1) (position (λ one. bytes_eq one name) (drop 1 names))) NoClerk
 
-clerk_of-names : (clerks : List ClerkRow) (name : List ℕ) → clerk_of clerks name ≡ clerk_in (names_of clerks) name
+clerk_of-names : (clerks : List ClerkRow) (name : List ℕ) → run (clerk_of clerks name)
+    ≡ run (clerk_in (names_of clerks) name)
 clerk_of-names clerks name =
     let name_in : ClerkRow → List ℕ = λ clerk. clerk.name in
     let found : position (λ one. bytes_eq one name) (drop 1 (names_of clerks))
     ≡ position (λ (clerk : ClerkRow). bytes_eq clerk.name name) (drop 1 clerks) =
     ap (position (λ one. bytes_eq one name)) (drop-map name_in 1 clerks)
     ∙ position-map (λ one. bytes_eq one name) name_in (drop 1 clerks) in
-    ap (λ place. some_or (option_map (λ one. one + 1) place) NoClerk) (sym found)
+    ap (λ place. run (some_or (option_map (λ one. one + 1) place) NoClerk)) (sym found)
 
 -- where the names are the same, each clerk is where it was
 pub clerk_of-same : (clerks others : List ClerkRow) (name : List ℕ) → names_of others ≡ names_of clerks
-    → clerk_of others name ≡ clerk_of clerks name
+    → run (clerk_of others name) ≡ run (clerk_of clerks name)
 clerk_of-same clerks others name same =
-    clerk_of-names others name ∙ ap (λ names. clerk_in names name) same ∙ sym (clerk_of-names clerks name)
+    clerk_of-names others name ∙ ap (λ names. run (clerk_in names name)) same ∙ sym (clerk_of-names clerks name)
 
 -- what was found was there
-pub found-place : (place : ℕ) (found : Option ℕ) → some_or (option_map (λ one. one + 1) found) NoClerk ≡ done place
+pub found-place : (place : ℕ) (found : Option ℕ) → IsFound (some_or (option_map (λ one. one + 1) found) NoClerk) place
     → (first : ℕ) × (found ≡ Some first) × (first + 1 ≡ place)
 found-place place None is = absurd (cc)
 found-place place (Some first) is = (first, refl, cc)
 
 clerk_in-begins : (names others : List (List ℕ)) (name : List ℕ) (place : ℕ) → Begins names others
-    → clerk_in names name ≡ done place → clerk_in others name ≡ done place
+    → IsFound (clerk_in names name) place → IsFound (clerk_in others name) place
 clerk_in-begins [] others name place begins is = absurd (cc)
 clerk_in-begins (first ∷ names) others name place begins is =
     let test : List ℕ → Bool = λ one. bytes_eq one name in
     let found = found-place place (position test names) is in
     let longer : position test (names ++ begins.0) ≡ Some found.0 =
     position-append test names begins.0 found.0 found.1 in
-    ap (λ list. clerk_in list name) begins.1
-    ∙ ap (λ one. some_or (option_map (λ one. one + 1) one) NoClerk) longer ∙ ap (λ one. done one) found.2
+    ap (λ list. run (clerk_in list name)) begins.1
+    ∙ ap (λ one. run (some_or (option_map (λ one. one + 1) one) NoClerk)) longer ∙ ap (λ one. told (Ok one)) found.2
 
 -- a clerk who is found stays where clerks come behind
 pub clerk_of-begins : (clerks others : List ClerkRow) (name : List ℕ) (place : ℕ)
-    → Begins (names_of clerks) (names_of others) → clerk_of clerks name ≡ done place → clerk_of others name ≡ done place
+    → Begins (names_of clerks) (names_of others) → IsFound (clerk_of clerks name) place
+    → IsFound (clerk_of others name) place
 clerk_of-begins clerks others name place begins is =
     clerk_of-names others name
     ∙ clerk_in-begins (names_of clerks) (names_of others) name place begins (sym (clerk_of-names clerks name) ∙ is)

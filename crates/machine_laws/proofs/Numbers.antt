@@ -14,7 +14,7 @@ use Rattle.desk_words.specs.declared.rows.clerk.ClerkRow.{ClerkRow}
 use Rattle.desk_words.specs.Changes.{changed_all}
 use Rattle.desk_words.specs.Tables.{Rows, published_of}
 use Rattle.desk_valid.specs.Valid.{AreValid}
-use Rattle.machine_core.specs.Checked.{done, ◌>>=◌, Gives}
+use Rattle.machine_core.specs.Checked.{done, ◌>>=◌, Gives, IsFound, ComesTo, run}
 use Rattle.machine_core.specs.Machine.{IsStep, answered, changes_if, clerk_of, clerk_write, clerk_write_at, machine}
 use Rattle.machine_core.specs.Machine.{steward_write}
 use Rattle.machine_core.specs.Own.{Own, own_of}
@@ -63,14 +63,14 @@ accepted-some event is = has_changes-some event.changes is
 -- a caller has used the numbers up to this one
 pub record HasUsed (rows : Rows) (caller : Caller) (number : ℕ) : Type 0 where
   pub place : ℕ
-  pub found : place_of rows caller ≡ done place
+  pub found : IsFound (place_of rows caller) place
   pub used : number ≤ (own_of rows place).row.last
 
 module _ (rows : Rows) (valid : AreValid rows) (command : Command) (answer : Reply) (changes : List Change)
     (step : IsStep rows command answer changes) where
   -- an accepted write has the number behind the last one, and is the last one then
   pub number-next : (caller : Caller) (place : ℕ) → changes ≢ [] → asks caller command ≡ true
-      → place_of rows caller ≡ done place
+      → IsFound (place_of rows caller) place
       → (number_of command ≡ (own_of rows place).row.last + 1)
       × ((own_of (changed_all rows changes) place).row.last ≡ number_of command)
   number-next caller place some asked_it found =
@@ -83,7 +83,7 @@ module _ (rows : Rows) (valid : AreValid rows) (command : Command) (answer : Rep
       × ((own_of (changed_all rows changes) one).row.last ≡ number_of command)) same
       (is.number ∙ number, last ∙ sym is.number)
     where
-      same_place : {one other : ℕ} → done one ≡ done other → one ≡ other
+      same_place : {one other : ℕ} → IsFound (done one) other → one ≡ other
       same_place is = cc
 
   -- and it is used then
@@ -140,13 +140,13 @@ module _ (rows : Rows) (valid : AreValid rows) (command : Command) (answer : Rep
 
 -- a number that is passed is stale
 stale-result : (rows : Rows) (caller : Caller) (command : Command) (place : ℕ) → asks caller command ≡ true
-    → place_of rows caller ≡ done place → number_of command < (own_of rows place).row.last → 1 ≤ number_of command
+    → IsFound (place_of rows caller) place → number_of command < (own_of rows place).row.last → 1 ≤ number_of command
     → Gives (machine rows command) (Err (Stale (own_of rows place).row.last))
 stale-result rows steward (Steward ticket work) place asked_it found less some =
     let first : place ≡ 0 = cc in
     let Refused : ℕ → Type 0 = λ one. Gives (use_of (own_of rows one).row ticket)
     (Err (Stale (own_of rows one).row.last)) in
-    let stale : Refused place = subst (λ one. Gives one (Err (Stale (own_of rows place).row.last)))
+    let stale : Refused place = subst (λ one. ComesTo one (Err (Stale (own_of rows place).row.last)))
     (sym (use-stale (own_of rows place).row ticket less)) refl in
     subst (λ one. Gives (machine rows (Steward ticket work)) (Err (Stale (own_of rows one).row.last))) (sym first)
     (Gives-bind_refused (use_of (own_of rows 0).row ticket) (steward_write rows ticket work)
@@ -158,11 +158,11 @@ stale-result rows steward (DeskDerive edition version master pairs) place asked_
 stale-result rows (clerk named) (Steward ticket work) place asked_it found less some = absurd (cc)
 stale-result rows (clerk named) (Clerk name ticket work) place asked_it found less some =
     let same : name ≡ named = (bytes_eq-Decides name named).0 asked_it in
-    let there : Gives (clerk_of rows.clerks name) (Ok place) = subst (λ one. Gives one (Ok place))
-    (sym (ap (clerk_of rows.clerks) same ∙ found)) refl in
+    let there : Gives (clerk_of rows.clerks name) (Ok place) = subst (λ one. ComesTo one (Ok place))
+    (sym (ap (λ one. run (clerk_of rows.clerks one)) same ∙ found)) refl in
     let own : Own = own_of rows place in
     let stale : Gives (use_of own.row ticket) (Err (Stale own.row.last)) =
-    subst (λ one. Gives one (Err (Stale own.row.last))) (sym (use-stale own.row ticket less)) refl in
+    subst (λ one. ComesTo one (Err (Stale own.row.last))) (sym (use-stale own.row ticket less)) refl in
     let refused_it : Gives (clerk_write (published_of rows) own ticket work) (Err (Stale own.row.last)) =
     Gives-bind_refused (use_of own.row ticket) (clerk_write_at (published_of rows) own work) (Stale own.row.last)
     stale in

@@ -1,5 +1,5 @@
 -- A chain of tests comes to a result where its parts do.
-use Rattle.std.proofs.Common.{◌≡◌, ◌++◌, ℕ, Bool, true, false, List, [], ◌∷◌, Option, Some, None, refl, sym, subst}
+use Rattle.std.proofs.Common.{◌≡◌, ◌++◌, ℕ, Bool, true, false, List, [], ◌∷◌, Option, Some, None, refl}
 use Rattle.std.specs.Prelude.{All, IsSomeAnd, Result, Ok, Err, nat_le}
 use Rattle.std.proofs.lemmas.List.Elements.{All-head, All-tail}
 use Rattle.desk_base.specs.Grid.{GridRows}
@@ -20,7 +20,7 @@ use Rattle.machine_core.specs.Checked.{Checked, done, ◌>>=◌, advice_for, ans
 use Rattle.machine_core.specs.Checked.{each_behind, explanation_for, refused, rows_for, some_or, unless, value_or}
 use Rattle.machine_core.specs.Checked.{Gives}
 use Rattle.machine_core.specs.Limits.{limit_of, within}
-use Rattle.machine_core.proofs.Chains.{Gives-bind, Gives-bind_refused}
+use Rattle.machine_core.proofs.Chains.{Gives-bind, Gives-bind_refused, Gives-found}
 use Rattle.machine_core.proofs.Tested.{certainly-some}
 use Rattle.machine_laws.proofs.Answering.{some-answer}
 use Rattle.machine_laws.proofs.Comparing.{some-changes}
@@ -55,19 +55,19 @@ outcome-bind {A} {B} {checked} {next} first rest = by_outcome first.outcome firs
 
 -- a test that passes or fails
 pub outcome-unless : (test : Bool) (refusal : Refusal) → HasOutcome (unless test refusal)
-outcome-unless true refusal = outcome-done tt
-outcome-unless false refusal = outcome-refused refusal
+outcome-unless true refusal = record { outcome = Ok tt; gives = refl }
+outcome-unless false refusal = record { outcome = Err refusal; gives = refl }
 
 -- where there is one, or there is none
 pub outcome-some_or : {A : Type 0} (option : Option A) (refusal : Refusal) → HasOutcome (some_or option refusal)
-outcome-some_or None refusal = outcome-refused refusal
-outcome-some_or (Some found) refusal = outcome-done found
+outcome-some_or None refusal = record { outcome = Err refusal; gives = refl }
+outcome-some_or (Some found) refusal = record { outcome = Ok found; gives = refl }
 
 -- where there is a fault, or none
 pub outcome-value_or : {A E : Type 0} (result : Result A E) (refusal_of : E → Refusal)
     → HasOutcome (value_or result refusal_of)
-outcome-value_or (Ok value) refusal_of = outcome-done value
-outcome-value_or (Err fault) refusal_of = outcome-refused (refusal_of fault)
+outcome-value_or (Ok value) refusal_of = record { outcome = Ok value; gives = refl }
+outcome-value_or (Err fault) refusal_of = record { outcome = Err (refusal_of fault); gives = refl }
 
 -- no more than may stand, or more
 pub outcome-within : (which : Which) (count : ℕ) → HasOutcome (within which count)
@@ -86,7 +86,8 @@ pub ruleset plain_tests = (
 -- what is known to be there
 pub outcome-certainly : {A : Type 0} (option : Option A) (found : A) → option ≡ Some found
     → HasOutcome (certainly option)
-outcome-certainly option found is = subst HasOutcome (sym (certainly-some option found is)) (outcome-done found)
+outcome-certainly option found is =
+    record { outcome = Ok found; gives = Gives-found (certainly option) found (certainly-some option found is) }
 
 -- a list, where each item has one
 pub outcome-each : {A B : Type 0} (Q : A → Type 0) (find : A → Checked B) (items : List A) → All Q items

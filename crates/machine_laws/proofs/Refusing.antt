@@ -1,7 +1,8 @@
 -- Each refusal of the machine has its cause.
 use Rattle.std.proofs.Common.{◌≡◌, ◌≢◌, ◌∙◌, ℕ, ◌+◌, ◌-◌, ◌<◌, Bool, true, false, List, [], length, get_or, drop, take}
+use Rattle.std.proofs.Common.{nat_le}
 use Rattle.std.proofs.Common.{Option, Some, None, inl, inr, refl, sym, ap, subst, arith}
-use Rattle.std.specs.Prelude.{◌==◌, All, Result, Ok, Err, ⊤, filter, flat_map, if◌then◌else◌, nat_lt, option_map}
+use Rattle.std.specs.Prelude.{◌==◌, All, Result, Ok, Err, ⊤, filter, flat_map, if◌then◌else◌, option_map}
 use Rattle.std.specs.Prelude.{position, slice_get}
 use Rattle.std.specs.List.{range_with_len}
 use Rattle.std.specs.Str.{bytes_eq}
@@ -54,12 +55,11 @@ use Rattle.machine_core.specs.Tests.{active_session, session_of}
 use Rattle.machine_core.specs.Views.{view_of}
 use Rattle.machine_core.specs.declared.ticket.Use.{Use}
 use Rattle.machine_core.specs.declared.ticket.Use.TheVariants.{Fresh, Repeated}
-use Rattle.machine_core.specs.Ticket.{use_of}
-use Rattle.machine_core.proofs.Chains.{Gives-bind_ok, done-value, refused-refusal}
+use Rattle.machine_core.specs.Ticket.{use_of, use_at}
+use Rattle.machine_core.proofs.Chains.{Gives-bind_ok, done-value}
 use Rattle.machine_core.proofs.Tested.{certainly-why, chain-why, done-why, each-why, some_or-why, unless-why}
 use Rattle.machine_core.specs.OwnRows.{HasOwnTarget}
 use Rattle.machine_laws.proofs.Accepted.{deed-sound}
-use Rattle.machine_laws.proofs.Again.{use_at}
 use Rattle.machine_laws.proofs.DerivingWhy.{derivation-why, derived_rows-why}
 use Rattle.machine_laws.proofs.Lists.{slice_get-read, slice_get-there}
 use Rattle.machine_laws.proofs.Names.{none-passes}
@@ -81,7 +81,7 @@ report-why P published clerk sessions = chain-why P (each (report_line published
     (range_with_len 0 (length published.editions))) _ (each-why P (report_line published sessions)
     (range_with_len 0 (length published.editions)) (λ edition listed.
     let ones : List SessionRow = filter (λ session. session.edition == edition) sessions in
-    chain-why P (each (assessment_of published) ones) (λ all. done (line_over published edition all))
+    chain-why P (each (assessment_of published) ones) _
     (each-why P (assessment_of published) ones (λ session there. assessment-why P published session))
     (λ all ok. done-why P (line_over published edition all))))
     (λ lines ok. done-why P _)
@@ -203,28 +203,26 @@ number-why : (P : Refusal → Type 0) (row : ClerkRow) (ticket : Ticket) → (ti
     → (row.last + 1 < ticket.number → P (Gap row.last))
     → (ticket.number ≡ row.last → row.digest.bytes ≢ ticket.digest.bytes → P (Reused row.last)) → (refusal : Refusal)
     → Gives (use_of row ticket) (Err refusal) → P refusal
-number-why P row ticket stale gap reused = tests (nat_lt ticket.number row.last) (nat_lt (row.last + 1) ticket.number)
-    (ticket.number == row.last) refl refl refl
+number-why P row ticket stale gap reused =
+    chain-why P (unless (nat_le row.last ticket.number) (Stale row.last)) _
+    (unless-why P (nat_le row.last ticket.number) (Stale row.last) (λ fails.
+    stale (grind (arith, nat_tests, fails)))) (λ _ _.
+    chain-why P (unless (nat_le ticket.number (row.last + 1)) (Gap row.last)) _
+    (unless-why P (nat_le ticket.number (row.last + 1)) (Gap row.last) (λ fails.
+    gap (grind (arith, nat_tests, fails)))) (λ _ _.
+    last_or_next (ticket.number == row.last) refl))
   where
-    tests : (one two three : Bool) → nat_lt ticket.number row.last ≡ one → nat_lt (row.last + 1) ticket.number ≡ two
-        → (ticket.number == row.last) ≡ three → (refusal : Refusal) → Gives (use_at one two three row ticket)
-        (Err refusal)
-        → P refusal
-    tests true two three is is_too is_last refusal gives =
-        subst P (sym (refused-refusal (Stale row.last) refusal gives))
-        (stale (grind (arith, nat_tests, is)))
-    tests false true three is is_too is_last refusal gives =
-        subst P (sym (refused-refusal (Gap row.last) refusal gives))
-        (gap (grind (arith, nat_tests, is_too)))
-    tests false false true is is_too is_last refusal gives =
-        chain-why P (unless (bytes_eq row.digest.bytes ticket.digest.bytes) (Reused row.last)) (λ _. done Repeated)
+    differ : {passes : Bool} → passes ≡ true → passes ≡ false → ⊥
+    differ holds fails = (let both : true ≡ false = sym holds ∙ fails in cc)
+
+    last_or_next : (same : Bool) → (ticket.number == row.last) ≡ same → (refusal : Refusal)
+        → Gives (use_at same row ticket) (Err refusal) → P refusal
+    last_or_next true is =
+        chain-why P (unless (bytes_eq row.digest.bytes ticket.digest.bytes) (Reused row.last)) _
         (unless-why P (bytes_eq row.digest.bytes ticket.digest.bytes) (Reused row.last) (λ fails.
-        reused (grind (arith, nat_tests, is_last)) (λ same. differ ((bytes_eq-Decides row.digest.bytes
-        ticket.digest.bytes).1 same) fails))) (λ passed ok. done-why P Repeated) refusal gives
-      where
-        differ : {told : Bool} → told ≡ true → told ≡ false → ⊥
-        differ holds fails = (let both : true ≡ false = sym holds ∙ fails in cc)
-    tests false false false is is_too is_last refusal gives = done-why P Fresh refusal gives
+        reused (grind (arith, nat_tests, is)) (λ same. differ ((bytes_eq-Decides row.digest.bytes
+        ticket.digest.bytes).1 same) fails))) (λ passed ok. done-why P Repeated)
+    last_or_next false is = done-why P Fresh
 
 -- no clerk has the name
 clerk-why : (P : Refusal → Type 0) (clerks : List ClerkRow) (name : List ℕ)
@@ -396,37 +394,31 @@ module _ (rows : Rows) (valid : AreValid rows) where
       chain-why P (derived_rows (published_of rows) derivation) _ (derived_rows-why P (published_of rows) derivation)
       (λ all ok. done-why P _))) (λ sheet ok. done-why P _)
 
--- what is given is no refusal
+-- what is made of a value is no refusal
+told-not_refused : {A : Type 0} (checked : Checked A) (tell : A → Reply) (refusal : Refusal)
+    → ((value : A) → tell value ≢ reply.Refused refusal)
+    → Gives (checked >>= (λ value. done (tell value))) (Ok (reply.Refused refusal)) → ⊥
+told-not_refused checked tell refusal apart gives =
+    let (value, given, same) = Gives-bind_ok checked (λ value. done (tell value)) (reply.Refused refusal) gives in
+    apart value (sym (done-value (tell value) (reply.Refused refusal) same))
+
+-- what a look gives is no refusal
 look-not_refused : (published : Published) (own : Own) (look : LookOf) (refusal : Refusal)
     → Gives (look_reply published own look) (Ok (reply.Refused refusal)) → ⊥
-look-not_refused published own (View number) refusal gives =
-    let view = Gives-bind_ok (view_at published own number) _ (reply.Refused refusal) gives in
-    let same = done-value (reply.View view.0) (reply.Refused refusal) view.2 in
-    cc
-look-not_refused published own (Suggest number) refusal gives =
-    let suggested = Gives-bind_ok (suggestion_of published own number) _ (reply.Refused refusal) gives in
-    let same = done-value (reply.Suggested suggested.0) (reply.Refused refusal) suggested.2 in
-    cc
-look-not_refused published own (Preview number cells) refusal gives =
-    let view = Gives-bind_ok (preview published own number cells) _ (reply.Refused refusal) gives in
-    let same = done-value (reply.View view.0) (reply.Refused refusal) view.2 in
-    cc
-look-not_refused published own Report refusal gives =
-    let sheet = Gives-bind_ok (report_of published (Some own.row.name) own.sessions) _ (reply.Refused refusal) gives in
-    let same = done-value (reply.Report sheet.0) (reply.Refused refusal) sheet.2 in
-    cc
-look-not_refused published own (Records edition version) refusal gives =
-    let sheet = Gives-bind_ok (records_of published own edition version) _ (reply.Refused refusal) gives in
-    let same = done-value (reply.Records sheet.0) (reply.Refused refusal) sheet.2 in
-    cc
-look-not_refused published own (Explain number word) refusal gives =
-    let explained = Gives-bind_ok (explain published own number word) _ (reply.Refused refusal) gives in
-    let same = done-value (reply.Explained explained.0) (reply.Refused refusal) explained.2 in
-    cc
-look-not_refused published own (CarryLook number version) refusal gives =
-    let carried = Gives-bind_ok (carrying published own number version) _ (reply.Refused refusal) gives in
-    let same = done-value (reply.Carried carried.0) (reply.Refused refusal) carried.2 in
-    cc
+look-not_refused published own (View number) refusal =
+    told-not_refused (view_at published own number) reply.View refusal (λ value same. cc)
+look-not_refused published own (Suggest number) refusal =
+    told-not_refused (suggestion_of published own number) reply.Suggested refusal (λ value same. cc)
+look-not_refused published own (Preview number cells) refusal =
+    told-not_refused (preview published own number cells) reply.View refusal (λ value same. cc)
+look-not_refused published own Report refusal =
+    told-not_refused (report_of published (Some own.row.name) own.sessions) reply.Report refusal (λ value same. cc)
+look-not_refused published own (Records edition version) refusal =
+    told-not_refused (records_of published own edition version) reply.Records refusal (λ value same. cc)
+look-not_refused published own (Explain number word) refusal =
+    told-not_refused (explain published own number word) reply.Explained refusal (λ value same. cc)
+look-not_refused published own (CarryLook number version) refusal =
+    told-not_refused (carrying published own number version) reply.Carried refusal (λ value same. cc)
 
 made-not_refused : (rows : Rows) (command : Command) (made : Reply × List Change) (refusal : Refusal)
     → Gives (machine rows command) (Ok made) → made.0 ≡ reply.Refused refusal → ⊥

@@ -1,9 +1,8 @@
 -- A new region is good where it is put.
 use Rattle.std.proofs.Common.{◌≡◌, ◌∙◌, ℕ, ◌+◌, ◌<◌, ◌≤◌, ◌*◌, ◌^◌, Bool, true, cond, List, [], ◌∷◌, ◌++◌, length}
-use Rattle.std.proofs.Common.{get_or, map, take, suc, inl, inr, refl, sym, ap, subst, arith}
+use Rattle.std.proofs.Common.{get_or, map, take, suc, refl, sym, ap, subst, arith}
 use Rattle.std.specs.Prelude.{◌==◌, All, IfSome, Ok, count_by, zip}
 use Rattle.std.specs.List.{range_with_len}
-use Rattle.std.proofs.lemmas.Bool.{cases_lt}
 use Rattle.std.proofs.lemmas.Bool.Decides.{nat_tests}
 use Rattle.std.proofs.lemmas.List.{length-append, length-map, take_at, take-take}
 use Rattle.std.proofs.lemmas.List.Elements.{All-cons, All-nil, All-weaker}
@@ -12,35 +11,29 @@ use Rattle.std.proofs.lemmas.List.Sums.{count_by_more_yes, sum_by-take-le}
 use Rattle.std.proofs.lemmas.Slice.Zip.{length-zip}
 use Rattle.desk_words.specs.declared.change.Change.TheVariants as change
 use Rattle.desk_words.specs.declared.limit.Which.TheVariants as which
-use Rattle.desk_words.specs.declared.refusal.Kind.TheVariants as kind
-use Rattle.desk_words.specs.declared.refusal.Refusal.TheVariants.{NoSuch, RowWidth, UnknownAttr}
+use Rattle.desk_words.specs.declared.refusal.Refusal.TheVariants.{RowWidth, UnknownAttr}
 use Rattle.desk_words.specs.declared.rows.act.Act.TheVariants as act
 use Rattle.desk_words.specs.declared.rows.region.RegionRow.{RegionRow}
 use Rattle.desk_words.specs.declared.steward_work.StewardWork.TheVariants.{AddRegion}
-use Rattle.desk_words.specs.Changes.{Fits}
 use Rattle.desk_words.specs.Tables.{Published, Rows, published_of}
-use Rattle.desk_words.proofs.Changes.{AreTables-changed}
-use Rattle.desk_valid.specs.declared.bound.Bound.{Bound}
-use Rattle.desk_valid.specs.Bindings.{bound_at}
 use Rattle.desk_valid.specs.Rows.Region.{IsRegionRow}
 use Rattle.desk_valid.specs.Valid.{AreValid}
-use Rattle.machine_core.specs.Checked.{Checked, ◌>>=◌, ◌>>◌, certainly, done, each, each_behind, some_or, unless, Gives}
-use Rattle.machine_core.specs.Finding.{edition_named}
+use Rattle.machine_core.specs.Checked.{◌>>=◌, done, each, each_behind, unless, Gives}
 use Rattle.machine_core.specs.Limits.{within}
 use Rattle.machine_core.specs.Machine.{making_of}
 use Rattle.machine_core.specs.declared.making.Making.{Making}
-use Rattle.machine_core.specs.Steward.AddRegion.{full_row, full_rows, region_count, region_row, short_text}
+use Rattle.machine_core.specs.Steward.AddRegion.{full_row, full_rows, region_count, short_text}
 use Rattle.machine_core.specs.Tests.{another_attribute}
 use Rattle.machine_core.proofs.Chains.{Gives-bind_ok, done-value}
 use Rattle.machine_core.proofs.Distinct.{AreDistinct, another-place, no-places}
-use Rattle.machine_core.proofs.Tested.{certainly-ok, each-length, each_behind-all, each_behind-length, unless-ok}
-use Rattle.machine_core.proofs.Tested.{within-ok}
-use Rattle.machine_laws.proofs.Callers.{names_of}
-use Rattle.machine_laws.proofs.Lists.{Begins-push, Begins-same, pushed, slice_get-read, slice_get-there}
-use Rattle.machine_laws.proofs.Makings.{IsSoundMaking, stays}
+use Rattle.machine_core.proofs.Tested.{each-length, each_behind-all, each_behind-length, unless-ok}
+use Rattle.machine_laws.proofs.Lists.{pushed, slice_get-read, slice_get-there}
+use Rattle.machine_laws.proofs.Makings.{IsSoundMaking, stays, IsSoundMaking-published}
 use Rattle.machine_laws.proofs.Sessions.{distinct-below}
-use Rattle.machine_laws.proofs.Valid.{AreValid-published}
 use Rattle.machine_core.proofs.Widths.{edition-stands, width-bound}
+use Rattle.machine_core.proofs.Walks.{Met-Gives, Gives-Met}
+use Rattle.machine_core.proofs.Commands.{few-stand}
+use Rattle.desk_valid.proofs.Few.{editions-few}
 
 -- each row has a text for each attribute, and there are as many as were given
 full_rows-ok : (attributes : List (List ℕ)) (number : ℕ) (rows found : List (List (List ℕ)))
@@ -81,40 +74,21 @@ module _ (rows : Rows) (valid : AreValid rows) where
       → IsSoundMaking rows (record { change = change.Region row; act = act.Region; target = length rows.regions })
   IsSoundMaking-region row few good =
       let published : Published = record (published_of rows) { regions = rows.regions ++ row ∷ [] } in
-      let fits : Fits rows (change.Region row) = (omega arith, few) in
-      record {
-        fits = fits;
-        valid = AreValid-published rows published valid (record {
-          schemas = Begins-same rows.schemas;
-          masters = Begins-same rows.masters;
-          rulebooks = Begins-same rows.rulebooks;
-          editions = Begins-same rows.editions;
-          regions = Begins-push rows.regions row;
-        }) (record {
-          schemas = stays _ rows.schemas;
-          masters = stays _ rows.masters;
-          rulebooks = stays _ rows.rulebooks;
-          editions = stays _ rows.editions;
-          regions = pushed (IsRegionRow published) rows.regions row good;
-        }) (AreTables-changed rows (change.Region row) fits valid.tables);
-        names = Begins-same (names_of rows.clerks);
-        own = λ place within. refl;
-        new = λ place behind within. absurd (omega (arith, behind, within));
-        is_done = record {
-          some = λ same. cc;
-          steward = λ first. tt;
-          clerk = λ behind. absurd (omega (arith, behind));
-          stands = omega (arith, length-append rows.regions (row ∷ []));
-        };
-      }
-
-  -- there are no more than 64 editions
-  editions-few : length rows.editions ≤ 64
-  editions-few = elim (cases_lt 64 (length rows.editions)) [
-    | inl many ↦ (let past = slice_get-there rows.editions 64 many in
-        absurd (omega (arith, (valid.editions 64 past.0 past.1).few)))
-    | inr few ↦ few
-  ]
+      IsSoundMaking-published rows valid
+      (record { change = change.Region row; act = act.Region; target = length rows.regions }) (omega arith, few) refl
+      (record {
+        schemas = stays _ rows.schemas;
+        masters = stays _ rows.masters;
+        rulebooks = stays _ rows.rulebooks;
+        editions = stays _ rows.editions;
+        regions = pushed (IsRegionRow published) rows.regions row good;
+      })
+      (record {
+        some = λ same. cc;
+        steward = λ first. tt;
+        clerk = λ behind. absurd (omega (arith, behind));
+        stands = omega (arith, length-append rows.regions (row ∷ []));
+      })
 
   -- a number for each region: eight for each edition
   abbrev no_region : RegionRow
@@ -184,7 +158,7 @@ module _ (rows : Rows) (valid : AreValid rows) where
             let is : get_or (map number places) index past ≡ number index = get_or-map-range_with_len number 0
             (length rows.regions) index index past within (omega arith) in
             let good = region-good index within in
-            omega (arith, is, good.0, good.1, editions-few)),
+            omega (arith, is, good.0, good.1, editions-few rows valid)),
       )
     where
       apart : (i j : ℕ) → i < j → j < length rows.regions
@@ -200,53 +174,30 @@ module _ (rows : Rows) (valid : AreValid rows) where
       → Gives (making_of rows (AddRegion edition version attributes texts)) (Ok making) → IsSoundMaking rows making
   IsSoundMaking-add_region name version attributes texts making gives =
       let published : Published = published_of rows in
-      let made_of : RegionRow → Making = λ row.
-      record { change = change.Region row; act = act.Region; target = length rows.regions } in
-      let new : ℕ → List ℕ → List (List (List ℕ)) → RegionRow = λ edition places full.
-      record { edition = edition; region = record { attrs = places; rows = full } } in
-      let counted : ℕ → RegionRow → Checked RegionRow = λ edition row.
-      within which.Regions (region_count rows.regions edition + 1) >> done row in
-      let filling : ℕ → List ℕ → Checked RegionRow = λ edition places.
-      full_rows attributes 1 texts >>= (λ full. counted edition (new edition places full)) in
-      let fewer : ℕ → List ℕ → Checked RegionRow = λ edition places.
-      within which.RegionRows (length texts) >> filling edition places in
-      let placing : ℕ → Bound → Checked RegionRow = λ edition bound.
-      each_behind [] (another_attribute bound.names.attributes) attributes >>= fewer edition in
-      let over : ℕ → Checked RegionRow = λ edition. certainly (bound_at published edition) >>= placing edition in
-      let row = Gives-bind_ok (region_row published name version attributes texts) (λ row. done (made_of row)) making
-      gives in
-      let edition = Gives-bind_ok (some_or (edition_named rows.editions name version) (NoSuch kind.Edition)) over row.0
-      row.1 in
-      let bound = Gives-bind_ok (certainly (bound_at published edition.0)) (placing edition.0) row.0 edition.2 in
-      let words : List (List ℕ) = bound.0.names.attributes in
-      let places = Gives-bind_ok (each_behind [] (another_attribute words) attributes) (fewer edition.0) row.0
-      bound.2 in
-      let few_rows = Gives-bind_ok (within which.RegionRows (length texts)) (λ _. filling edition.0 places.0) row.0
-      places.2 in
-      let full = Gives-bind_ok (full_rows attributes 1 texts) (λ full. counted edition.0 (new edition.0 places.0 full))
-      row.0
-      few_rows.2 in
-      let made : RegionRow = new edition.0 places.0 full.0 in
-      let few = Gives-bind_ok (within which.Regions (region_count rows.regions edition.0 + 1)) (λ _. done made) row.0
-      full.2 in
-      let binds = certainly-ok (bound_at published edition.0) bound.0 bound.1 in
-      let distinct : AreDistinct (length words) places.0 = each_behind-all (AreDistinct (length words))
-      (another_attribute words) attributes [] places.0 (λ before word place are found. another-place words before word
-      (UnknownAttr word) place are found) (no-places (length words)) places.1 in
-      let as_many : length attributes ≡ length places.0 =
-      omega (arith, each_behind-length (another_attribute words) attributes [] places.0 places.1) in
-      let whole = full_rows-ok attributes 1 texts full.0 full.1 in
-      let few_it = within-ok which.Regions (region_count rows.regions edition.0 + 1) few.0 few.1 in
-      subst (IsSoundMaking rows) (sym
-      (done-value (made_of row.0) making row.2 ∙ ap made_of (done-value made row.0 few.2)))
+      let (row, (edition, named, (bound, binds, (places, are_places, (_, few_rows, rest)))), is) =
+      Met-Gives (making_of rows (AddRegion name version attributes texts)) (Ok making) gives in
+      let (full, are_full, (_, few, is_row)) = rest in
+      let made_of : RegionRow → Making = λ one.
+      record { change = change.Region one; act = act.Region; target = length rows.regions } in
+      let words : List (List ℕ) = bound.names.attributes in
+      let made : RegionRow = record { edition = edition; region = record { attrs = places; rows = full } } in
+      let given = Gives-Met (each_behind [] (another_attribute words) attributes) (Ok places) are_places in
+      let distinct : AreDistinct (length words) places = each_behind-all (AreDistinct (length words))
+      (another_attribute words) attributes [] places (λ before word place are found. another-place words before word
+      (UnknownAttr word) place are found) (no-places (length words)) given in
+      let as_many : length attributes ≡ length places =
+      omega (arith, each_behind-length (another_attribute words) attributes [] places given) in
+      let whole = full_rows-ok attributes 1 texts full (Gives-Met (full_rows attributes 1 texts) (Ok full) are_full) in
+      let few_it = few-stand which.Regions (region_count rows.regions edition + 1) few in
+      subst (IsSoundMaking rows) (sym (is ∙ ap made_of is_row))
       (IsSoundMaking-region made (omega (arith, regions-few)) (record {
-        edition = edition-stands published edition.0 bound.0 binds;
-        few = subst (λ before. region_count before edition.0 < 8)
+        edition = edition-stands published edition bound binds;
+        few = subst (λ before. region_count before edition < 8)
             (sym (take_at rows.regions (made ∷ []) (length rows.regions) refl)) (omega (arith, few_it));
         distinct = distinct.apart;
-        within = subst (λ found. IfSome found (λ width. All (λ attribute. attribute < width) places.0))
-            (sym (width-bound published edition.0 bound.0 binds)) distinct.below;
-        few_rows = omega (arith, whole.0, within-ok which.RegionRows (length texts) few_rows.0 few_rows.1);
-        whole = All-weaker (λ one. length one ≡ length attributes) (λ one. length one ≡ length places.0)
-            (λ one same. same ∙ as_many) full.0 whole.1;
+        within = subst (λ found. IfSome found (λ width. All (λ attribute. attribute < width) places))
+            (sym (width-bound published edition bound binds)) distinct.below;
+        few_rows = omega (arith, whole.0, few-stand which.RegionRows (length texts) few_rows);
+        whole = All-weaker (λ one. length one ≡ length attributes) (λ one. length one ≡ length places)
+            (λ one same. same ∙ as_many) full whole.1;
       }))

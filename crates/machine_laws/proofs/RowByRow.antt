@@ -1,8 +1,8 @@
 -- A batch leaves the sessions that an Enter of each row leaves.
 use Rattle.std.proofs.Common.{◌≡◌, ◌≢◌, ◌∙◌, ℕ, ◌+◌, ◌≤◌, Bool, true, false, cond, List, [], ◌∷◌, ◌++◌, length, map}
-use Rattle.std.proofs.Common.{Option, Some, None, inl, inr, refl, sym, ap, subst, arith}
-use Rattle.std.specs.Prelude.{◌==◌, ◌&&◌, All, Result, Ok, Err, filter, nat_le, nat_lt, not, position, zip}
-use Rattle.std.specs.List.{AllZip, list_any}
+use Rattle.std.proofs.Common.{Option, Some, inl, inr, refl, sym, ap, subst, arith}
+use Rattle.std.specs.Prelude.{◌==◌, ◌&&◌, All, Result, Ok, Err, filter, nat_le, not, position, zip}
+use Rattle.std.specs.List.{AllZip}
 use Rattle.std.specs.Str.{bytes_eq}
 use Rattle.std.proofs.lemmas.Bool.Decides.{nat_tests}
 use Rattle.std.proofs.lemmas.List.{append-nil, append_assoc, length-append}
@@ -20,9 +20,8 @@ use Rattle.desk_words.specs.declared.command.Command.TheVariants.{Clerk}
 use Rattle.desk_words.specs.declared.command.Ticket.{Ticket}
 use Rattle.desk_words.specs.declared.limit.Which.{Which}
 use Rattle.desk_words.specs.declared.limit.Which.TheVariants as which
-use Rattle.desk_words.specs.declared.refusal.Kind.TheVariants as kind
 use Rattle.desk_words.specs.declared.refusal.Refusal.{Refusal}
-use Rattle.desk_words.specs.declared.refusal.Refusal.TheVariants.{Limit, NoSuch, Twice, UnknownAttr, ValueLong}
+use Rattle.desk_words.specs.declared.refusal.Refusal.TheVariants.{Limit, UnknownAttr, ValueLong}
 use Rattle.desk_words.specs.declared.reply.Reply.{Reply}
 use Rattle.desk_words.specs.declared.rows.act.Act.TheVariants as act
 use Rattle.desk_words.specs.declared.rows.clerk.ClerkRow.{ClerkRow}
@@ -33,13 +32,13 @@ use Rattle.desk_valid.specs.declared.bound.Bound.{Bound}
 use Rattle.desk_valid.specs.Bindings.{bound_at}
 use Rattle.desk_valid.specs.Tallies.{active_count, bytes_in, is_active, record_bytes, text_bytes, typed_bytes}
 use Rattle.desk_valid.specs.Valid.{AreValid}
-use Rattle.machine_core.specs.Checked.{Checked, done, ◌>>=◌, ◌>>◌, certainly, each, each_behind, some_or, unless}
-use Rattle.machine_core.specs.Checked.{value_or, Gives}
+use Rattle.machine_core.specs.Checked.{Checked, done, ◌>>=◌, ◌>>◌, each, each_behind, some_or, unless}
+use Rattle.machine_core.specs.Checked.{IsFound, ComesTo, and_then, run, Outcome, told}
+use Rattle.machine_core.specs.Checked.{Gives}
 use Rattle.machine_core.specs.declared.column.Column.{Column}
-use Rattle.machine_core.specs.Clerk.Batch.{another_column, enter_batch, is_confirmed, is_starred, placed, row_session}
+use Rattle.machine_core.specs.Clerk.Batch.{another_column, is_confirmed, is_starred, row_session}
 use Rattle.machine_core.specs.Clerk.Batch.{word_of}
 use Rattle.machine_core.specs.Clerk.Enter.{enter, new_session}
-use Rattle.machine_core.specs.Faults.{sheet_refusal}
 use Rattle.machine_core.specs.Finding.{newest_edition}
 use Rattle.machine_core.specs.Kept.{kept_reply}
 use Rattle.machine_core.specs.Limits.{limit_of, within}
@@ -50,32 +49,34 @@ use Rattle.machine_core.specs.Tests.{attribute_of, typed_cell}
 use Rattle.machine_core.specs.Ticket.{use_of}
 use Rattle.machine_core.specs.declared.ticket.Use.TheVariants.{Fresh}
 use Rattle.machine_core.proofs.Chains.{Gives-bind_ok, done-value}
-use Rattle.machine_core.proofs.Tested.{certainly-ok, chain-why, done-why, some_or-ok, value_or-ok, within-ok}
+use Rattle.machine_core.proofs.Tested.{chain-why, done-why}
 use Rattle.machine_laws.specs.Callers.{clerk, own_by, place_of}
 use Rattle.machine_laws.specs.Events.{AreAnswered, Event, tables_after}
 use Rattle.machine_laws.specs.OneByOne.{EnterAll, IsOneByOne, cells_of, is_vouched, single, vouched}
 use Rattle.machine_laws.proofs.Accepted.{deed-sound, step-valid}
-use Rattle.machine_laws.proofs.Again.{use-fresh, use_at}
+use Rattle.machine_laws.proofs.Again.{use-fresh}
 use Rattle.machine_laws.proofs.Deeds.{own_after, put-end}
 use Rattle.machine_laws.proofs.Entering.{put_all-placed}
 use Rattle.machine_laws.proofs.Isolating.{own_by-new, published-new, write-cases}
 use Rattle.machine_laws.proofs.Refusing.{kept-why, session-own}
 use Rattle.machine_laws.proofs.Staying.{chain-done}
 use Rattle.machine_laws.proofs.Writes.{IsNew, IsPlaceOf, clerk_of-ok}
+use Rattle.machine_core.proofs.Commands.{batch_sessions, enter_batch-ok}
+use Rattle.machine_core.proofs.Walks.{Gives-Met, Met-Gives}
 
 -- a test that is known to pass
-within-done : (which : Which) (count : ℕ) → count ≤ limit_of which → within which count ≡ done tt
+within-done : (which : Which) (count : ℕ) → count ≤ limit_of which → IsFound (within which count) tt
 within-done which count few =
-    let told : nat_le count (limit_of which) ≡ true = grind (arith, nat_tests, few) in
-    ap (λ one. unless one (Limit which (limit_of which))) told
+    let passes : nat_le count (limit_of which) ≡ true = grind (arith, nat_tests, few) in
+    ap (λ one. run (unless one (Limit which (limit_of which)))) passes
 
 -- the next number is a new one
-use-next : (row : ClerkRow) (ticket : Ticket) → ticket.number ≡ row.last + 1 → use_of row ticket ≡ done Fresh
+use-next : (row : ClerkRow) (ticket : Ticket) → ticket.number ≡ row.last + 1 → IsFound (use_of row ticket) Fresh
 use-next row ticket next =
-    let stale : nat_lt ticket.number row.last ≡ false = grind (arith, nat_tests, next) in
-    let gap : nat_lt (row.last + 1) ticket.number ≡ false = grind (arith, nat_tests, next) in
-    let same : (ticket.number == row.last) ≡ false = grind (arith, nat_tests, next) in
-    λ i. use_at (stale i) (gap i) (same i) row ticket
+    let fresh : nat_le row.last ticket.number ≡ true = grind (arith, nat_tests, next) in
+    let near : nat_le ticket.number (row.last + 1) ≡ true = grind (arith, nat_tests, next) in
+    let other : (ticket.number == row.last) ≡ false = grind (arith, nat_tests, next) in
+    rw (fresh, near, other) refl
 
 -- a column of a sheet, with the attribute that it gives
 record IsColumnOf (words : List (List ℕ)) (name : List ℕ) (column : Column) : Type 0 where
@@ -87,40 +88,33 @@ columns-found : (words : List (List ℕ)) (names : List (List ℕ)) (before colu
     → (more : List Column) × (columns ≡ before ++ more) × AllZip (IsColumnOf words) names more
 columns-found words [] before columns gives = ([], done-value before columns gives ∙ sym (append-nil before), tt)
 columns-found words (name ∷ names) before columns gives =
-    let here = Gives-bind_ok (another_column words before name)
-    (λ one. each_behind (before ++ one ∷ []) (another_column words)
-    names) columns gives in
-    let at = Gives-bind_ok (attribute_of words (word_of name))
-    (λ at. unless (not (list_any (λ earlier. earlier.attribute == at)
-    before)) (Twice (word_of name)) >> done (record { attribute = at; confirms = is_starred name })) here.0 here.1 in
-    let made : Column = record { attribute = at.0; confirms = is_starred name } in
-    let free = Gives-bind_ok (unless (not (list_any (λ earlier. earlier.attribute == at.0) before))
-    (Twice (word_of name)))
-    (λ _. done made) here.0 at.2 in
-    let is : here.0 ≡ made = done-value made here.0 free.2 in
-    let rest = columns-found words names (before ++ here.0 ∷ []) columns here.2 in (
-      here.0 ∷ rest.0,
-      rest.1 ∙ append_assoc before (here.0 ∷ []) rest.0,
+    let (here, is_here, is_rest) =
+    Met-Gives (each_behind before (another_column words) (name ∷ names)) (Ok columns) gives in
+    let (at, there, (_, free, is)) = is_here in
+    let (more, same, are) = columns-found words names (before ++ here ∷ []) columns
+    (Gives-Met (each_behind (before ++ here ∷ []) (another_column words) names) (Ok columns) is_rest) in (
+      here ∷ more,
+      same ∙ append_assoc before (here ∷ []) more,
       (
         record {
-          found = some_or-ok (position (bytes_eq (word_of name)) words) (UnknownAttr (word_of name)) at.0 at.1
-              ∙ ap (λ (one : Column). Some one.attribute) (sym is);
+          found = there ∙ ap (λ (one : Column). Some one.attribute) (sym is);
           confirms = ap (λ (one : Column). one.confirms) is;
         },
-        rest.2,
+        are,
       ),
     )
 
 -- an attribute that is found
 attribute-done : (words : List (List ℕ)) (word : List ℕ) (place : ℕ) → position (bytes_eq word) words ≡ Some place
-    → attribute_of words word ≡ done place
-attribute-done words word place is = ap (λ found. some_or found (UnknownAttr word)) is
+    → IsFound (attribute_of words word) place
+attribute-done words word place is = ap (λ found. run (some_or found (UnknownAttr word))) is
 
 -- the cells of a row are typed as the batch types them
 typed-row : (words names : List (List ℕ)) (columns : List Column) (row : List (List ℕ)) → AllZip (IsColumnOf words)
     names columns
     → All IsCell row
-    → each (typed_cell words) (cells_of names row) ≡ done (map (λ cell. (cell.0.attribute, cell.1)) (zip columns row))
+    → IsFound (each (typed_cell words) (cells_of names row))
+    (map (λ cell. (cell.0.attribute, cell.1)) (zip columns row))
 typed-row words [] [] row are cells = refl
 typed-row words [] (column ∷ columns) row are cells = absurd are
 typed-row words (name ∷ names) [] row are cells = absurd are
@@ -129,18 +123,18 @@ typed-row words (name ∷ names) (column ∷ columns) (text ∷ row) are cells =
     let first = All-head IsCell text row cells in
     let short : nat_le (length text) 200 ≡ true = grind (arith, nat_tests, first.short) in
     let rest = typed-row words names columns row are.1 (All-tail IsCell text row cells) in
-    let here : typed_cell words (word_of name, text) ≡ done (column.attribute, text) =
-    ap (λ found. found >>= (λ place. unless (nat_le (length text) 200) (ValueLong (word_of name)) >> done
-    (place, text)))
+    let here : IsFound (typed_cell words (word_of name, text)) (column.attribute, text) =
+    ap (λ found. and_then found (λ place. run (unless (nat_le (length text) 200) (ValueLong (word_of name)) >> done
+    (place, text))))
     (attribute-done words (word_of name) column.attribute are.0.found)
-    ∙ ap (λ told. unless told (ValueLong (word_of name)) >> done (column.attribute, text)) short in
-    λ i. here i >>= (λ one. rest i >>= (λ more. done (one ∷ more)))
+    ∙ ap (λ passes. run (unless passes (ValueLong (word_of name)) >> done (column.attribute, text))) short in
+    λ i. and_then (here i) (λ one. and_then (rest i) (λ more. told (Ok (one ∷ more))))
 
 -- and confirmed
 vouched-row : (words names : List (List ℕ)) (columns : List Column) (row : List (List ℕ))
     → AllZip (IsColumnOf words) names columns
-    → each (attribute_of words) (vouched names row)
-    ≡ done (map (λ cell. cell.0.attribute) (filter is_confirmed (zip columns row)))
+    → IsFound (each (attribute_of words) (vouched names row))
+    (map (λ cell. cell.0.attribute) (filter is_confirmed (zip columns row)))
 vouched-row words [] [] row are = refl
 vouched-row words [] (column ∷ columns) row are = absurd are
 vouched-row words (name ∷ names) [] row are = absurd are
@@ -154,25 +148,26 @@ vouched-row words (name ∷ names) (column ∷ columns) (text ∷ row) are =
     (cond told ((name, text) ∷ filter is_vouched (zip names row)) (filter is_vouched (zip names row)))) in
     let theirs : Bool → Checked (List ℕ) = λ told. done (map (λ (cell : Column × List ℕ). cell.0.attribute)
     (cond told ((column, text) ∷ filter is_confirmed (zip columns row)) (filter is_confirmed (zip columns row)))) in
-    let either : (told : Bool) → mine told ≡ theirs told = λ told. elim told as (λ one. mine one ≡ theirs one) [
-      | true ↦ λ i. attribute-done words (word_of name) column.attribute are.0.found i
-          >>= (λ one. rest i >>= (λ more. done (one ∷ more)))
+    let either : (passes : Bool) → run (mine passes) ≡ run (theirs passes) = λ passes.
+    elim passes as (λ one. run (mine one) ≡ run (theirs one)) [
+      | true ↦ λ i. and_then (attribute-done words (word_of name) column.attribute are.0.found i)
+          (λ one. and_then (rest i) (λ more. told (Ok (one ∷ more))))
       | false ↦ rest
     ] in
-    either (is_vouched (name, text)) ∙ ap theirs (sym same)
+    either (is_vouched (name, text)) ∙ ap (λ passes. run (theirs passes)) (sym same)
 
 -- an Enter that passes all its tests
 enter-done : (published : Published) (own : Own) (edition : List ℕ) (cells : List (List ℕ × List ℕ))
     (confirmed : List (List ℕ))
     (at : ℕ) (bound : Bound) (texts : List (ℕ × List ℕ)) (places : List ℕ)
     → newest_edition published.editions edition ≡ Some at → bound_at published at ≡ Some bound
-    → each (typed_cell bound.names.attributes) cells ≡ done texts
-    → each (attribute_of bound.names.attributes) confirmed ≡ done places
+    → IsFound (each (typed_cell bound.names.attributes) cells) texts
+    → IsFound (each (attribute_of bound.names.attributes) confirmed) places
     → active_count own.sessions + 1 ≤ 5000 → length own.sessions + 1 ≤ 20000
     → text_bytes own.sessions own.records
     + bytes_in (new_session at (length bound.names.attributes) texts places 0).typed ≤ 33554432
-    → enter published own edition cells confirmed
-    ≡ done (puts (length own.sessions) (new_session at (length bound.names.attributes) texts places 0) act.Opened)
+    → IsFound (enter published own edition cells confirmed)
+    (puts (length own.sessions) (new_session at (length bound.names.attributes) texts places 0) act.Opened)
 enter-done published own edition cells confirmed at bound texts places newest binds typed vouches active few bytes =
     rw (
       newest,
@@ -188,11 +183,11 @@ enter-done published own edition cells confirmed at bound texts places newest bi
 -- a new write whose deed is known
 fresh-new : (rows : Rows) (name : List ℕ) (ticket : Ticket) (work : ClerkWork) (answer : Reply) (changes : List Change)
     (place : ℕ) (deed : Deed) → AreValid rows → IsPlaceOf rows.clerks name place
-    → use_of (own_of rows place).row ticket ≡ done Fresh
-    → deed_of (published_of rows) (own_of rows place) work ≡ done deed
+    → IsFound (use_of (own_of rows place).row ticket) Fresh
+    → IsFound (deed_of (published_of rows) (own_of rows place) work) deed
     → IsStep rows (Clerk name ticket work) answer changes → IsNew rows name ticket work answer changes
 fresh-new rows name ticket work answer changes place deed valid is_place used does step =
-    whole step.outcome (subst (λ one. Gives one step.outcome) is step.gives) step.answers
+    whole step.outcome (subst (λ one. ComesTo one step.outcome) is step.gives) step.answers
   where
     own : Own
     own = own_of rows place
@@ -206,20 +201,21 @@ fresh-new rows name ticket work answer changes place deed valid is_place used do
     last : Reply × Option Deed → Checked (Reply × List Change)
     last both = done (both.0, changes_if place own.row ticket both.1)
 
-    is : machine rows (Clerk name ticket work) ≡ ((kept >>= some) >>= last)
-    is = ap (λ one. one >>= (λ there. clerk_write (published_of rows) (own_of rows there) ticket work
-        >>= (λ both. done (both.0, changes_if there (own_of rows there).row ticket both.1)))) is_place.found
-        ∙ ap (λ one. (one >>= clerk_write_at (published_of rows) own work) >>= last) used
-        ∙ ap (λ one. (one >>= (λ made. kept_reply (published_of rows) (after own made) made.act made.target
-        >>= (λ told. done (told, Some made)))) >>= last) does
+    is : run (machine rows (Clerk name ticket work)) ≡ run ((kept >>= some) >>= last)
+    is = ap (λ one. and_then one (λ there. run (clerk_write (published_of rows) (own_of rows there) ticket work
+        >>= (λ both. done (both.0, changes_if there (own_of rows there).row ticket both.1))))) is_place.found
+        ∙ ap (λ one. and_then (and_then one (λ used. run (clerk_write_at (published_of rows) own work used)))
+        (λ both. run (last both))) used
+        ∙ ap (λ one. and_then (and_then one (λ made. run (kept_reply (published_of rows) (after own made) made.act
+        made.target >>= (λ answer. done (answer, Some made))))) (λ both. run (last both))) does
 
     whole : (outcome : Result (Reply × List Change) Refusal) → Gives ((kept >>= some) >>= last) outcome
         → (answer, changes) ≡ answered outcome → IsNew rows name ticket work answer changes
     whole (Err refusal) gives answers =
         let P : Refusal → Type 0 = λ _. ⊥ in
         let sound = deed-sound rows place work deed valid is_place.within
-        (subst (λ one. Gives one (Ok deed)) (sym does) refl) in
-        absurd (chain-why P (kept >>= some) last (chain-why P kept some (kept-why P (published_of rows) (after own deed)
+        (subst (λ one. ComesTo one (Ok deed)) (sym does) refl) in
+        absurd (chain-why P (kept >>= some) _ (chain-why P kept _ (kept-why P (published_of rows) (after own deed)
         deed.act deed.target (session-own (after own deed) deed.act deed.target sound.target))
         (λ told ok. done-why P _))
         (λ both ok. done-why P _) refusal gives)
@@ -234,9 +230,9 @@ fresh-new rows name ticket work answer changes place deed valid is_place used do
         record {
           place = place;
           is_place = is_place;
-          use_made = subst (λ one. Gives one (Ok Fresh)) (sym used) refl;
+          use_made = subst (λ one. ComesTo one (Ok Fresh)) (sym used) refl;
           deed = deed;
-          does = subst (λ one. Gives one (Ok deed)) (sym does) refl;
+          does = subst (λ one. ComesTo one (Ok deed)) (sym does) refl;
           kept = subst (λ one. Gives kept (Ok one)) (sym (ap (λ (one : Reply × List Change). one.0) all)) told.1;
           changed = ap (λ (one : Reply × List Change). one.1) all;
         }
@@ -244,30 +240,32 @@ fresh-new rows name ticket work answer changes place deed valid is_place used do
 -- and what it leaves
 fresh-leaves : (rows : Rows) (name : List ℕ) (ticket : Ticket) (work : ClerkWork) (answer : Reply)
     (changes : List Change)
-    (own : Own) (deed : Deed) → AreValid rows → own_by rows (clerk name) ≡ done own → use_of own.row ticket ≡ done Fresh
-    → deed_of (published_of rows) own work ≡ done deed → IsStep rows (Clerk name ticket work) answer changes
-    → (own_by (changed_all rows changes) (clerk name) ≡ done (own_after own ticket deed))
+    (own : Own) (deed : Deed) → AreValid rows → IsFound (own_by rows (clerk name)) own
+    → IsFound (use_of own.row ticket) Fresh
+    → IsFound (deed_of (published_of rows) own work) deed → IsStep rows (Clerk name ticket work) answer changes
+    → (IsFound (own_by (changed_all rows changes) (clerk name)) (own_after own ticket deed))
     × (published_of (changed_all rows changes) ≡ published_of rows)
 fresh-leaves rows name ticket work answer changes own deed valid seen used does step =
     let there = chain-done (place_of rows (clerk name)) (own_of rows) own seen in
     let is_place : IsPlaceOf rows.clerks name there.0 =
-    clerk_of-ok rows.clerks name there.0 (subst (λ one. Gives one (Ok there.0)) (sym there.1) refl) in
-    let used_there : use_of (own_of rows there.0).row ticket ≡ done Fresh =
-    subst (λ (one : Own). use_of one.row ticket ≡ done Fresh) (sym there.2) used in
-    let does_there : deed_of (published_of rows) (own_of rows there.0) work ≡ done deed =
-    subst (λ (one : Own). deed_of (published_of rows) one work ≡ done deed) (sym there.2) does in
+    clerk_of-ok rows.clerks name there.0 (subst (λ one. ComesTo one (Ok there.0)) (sym there.1) refl) in
+    let used_there : IsFound (use_of (own_of rows there.0).row ticket) Fresh =
+    subst (λ (one : Own). IsFound (use_of one.row ticket) Fresh) (sym there.2) used in
+    let does_there : IsFound (deed_of (published_of rows) (own_of rows there.0) work) deed =
+    subst (λ (one : Own). IsFound (deed_of (published_of rows) one work) deed) (sym there.2) does in
     let new = fresh-new rows name ticket work answer changes there.0 deed valid is_place used_there does_there step in
     let same_place : new.place ≡ there.0 =
     let a = new.is_place.found in let b = is_place.found in done-same new.place there.0 (sym a ∙ b) in
     let same_own : own_of rows new.place ≡ own = ap (own_of rows) same_place ∙ there.2 in
-    let same_deed : new.deed ≡ deed = done-value deed new.deed (subst (λ (one : Checked Deed). Gives one (Ok new.deed))
-    (ap (λ one. deed_of (published_of rows) one work) same_own ∙ does) new.does) in (
+    let same_deed : new.deed ≡ deed = done-value deed new.deed
+    (subst (λ (one : Outcome Deed). ComesTo one (Ok new.deed))
+    (ap (λ one. run (deed_of (published_of rows) one work)) same_own ∙ does) new.does) in (
       own_by-new rows name ticket work answer changes valid new
-          ∙ (λ i. done (own_after (same_own i) ticket (same_deed i))),
+          ∙ (λ i. told (Ok (own_after (same_own i) ticket (same_deed i)))),
       published-new rows name ticket work answer changes valid new,
     )
   where
-    done-same : (one other : ℕ) → done one ≡ done other → one ≡ other
+    done-same : (one other : ℕ) → IsFound (done one) other → one ≡ other
     done-same one other same = cc
 
 module _ (name edition : List ℕ) (names : List (List ℕ)) (batch at : ℕ) (bound : Bound) (columns : List Column)
@@ -278,12 +276,12 @@ module _ (name edition : List ℕ) (names : List (List ℕ)) (batch at : ℕ) (b
 
   -- the rows that are left are entered
   entered : (left : List (List (List ℕ))) (events : List Event) (rows : Rows) (own : Own) (number : ℕ) → AreValid rows
-      → own_by rows (clerk name) ≡ done own → published_of rows ≡ published → own.row.last + 1 ≡ number
+      → IsFound (own_by rows (clerk name)) own → published_of rows ≡ published → own.row.last + 1 ≡ number
       → All (IsRow (length names)) left → active_count own.sessions + length left ≤ 5000
       → length own.sessions + length left ≤ 20000
       → text_bytes own.sessions own.records + typed_bytes (map (in_batch batch) left) ≤ 33554432
       → EnterAll name edition names number left events → AreAnswered rows events
-      → (last : Own) × (own_by (tables_after rows events) (clerk name) ≡ done last)
+      → (last : Own) × (IsFound (own_by (tables_after rows events) (clerk name)) last)
       × (last.sessions ≡ own.sessions ++ map (in_batch 0) left)
   entered [] [] rows own number valid seen same next full active few bytes enters answers =
       (own, seen, sym (append-nil own.sessions))
@@ -295,19 +293,19 @@ module _ (name edition : List ℕ) (names : List (List ℕ)) (batch at : ℕ) (b
       let ticket : Ticket = enters.0.ticket in
       let work : ClerkWork = Enter edition (cells_of names row) (vouched names row) in
       let after_it : Rows = changed_all rows event.changes in
-      let used : use_of own.row ticket ≡ done Fresh = use-next own.row ticket (enters.0.numbered ∙ sym next) in
+      let used : IsFound (use_of own.row ticket) Fresh = use-next own.row ticket (enters.0.numbered ∙ sym next) in
       let here : IsRow (length names) row = All-head (IsRow (length names)) row left full in
       let bytes_of : typed_bytes (map (in_batch batch) (row ∷ left))
       ≡ bytes_in session.typed + typed_bytes (map (in_batch batch) left) =
       sum_by-cons (λ (one : SessionRow). bytes_in one.typed) (in_batch batch row) (map (in_batch batch) left) in
-      let does_it : deed_of published own work ≡ done deed = enter-done published own edition (cells_of names row)
+      let does_it : IsFound (deed_of published own work) deed = enter-done published own edition (cells_of names row)
       (vouched names row) at bound (map (λ cell. (cell.0.attribute, cell.1)) (zip columns row))
       (map (λ cell. cell.0.attribute) (filter is_confirmed (zip columns row))) newest binds
       (typed-row bound.names.attributes names columns row are here.cells)
       (vouched-row bound.names.attributes names columns row are) (omega (arith, active)) (omega (arith, few))
       (omega (arith, bytes, bytes_of)) in
-      let does : deed_of (published_of rows) own work ≡ done deed =
-      subst (λ one. deed_of one own work ≡ done deed) (sym same) does_it in
+      let does : IsFound (deed_of (published_of rows) own work) deed =
+      subst (λ one. IsFound (deed_of one own work) deed) (sym same) does_it in
       let step : IsStep rows (Clerk name ticket work) event.answer event.changes =
       subst (λ one. IsStep rows one event.answer event.changes) enters.0.is answers.1 in
       let leaves = fresh-leaves rows name ticket work event.answer event.changes own deed valid seen used does step in
@@ -340,87 +338,6 @@ module _ (name edition : List ℕ) (names : List (List ℕ)) (batch at : ℕ) (b
   single-all [] = refl
   single-all (row ∷ left) = ap (λ more. in_batch 0 row ∷ more) (single-all left)
 
--- what a batch that is accepted has met
-record IsBatched (published : Published) (own : Own) (edition body : List ℕ) (deed : Deed) : Type 0 where
-  at : ℕ
-  bound : Bound
-  sheet : Master
-  columns : List Column
-  newest : newest_edition published.editions edition ≡ Some at
-  binds : bound_at published at ≡ Some bound
-  reads : read_sheet body ≡ Ok sheet
-  are : AllZip (IsColumnOf bound.names.attributes) sheet.columns columns
-  active : active_count own.sessions + length sheet.grid.rows ≤ 5000
-  few : length own.sessions + length sheet.grid.rows ≤ 20000
-  bytes : text_bytes own.sessions own.records + typed_bytes (map (row_session at (length bound.names.attributes)
-      (length own.batches + 1) columns) sheet.grid.rows) ≤ 33554432
-  puts_them : deed.sessions ≡ placed (length own.sessions) (map (row_session at (length bound.names.attributes)
-      (length own.batches + 1) columns) sheet.grid.rows)
-
-batched : (published : Published) (own : Own) (name body : List ℕ) (deed : Deed)
-    → Gives (enter_batch published own name body) (Ok deed) → IsBatched published own name body deed
-batched published own name body deed gives =
-    let news : ℕ → Bound → List Column → List (List (List ℕ)) → List SessionRow = λ edition bound columns rows.
-    map (row_session edition (length bound.names.attributes) (length own.batches + 1) columns) rows in
-    let made : ℕ → ℕ → List SessionRow → Deed = λ edition count sessions. record {
-      sessions = placed (length own.sessions) sessions;
-      record_row = None;
-      batch = Some (record { edition = edition; first = length own.sessions + 1; count = count });
-      act = act.Batched;
-      target = length own.batches;
-    } in
-    let bytes : ℕ → ℕ → List SessionRow → Checked Deed = λ edition count sessions.
-    within which.Bytes (text_bytes own.sessions own.records + typed_bytes sessions) >> done
-    (made edition count sessions) in
-    let batches : ℕ → ℕ → List SessionRow → Checked Deed = λ edition count sessions.
-    within which.Batches (length own.batches + 1) >> bytes edition count sessions in
-    let counted : ℕ → ℕ → List SessionRow → Checked Deed = λ edition count sessions.
-    within which.Sessions (length own.sessions + count) >> batches edition count sessions in
-    let counting : ℕ → ℕ → List SessionRow → Checked Deed = λ edition count sessions.
-    within which.ActiveSessions (active_count own.sessions + count) >> counted edition count sessions in
-    let whole : ℕ → Bound → List (List (List ℕ)) → List Column → Checked Deed = λ edition bound rows columns.
-    within which.BatchRows (length rows) >> counting edition (length rows) (news edition bound columns rows) in
-    let heading : ℕ → Bound → Master → Checked Deed = λ edition bound sheet.
-    each_behind [] (another_column bound.names.attributes) sheet.columns >>= whole edition bound sheet.grid.rows in
-    let reading : ℕ → Bound → Checked Deed = λ edition bound.
-    value_or (read_sheet body) sheet_refusal >>= heading edition bound in
-    let edition = Gives-bind_ok (some_or (newest_edition published.editions name) (NoSuch kind.Edition)) (λ edition.
-    certainly (bound_at published edition) >>= reading edition) deed gives in
-    let bound = Gives-bind_ok (certainly (bound_at published edition.0)) (reading edition.0) deed edition.2 in
-    let sheet = Gives-bind_ok (value_or (read_sheet body) sheet_refusal) (heading edition.0 bound.0) deed bound.2 in
-    let rows : List (List (List ℕ)) = sheet.0.grid.rows in
-    let columns = Gives-bind_ok (each_behind [] (another_column bound.0.names.attributes) sheet.0.columns)
-    (whole edition.0 bound.0 rows) deed sheet.2 in
-    let found = columns-found bound.0.names.attributes sheet.0.columns [] columns.0 columns.1 in
-    let sessions : List SessionRow = news edition.0 bound.0 columns.0 rows in
-    let count : ℕ = length rows in
-    let few_rows = Gives-bind_ok (within which.BatchRows count) (λ _. counting edition.0 count sessions) deed
-    columns.2 in
-    let active = Gives-bind_ok (within which.ActiveSessions (active_count own.sessions + count)) (λ _.
-    counted edition.0 count sessions) deed few_rows.2 in
-    let few = Gives-bind_ok (within which.Sessions (length own.sessions + count))
-    (λ _. batches edition.0 count sessions)
-    deed active.2 in
-    let few_batches = Gives-bind_ok (within which.Batches (length own.batches + 1))
-    (λ _. bytes edition.0 count sessions)
-    deed few.2 in
-    let last = Gives-bind_ok (within which.Bytes (text_bytes own.sessions own.records + typed_bytes sessions)) (λ _.
-    done (made edition.0 count sessions)) deed few_batches.2 in
-    record {
-      at = edition.0;
-      bound = bound.0;
-      sheet = sheet.0;
-      columns = columns.0;
-      newest = some_or-ok (newest_edition published.editions name) (NoSuch kind.Edition) edition.0 edition.1;
-      binds = certainly-ok (bound_at published edition.0) bound.0 bound.1;
-      reads = value_or-ok (read_sheet body) sheet_refusal sheet.0 sheet.1;
-      are = subst (AllZip (IsColumnOf bound.0.names.attributes) sheet.0.columns) (sym found.1) found.2;
-      active = within-ok which.ActiveSessions (active_count own.sessions + count) active.0 active.1;
-      few = within-ok which.Sessions (length own.sessions + count) few.0 few.1;
-      bytes = within-ok which.Bytes (text_bytes own.sessions own.records + typed_bytes sessions) last.0 last.1;
-      puts_them = ap (λ (one : Deed). one.sessions) (done-value (made edition.0 count sessions) deed last.2);
-    }
-
 -- a batch beside the Enters of its rows
 pub IsOneByOne-batch : (rows : Rows) (name : List ℕ) (ticket : Ticket) (edition body : List ℕ) (sheet : Master)
     (answer : Reply) (changes : List Change) (events : List Event) → AreValid rows → read_sheet body ≡ Ok sheet
@@ -432,15 +349,20 @@ IsOneByOne-batch rows name ticket edition body sheet answer changes events valid
       | inl none ↦ absurd (accepted none)
       | inr new ↦
           let own : Own = own_of rows new.place in
-          let seen : own_by rows (clerk name) ≡ done own =
-          ap (λ one. one >>= (λ place. done (own_of rows place))) new.is_place.found in
-          let all = batched (published_of rows) own edition body new.deed new.does in
+          let seen : IsFound (own_by rows (clerk name)) own =
+          ap (λ one. and_then one (λ place. told (Ok (own_of rows place)))) new.is_place.found in
+          let all = enter_batch-ok (published_of rows) own edition body new.deed new.does in
+          let (columns, same_columns, are) = columns-found all.bound.names.attributes all.sheet.columns [] all.columns
+          all.found in
+          let are_columns = subst (AllZip (IsColumnOf all.bound.names.attributes) all.sheet.columns) (sym same_columns)
+          are in
           let same : sheet ≡ all.sheet = same-sheet sheet all.sheet (read_sheet body) reads all.reads in
           let good = IsMaster-read_sheet body all.sheet all.reads in
-          let news : List SessionRow = map (row_session all.at (length all.bound.names.attributes)
-          (length own.batches + 1) all.columns) all.sheet.grid.rows in
-          let all_entered = entered name edition all.sheet.columns (length own.batches + 1) all.at all.bound all.columns
-          (published_of rows) all.newest all.binds all.are all.sheet.grid.rows events rows own ticket.number valid seen
+          let news : List SessionRow = batch_sessions own all.edition all.bound all.columns all.sheet in
+          let all_entered = entered name edition all.sheet.columns (length own.batches + 1) all.edition all.bound
+          all.columns
+          (published_of rows) all.newest all.binds are_columns all.sheet.grid.rows events rows own ticket.number valid
+          seen
           refl
           (sym (use-fresh own.row ticket new.use_made)) good.rows all.active all.few all.bytes
           (subst (λ (one : Master). EnterAll name edition one.columns ticket.number one.grid.rows events) same enters)
@@ -453,11 +375,12 @@ IsOneByOne-batch rows name ticket edition body sheet answer changes events valid
             is = seen;
             is_at_once = own_by-new rows name ticket (Batch edition body) answer changes valid new;
             is_in_turn = all_entered.1;
-            entered_at_once = ap (put_all own.sessions) all.puts_them
+            entered_at_once = ap (λ (one : Deed). put_all own.sessions one.sessions) all.is
                 ∙ put_all-placed own.sessions news (length own.sessions) refl;
             entered_in_turn = all_entered.2 ∙ ap (λ more. own.sessions ++ more) (sym (single-all name edition
-                all.sheet.columns (length own.batches + 1) all.at all.bound all.columns (published_of rows) all.newest
-                all.binds all.are all.sheet.grid.rows));
+                all.sheet.columns (length own.batches + 1) all.edition all.bound all.columns (published_of rows)
+                all.newest
+                all.binds are_columns all.sheet.grid.rows));
           }
     ]
   where

@@ -10,8 +10,6 @@ use Rattle.std.proofs.lemmas.List.Folds.{Any-from_list_any}
 use Rattle.std.proofs.lemmas.Map.Made.{IsDistinct-from_AllPairs}
 use Rattle.std.proofs.lemmas.Map.Steps.{length-le_from_distinct_below}
 use Rattle.std.proofs.lemmas.Option.{same_Some, slice_get_within}
-use Rattle.desk_words.specs.declared.refusal.Kind.TheVariants as kind
-use Rattle.desk_words.specs.declared.refusal.Refusal.TheVariants.{Closed, NoSuch}
 use Rattle.desk_words.specs.declared.rows.batch.BatchRow.{BatchRow}
 use Rattle.desk_words.specs.declared.rows.record.RecordRow.{RecordRow}
 use Rattle.desk_words.specs.declared.rows.session.SessionRow.{SessionRow}
@@ -23,14 +21,13 @@ use Rattle.desk_valid.specs.Rows.Batch.{IsBatchRow}
 use Rattle.desk_valid.specs.Rows.Record.{IsRecordRow}
 use Rattle.desk_valid.specs.Rows.Session.{IsSessionRow}
 use Rattle.desk_valid.specs.Tallies.{is_active}
-use Rattle.machine_core.specs.Checked.{done, ◌>>=◌, Gives}
+use Rattle.machine_core.specs.Checked.{Gives}
 use Rattle.machine_core.specs.Finding.{session_at}
-use Rattle.machine_core.specs.Tests.{active, active_session, session_of}
-use Rattle.machine_core.proofs.Chains.{Gives-bind_ok, done-value}
-use Rattle.machine_core.proofs.Tested.{some_or-ok, unless-ok}
+use Rattle.machine_core.specs.Tests.{active_session}
 use Rattle.machine_core.specs.OwnRows.{AreOwnRows}
 use Rattle.machine_laws.proofs.Lists.{EachAt-begins, EachAt-set, Begins-push, pushed, slice_get-append, slice_get-read}
 use Rattle.machine_laws.proofs.Lists.{slice_get-set_other, slice_get-set_same, slice_get-there}
+use Rattle.machine_core.proofs.Commands.{IsActiveSession, active_session-met}
 
 -- distinct numbers below a number are no more than it
 pub distinct-below : (numbers : List ℕ) (most : ℕ) → AllPairs (λ one other. one ≢ other) numbers
@@ -64,17 +61,16 @@ pub record IsActiveAt (sessions : List SessionRow) (number : ℕ) (session : Ses
   pub stands : slice_get sessions (number - 1) ≡ Some session
   pub is_open : session.stage ≡ Active
 
+pub IsActiveAt-session : (sessions : List SessionRow) (number : ℕ) (session : SessionRow)
+    → IsActiveSession sessions number session → IsActiveAt sessions number session
+IsActiveAt-session sessions number session is =
+    let (counted, stands) = session_at-found sessions number session is.found in
+    record { counted = counted; stands = stands; is_open = is_active-stage session.stage is.active }
+
 pub active_session-ok : (sessions : List SessionRow) (number : ℕ) (session : SessionRow)
     → Gives (active_session sessions number) (Ok session) → IsActiveAt sessions number session
 active_session-ok sessions number session gives =
-    let found = Gives-bind_ok (session_of sessions number) (λ one. active one >>= (λ _. done one)) session gives in
-    let rest = Gives-bind_ok (active found.0) (λ _. done found.0) session found.2 in
-    let same : session ≡ found.0 = done-value found.0 session rest.2 in
-    let stands = session_at-found sessions number found.0
-    (some_or-ok (session_at sessions number) (NoSuch kind.Session) found.0 found.1) in
-    let stage = is_active-stage found.0.stage
-    (unless-ok (is_active found.0.stage) (Closed found.0.stage) rest.0 rest.1) in
-    subst (IsActiveAt sessions number) (sym same) (record { counted = stands.0; stands = stands.1; is_open = stage })
+    IsActiveAt-session sessions number session (active_session-met sessions number session gives)
 
 -- a session that stays on its edition, in its batch and as wide as it was
 pub record StaysAs (old new : SessionRow) : Type 0 where

@@ -7,7 +7,6 @@ use Rattle.std.proofs.lemmas.List.{get_or-drop, get_or-set_other, get_or-set_sam
 use Rattle.std.proofs.lemmas.List.Quantifiers.{position-Some}
 use Rattle.std.proofs.lemmas.Slice.Eq.{bytes_eq-Decides}
 use Rattle.desk_words.specs.declared.change.Change.{Change}
-use Rattle.desk_words.specs.declared.change.Change.TheVariants as change
 use Rattle.desk_words.specs.declared.clerk_work.ClerkWork.{ClerkWork}
 use Rattle.desk_words.specs.declared.command.Command.{Command}
 use Rattle.desk_words.specs.declared.command.Command.TheVariants.{Steward, Clerk, Look, DeskReport, DeskDerive}
@@ -18,9 +17,9 @@ use Rattle.desk_words.specs.declared.rows.act.Act.{Act}
 use Rattle.desk_words.specs.declared.rows.clerk.ClerkRow.{ClerkRow}
 use Rattle.desk_words.specs.declared.steward_work.StewardWork.{StewardWork}
 use Rattle.desk_words.specs.Changes.{changed, changed_all}
-use Rattle.desk_words.specs.Tables.{AreTables, Published, Rows, new_clerk, published_of}
+use Rattle.desk_words.specs.Tables.{AreTables, Rows, new_clerk, published_of}
 use Rattle.desk_valid.specs.Valid.{AreValid}
-use Rattle.machine_core.specs.Checked.{Checked, done, refused, asked, advised, explained, derived, compared, never}
+use Rattle.machine_core.specs.Checked.{Checked, IsFound, Outcome, and_then, awaits, done, nothing, told, ComesTo, run}
 use Rattle.machine_core.specs.Checked.{◌>>=◌, Gives}
 use Rattle.machine_core.specs.Machine.{IsStep, answered, clerk_of, machine}
 use Rattle.machine_core.specs.declared.making.Making.{Making}
@@ -31,9 +30,9 @@ use Rattle.machine_laws.specs.Callers.{Caller, asks, clerk, number_of, place_of,
 use Rattle.machine_laws.proofs.Accepted.{making-sound}
 use Rattle.machine_laws.proofs.Callers.{names_of}
 use Rattle.machine_laws.proofs.Deeds.{changed-caller, changed-deed, own_after}
-use Rattle.machine_laws.proofs.Lists.{Begins, Begins-push, Begins-same, list_at-set_other, list_at-set_same}
+use Rattle.machine_laws.proofs.Lists.{Begins, Begins-same, list_at-set_other, list_at-set_same}
 use Rattle.machine_laws.proofs.Lists.{map-set_same, slice_get-read, slice_get-there}
-use Rattle.machine_laws.proofs.More.{AreMore}
+use Rattle.machine_laws.proofs.More.{AreMore, AreMore-same, AreMore-changed}
 use Rattle.machine_laws.proofs.Names.{clerk_of-begins, found-place}
 use Rattle.machine_laws.proofs.Valid.{with_own}
 use Rattle.machine_laws.proofs.Writes.{IsNew, IsPlaceOf, IsStewardsNew, clerk-written, clerk_of-ok, derive-unchanged}
@@ -73,53 +72,6 @@ step-cases rows command answer changes step =
     whole (Ok made) gives = made-cases rows command made gives
     whole (Err refusal) gives = inl refl
 
--- what was published stays
-pub AreMore-same : (published : Published) → AreMore published published
-AreMore-same published = record {
-  schemas = Begins-same published.schemas;
-  masters = Begins-same published.masters;
-  rulebooks = Begins-same published.rulebooks;
-  editions = Begins-same published.editions;
-  regions = Begins-same published.regions;
-}
-
-are_more : (one other : Published) → Begins one.schemas other.schemas → Begins one.masters other.masters
-    → Begins one.rulebooks other.rulebooks → Begins one.editions other.editions → Begins one.regions other.regions
-    → AreMore one other
-are_more one other schemas masters rulebooks editions regions = record {
-  schemas = schemas;
-  masters = masters;
-  rulebooks = rulebooks;
-  editions = editions;
-  regions = regions;
-}
-
--- and begins what is published where a table changes
-pub AreMore-changed : (rows : Rows) (one : Change) → AreMore (published_of rows) (published_of (changed rows one))
-AreMore-changed rows (change.Clerk place row) = AreMore-same (published_of rows)
-AreMore-changed rows (change.Schema row) = are_more (published_of rows)
-    (published_of (changed rows (change.Schema row)))
-    (Begins-push rows.schemas row) (Begins-same rows.masters) (Begins-same rows.rulebooks) (Begins-same rows.editions)
-    (Begins-same rows.regions)
-AreMore-changed rows (change.Master row) = are_more (published_of rows)
-    (published_of (changed rows (change.Master row)))
-    (Begins-same rows.schemas) (Begins-push rows.masters row) (Begins-same rows.rulebooks) (Begins-same rows.editions)
-    (Begins-same rows.regions)
-AreMore-changed rows (change.Rulebook row) = are_more (published_of rows)
-    (published_of (changed rows (change.Rulebook row))) (Begins-same rows.schemas) (Begins-same rows.masters)
-    (Begins-push rows.rulebooks row) (Begins-same rows.editions) (Begins-same rows.regions)
-AreMore-changed rows (change.Edition row) = are_more (published_of rows)
-    (published_of (changed rows (change.Edition row)))
-    (Begins-same rows.schemas) (Begins-same rows.masters) (Begins-same rows.rulebooks) (Begins-push rows.editions row)
-    (Begins-same rows.regions)
-AreMore-changed rows (change.Region row) = are_more (published_of rows)
-    (published_of (changed rows (change.Region row)))
-    (Begins-same rows.schemas) (Begins-same rows.masters) (Begins-same rows.rulebooks) (Begins-same rows.editions)
-    (Begins-push rows.regions row)
-AreMore-changed rows (change.Session caller place row) = AreMore-same (published_of rows)
-AreMore-changed rows (change.Record caller row) = AreMore-same (published_of rows)
-AreMore-changed rows (change.Batch caller row) = AreMore-same (published_of rows)
-
 -- the caller's own rows are those that were put
 pub own_of-with_same : (rows : Rows) (place : ℕ) (own : Own) → AreTables rows → place < length rows.clerks
     → own_of (with_own rows place own) place ≡ own
@@ -150,7 +102,7 @@ names-set rows place row within same =
 
 -- a clerk who is found has the name
 pub clerk_of-named : (clerks : List ClerkRow) (name : List ℕ) (place : ℕ) (past : ClerkRow)
-    → clerk_of clerks name ≡ done place
+    → IsFound (clerk_of clerks name) place
     → (get_or clerks place past).name ≡ name
 clerk_of-named clerks name place past is =
     let test : ClerkRow → Bool = λ row. bytes_eq row.name name in
@@ -162,42 +114,43 @@ clerk_of-named clerks name place past is =
     ∙ (bytes_eq-Decides (get_or (drop 1 clerks) found.0 past).name name).0 here.1
 
 -- so two names have two places
-clerk_of-apart : (clerks : List ClerkRow) (name other : List ℕ) (place : ℕ) → clerk_of clerks name ≡ done place
-    → clerk_of clerks other ≡ done place → name ≡ other
+clerk_of-apart : (clerks : List ClerkRow) (name other : List ℕ) (place : ℕ) → IsFound (clerk_of clerks name) place
+    → IsFound (clerk_of clerks other) place → name ≡ other
 clerk_of-apart clerks name other place is is_too =
     sym (clerk_of-named clerks name place (new_clerk []) is) ∙ clerk_of-named clerks other place (new_clerk []) is_too
 
--- a chain that is done: its first part was
+-- a chain that finds its value: its first part did
 pub chain-done : {A B : Type 0} (checked : Checked A) (make : A → B) (value : B)
-    → (checked >>= (λ one. done (make one))) ≡ done value → (found : A) × (checked ≡ done found) × (make found ≡ value)
-chain-done (done found) make value is = (found, refl, cc)
-chain-done (refused refusal) make value is = absurd (cc)
-chain-done (asked kit state next) make value is = absurd (cc)
-chain-done (advised kit state regions next) make value is = absurd (cc)
-chain-done (explained kit state run attribute next) make value is = absurd (cc)
-chain-done (derived kit grid attributes columns next) make value is = absurd (cc)
-chain-done (compared before after next) make value is = absurd (cc)
-chain-done never make value is = absurd (cc)
+    → IsFound (checked >>= (λ one. done (make one))) value
+    → (found : A) × IsFound checked found × (make found ≡ value)
+chain-done {A} checked make value = made (run checked)
+  where
+    made : (outcome : Outcome A) → and_then outcome (λ one. told (Ok (make one))) ≡ told (Ok value)
+        → (found : A) × (outcome ≡ told (Ok found)) × (make found ≡ value)
+    made (told (Ok found)) is = (found, refl, cc)
+    made (told (Err refusal)) is = absurd (cc)
+    made (awaits question more) is = absurd (cc)
+    made nothing is = absurd (cc)
 
 -- a caller who is found has a row; a clerk's is behind the steward's
 pub record IsCallerAt (rows : Rows) (caller : Caller) (place : ℕ) : Type 0 where
-  pub found : place_of rows caller ≡ done place
+  pub found : IsFound (place_of rows caller) place
   pub within : place < length rows.clerks
 
-pub caller-at : (rows : Rows) (caller : Caller) (place : ℕ) → AreTables rows → place_of rows caller ≡ done place
+pub caller-at : (rows : Rows) (caller : Caller) (place : ℕ) → AreTables rows → IsFound (place_of rows caller) place
     → IsCallerAt rows caller place
 caller-at rows steward place tables is =
     let first : place ≡ 0 = cc in
     record { found = is; within = omega (arith, first, tables.steward) }
 caller-at rows (clerk name) place tables is = record {
   found = is;
-  within = (clerk_of-ok rows.clerks name place (subst (λ one. Gives one (Ok place)) (sym is) refl)).within;
+  within = (clerk_of-ok rows.clerks name place (subst (λ one. ComesTo one (Ok place)) (sym is) refl)).within;
 }
 
 -- places stay where clerks come behind
 pub place_of-begins : (rows other : Rows) (caller : Caller) (place : ℕ)
-    → Begins (names_of rows.clerks) (names_of other.clerks) → place_of rows caller ≡ done place
-    → place_of other caller ≡ done place
+    → Begins (names_of rows.clerks) (names_of other.clerks) → IsFound (place_of rows caller) place
+    → IsFound (place_of other caller) place
 place_of-begins rows other steward place begins is = is
 place_of-begins rows other (clerk name) place begins is =
     clerk_of-begins rows.clerks other.clerks name place begins is
@@ -263,7 +216,7 @@ module _ (rows : Rows) (valid : AreValid rows) where
 
   -- another's request leaves a caller's own rows
   accepted-kept : (caller : Caller) (place : ℕ) (command : Command) (answer : Reply) (changes : List Change)
-      → IsAccepted rows command answer changes → asks caller command ≡ false → place_of rows caller ≡ done place
+      → IsAccepted rows command answer changes → asks caller command ≡ false → IsFound (place_of rows caller) place
       → own_of (changed_all rows changes) place ≡ own_of rows place
   accepted-kept steward place command answer changes (by_clerk name ticket work answer' changes' new) other is =
       let first : place ≡ 0 = cc in
@@ -274,7 +227,7 @@ module _ (rows : Rows) (valid : AreValid rows) where
       absurd (cc)
   accepted-kept (clerk name) place command answer changes (by_clerk named ticket work answer' changes' new) other is =
       let apart : place ≢ new.place = λ same. different (clerk_of-apart rows.clerks named name place
-      (subst (λ one. clerk_of rows.clerks named ≡ done one) (sym same) new.is_place.found) is) in
+      (subst (λ one. IsFound (clerk_of rows.clerks named) one) (sym same) new.is_place.found) is) in
       ap (λ (one : Rows). own_of one place) (after-clerk named ticket work answer' changes' new)
       ∙ own_of-with_other rows new.place place (own_after (own_of rows new.place) ticket new.deed) apart
     where
@@ -286,7 +239,7 @@ module _ (rows : Rows) (valid : AreValid rows) where
   accepted-kept (clerk name) place command answer changes (by_steward ticket work answer' changes' new) other is =
       let sound = making-sound rows work new.making valid new.makes in
       let there : IsPlaceOf rows.clerks name place =
-      clerk_of-ok rows.clerks name place (subst (λ one. Gives one (Ok place)) (sym is) refl) in
+      clerk_of-ok rows.clerks name place (subst (λ one. ComesTo one (Ok place)) (sym is) refl) in
       let next : Rows = changed rows new.making.change in
       let row : ClerkRow = ticketed (own_of rows 0).row ticket new.making.act new.making.target in
       let apart : place ≢ 0 = λ same. omega (arith, same, there.behind) in
@@ -298,7 +251,7 @@ module _ (rows : Rows) (valid : AreValid rows) where
 
   pub step-kept : (caller : Caller) (place : ℕ) (command : Command) (answer : Reply) (changes : List Change)
       → IsStep rows command answer changes → (changes ≡ []) ⊎ (asks caller command ≡ false)
-      → place_of rows caller ≡ done place → own_of (changed_all rows changes) place ≡ own_of rows place
+      → IsFound (place_of rows caller) place → own_of (changed_all rows changes) place ≡ own_of rows place
   step-kept caller place command answer changes step (inl none) is = ap (λ made. own_of (changed_all rows made) place)
       none
   step-kept caller place command answer changes step (inr other) is =
@@ -310,7 +263,7 @@ module _ (rows : Rows) (valid : AreValid rows) where
   -- an accepted request puts its ticket into the caller's row
   pub record IsTicketed (caller : Caller) (command : Command) (changes : List Change) : Type 0 where
     pub place : ℕ
-    pub found : place_of rows caller ≡ done place
+    pub found : IsFound (place_of rows caller) place
     pub ticket : Ticket
     pub number : number_of command ≡ ticket.number
     pub use_made : Gives (use_of (own_of rows place).row ticket) (Ok Fresh)
@@ -341,7 +294,7 @@ module _ (rows : Rows) (valid : AreValid rows) where
       let same : named ≡ name = (bytes_eq-Decides named name).0 asked_it in
       record {
         place = new.place;
-        found = subst (λ one. clerk_of rows.clerks one ≡ done new.place) same new.is_place.found;
+        found = subst (λ one. IsFound (clerk_of rows.clerks one) new.place) same new.is_place.found;
         ticket = ticket;
         number = refl;
         use_made = new.use_made;

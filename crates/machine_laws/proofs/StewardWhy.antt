@@ -35,7 +35,7 @@ use Rattle.desk_words.specs.Tables.{Published, Rows, published_of}
 use Rattle.desk_valid.specs.Bindings.{binding, bound_at, parts_of}
 use Rattle.desk_valid.specs.Readings.{all_of, rules_at, schema_at}
 use Rattle.machine_core.specs.Causes.{AreWords, Cause, StandsTwice}
-use Rattle.machine_core.specs.Checked.{◌>>◌, certainly, done, each_behind, some_or, unless, value_or, Gives}
+use Rattle.machine_core.specs.Checked.{certainly, each_behind, some_or, unless, value_or, Gives}
 use Rattle.machine_core.specs.Faults.{bind_refusal, rules_refusal, schema_refusal, sheet_refusal}
 use Rattle.machine_core.specs.Deriving.{derivation_of, derived_rows}
 use Rattle.machine_core.specs.Finding.{edition_named, master_named, rulebook_named, schema_named}
@@ -46,7 +46,7 @@ use Rattle.machine_core.specs.Steward.AddDerived.{derived_region}
 use Rattle.machine_core.specs.Steward.AddEdition.{another_master, bindable, edition_row, in_order, master_name}
 use Rattle.machine_core.specs.Steward.AddEdition.{next_edition}
 use Rattle.machine_core.specs.Steward.AddMaster.{master_row}
-use Rattle.machine_core.specs.Steward.AddRegion.{full_row, full_rows, region_row, short_text}
+use Rattle.machine_core.specs.Steward.AddRegion.{full_row, full_rows, region_row, short_text, region_count}
 use Rattle.machine_core.specs.Steward.AddRulebook.{rulebook_row}
 use Rattle.machine_core.specs.Steward.AddSchema.{schema_row}
 use Rattle.machine_core.specs.Tests.{another_attribute, attribute_of, proper_name}
@@ -59,6 +59,8 @@ use Rattle.machine_laws.proofs.Derived.{IsAskedOf-found}
 use Rattle.machine_laws.proofs.DerivingWhy.{derivation-why, derived_rows-why}
 use Rattle.machine_laws.proofs.Why.{Contains-image, attribute-why, sheet-why, word-at}
 use Rattle.machine_laws.proofs.Wrong.{bind-why, rules-why, schema-why}
+use Rattle.desk_valid.specs.Tallies.{cell_count, master_cells}
+use Rattle.machine_core.proofs.Walks.{Met-Gives}
 
 -- what is not false is true
 not-false : (told : Bool) → not told ≡ false → told ≡ true
@@ -86,41 +88,37 @@ attributes-why : (P : Refusal → Type 0) (words names : List (List ℕ))
     → Gives (each_behind [] (another_attribute words) names) (Err refusal) → P refusal
 attributes-why P words names unknown twice refusal gives =
     let says = each_behind-refused (another_attribute words) names [] refusal gives in
-    let word : List ℕ = says.1 in
+    let word : List ℕ = says.item in
     let taken : ℕ → ℕ → Bool = λ at earlier. earlier == at in
     chain-why P (attribute_of words word) _
-    (attribute-why P words word (unknown word (Contains-between names says.0 says.2
-    word says.4)))
-    (λ at found. chain-why P _ _ (unless-why P (not (list_any (taken at) says.3)) (Twice word) (λ some.
-    let any = Any-from_list_any (taken at) says.3 (not-false (list_any (taken at) says.3) some) in
-    elim (each_behind-found (another_attribute words) says.0 [] says.3 any.1 says.5 (any.0, any.2, any.3)) [
+    (attribute-why P words word (unknown word (Contains-between names says.earlier says.later
+    word says.same)))
+    (λ at found. chain-why P (unless (not (list_any (taken at) says.sofar)) (Twice word)) _
+    (unless-why P (not (list_any (taken at) says.sofar)) (Twice word) (λ some.
+    let (index, one, inside, is, holds) = Any-from_list_any (taken at) says.sofar
+    (not-false (list_any (taken at) says.sofar) some) in
+    elim (each_behind-found (another_attribute words) says.earlier [] says.sofar one says.passed (index, inside, is)) [
       | inl none ↦ absurd (omega (arith, none.1))
       | inr before ↦
           let at_word : word ≡ get_or words at [] = word-at word words at
           (some_or-ok (position (bytes_eq word) words) (UnknownAttr word) at found) in
-          let value = attribute-word before.0 before.2 any.1 before.3 in
-          let same_place : any.1 ≡ at = grind (arith, nat_tests, any.4) in
-          let equal : before.0 ≡ word = value ∙ ap (λ place. get_or words place []) same_place ∙ sym at_word in
+          let value = attribute-word before.item before.sofar one before.gave in
+          let same_place : one ≡ at = grind (arith, nat_tests, holds) in
+          let equal : before.item ≡ word = value ∙ ap (λ place. get_or words place []) same_place ∙ sym at_word in
           twice word (record {
-            earlier = says.0;
-            later = says.2;
-            is = says.4;
-            twice = subst (λ one. Contains says.0 one) equal before.1;
+            earlier = says.earlier;
+            later = says.later;
+            is = says.same;
+            twice = subst (λ one. Contains says.earlier one) equal before.listed;
           })
-    ])) (λ passed ok. done-why P _)) refusal says.6
+    ])) (λ passed ok. done-why P _)) refusal says.refused_so
   where
     attribute-word : (name : List ℕ) (before : List ℕ) (found : ℕ) → Gives (another_attribute words before name)
         (Ok found)
         → name ≡ get_or words found []
     attribute-word name before found gives =
-        let at = Gives-bind_ok (attribute_of words name)
-        (λ at. unless (not (list_any (λ earlier. earlier == at) before))
-        (Twice name) >> done at) found gives in
-        let free = Gives-bind_ok (unless (not (list_any (λ earlier. earlier == at.0) before)) (Twice name))
-        (λ _. done at.0)
-        found at.2 in
-        word-at name words at.0 (some_or-ok (position (bytes_eq name) words) (UnknownAttr name) at.0 at.1)
-        ∙ ap (λ place. get_or words place []) (sym (done-value at.0 found free.2))
+        let (at, there, (passed, free, is)) = Met-Gives (another_attribute words before name) (Ok found) gives in
+        word-at name words at there ∙ ap (λ place. get_or words place []) (sym is)
 
 -- masters of which one is not there, or stands twice
 masters-why : (P : Refusal → Type 0) (published : Published) (masters : List (List ℕ × ℕ))
@@ -131,41 +129,37 @@ masters-why : (P : Refusal → Type 0) (published : Published) (masters : List (
 masters-why P published masters missing twice refusal gives =
     let name_in : List ℕ × ℕ → List ℕ = λ one. one.0 in
     let says = each_behind-refused (another_master published.masters) masters [] refusal gives in
-    let master : List ℕ × ℕ = says.1 in
+    let master : List ℕ × ℕ = says.item in
     let taken : ℕ → Bool = λ earlier. bytes_eq (master_name published.masters earlier) master.0 in
     chain-why P (some_or (master_named published.masters master.0 master.1) (NoSuch kind.Master)) _
     (some_or-why P (master_named published.masters master.0 master.1) (NoSuch kind.Master)
-    (missing master (Contains-between masters says.0 says.2 master says.4)))
-    (λ at found. chain-why P _ _ (unless-why P (not (list_any taken says.3)) (Twice master.0) (λ some.
-    let any = Any-from_list_any taken says.3 (not-false (list_any taken says.3) some) in
-    elim (each_behind-found (another_master published.masters) says.0 [] says.3 any.1 says.5 (any.0, any.2, any.3)) [
+    (missing master (Contains-between masters says.earlier says.later master says.same)))
+    (λ at found. chain-why P (unless (not (list_any taken says.sofar)) (Twice master.0)) _
+    (unless-why P (not (list_any taken says.sofar)) (Twice master.0) (λ some.
+    let (index, one, inside, is, holds) = Any-from_list_any taken says.sofar
+    (not-false (list_any taken says.sofar) some) in
+    elim (each_behind-found (another_master published.masters) says.earlier [] says.sofar one says.passed
+    (index, inside, is)) [
       | inl none ↦ absurd (omega (arith, none.1))
       | inr before ↦
-          let equal : before.0.0 ≡ master.0 = sym (found-name before.0 before.2 any.1 before.3)
-          ∙ (bytes_eq-Decides (master_name published.masters any.1) master.0).0 any.4 in
+          let equal : before.item.0 ≡ master.0 = sym (found-name before.item before.sofar one before.gave)
+          ∙ (bytes_eq-Decides (master_name published.masters one) master.0).0 holds in
           twice master.0 (record {
-            earlier = map name_in says.0;
-            later = map name_in says.2;
-            is = ap (map name_in) says.4 ∙ map-append name_in says.0 (master ∷ says.2);
-            twice = subst (λ one. Contains (map name_in says.0) one) equal
-                (Contains-image name_in says.0 before.0 before.1);
+            earlier = map name_in says.earlier;
+            later = map name_in says.later;
+            is = ap (map name_in) says.same ∙ map-append name_in says.earlier (master ∷ says.later);
+            twice = subst (λ one. Contains (map name_in says.earlier) one) equal
+                (Contains-image name_in says.earlier before.item before.listed);
           })
-    ])) (λ passed ok. done-why P _)) refusal says.6
+    ])) (λ passed ok. done-why P _)) refusal says.refused_so
   where
     found-name : (master : List ℕ × ℕ) (before : List ℕ) (found : ℕ)
         → Gives (another_master published.masters before master) (Ok found)
         → master_name published.masters found ≡ master.0
     found-name master before found gives =
-        let at = Gives-bind_ok (some_or (master_named published.masters master.0 master.1) (NoSuch kind.Master))
-        (λ at. unless
-        (not (list_any (λ earlier. bytes_eq (master_name published.masters earlier) master.0) before)) (Twice master.0)
-        >> done at) found gives in
-        let free = Gives-bind_ok (unless
-        (not (list_any (λ earlier. bytes_eq (master_name published.masters earlier) master.0)
-        before)) (Twice master.0)) (λ _. done at.0) found at.2 in
-        ap (master_name published.masters) (done-value at.0 found free.2)
-        ∙ (master-named published master.0 master.1 at.0 (some_or-ok (master_named published.masters master.0 master.1)
-        (NoSuch kind.Master) at.0 at.1)).1
+        let (at, there, (passed, free, is)) =
+        Met-Gives (another_master published.masters before master) (Ok found) gives in
+        ap (master_name published.masters) is ∙ (master-named published master.0 master.1 at there).1
 
 -- the places of masters that are found
 masters-places : (published : Published) (masters : List (List ℕ × ℕ)) (before found : List ℕ)
@@ -174,24 +168,17 @@ masters-places : (published : Published) (masters : List (List ℕ × ℕ)) (bef
     × (all_of (map (λ master. master_named published.masters master.0 master.1) masters) ≡ Some places)
 masters-places published [] before found gives = ([], done-value before found gives ∙ sym (append-nil before), refl)
 masters-places published (master ∷ masters) before found gives =
-    let here = Gives-bind_ok (another_master published.masters before master) (λ one. each_behind (before ++ one ∷ [])
-    (another_master published.masters) masters) found gives in
-    let at = Gives-bind_ok (some_or (master_named published.masters master.0 master.1) (NoSuch kind.Master))
-    (λ at. unless
-    (not (list_any (λ earlier. bytes_eq (master_name published.masters earlier) master.0) before)) (Twice master.0)
-    >> done at) here.0 here.1 in
-    let free = Gives-bind_ok (unless
-    (not (list_any (λ earlier. bytes_eq (master_name published.masters earlier) master.0)
-    before)) (Twice master.0)) (λ _. done at.0) here.0 at.2 in
-    let first : master_named published.masters master.0 master.1 ≡ Some here.0 =
-    some_or-ok (master_named published.masters
-    master.0 master.1) (NoSuch kind.Master) at.0 at.1 ∙ ap Some (sym (done-value at.0 here.0 free.2)) in
-    let rest = masters-places published masters (before ++ here.0 ∷ []) found here.2 in (
-      here.0 ∷ rest.0,
-      rest.1 ∙ append_assoc before (here.0 ∷ []) rest.0,
+    let (here, is_here, left) = Gives-bind_ok (another_master published.masters before master)
+    (λ one. each_behind (before ++ one ∷ []) (another_master published.masters) masters) found gives in
+    let (at, there, (passed, free, is)) =
+    Met-Gives (another_master published.masters before master) (Ok here) is_here in
+    let first : master_named published.masters master.0 master.1 ≡ Some here = there ∙ ap Some (sym is) in
+    let (places, same, all) = masters-places published masters (before ++ here ∷ []) found left in (
+      here ∷ places,
+      same ∙ append_assoc before (here ∷ []) places,
       ap (option_and_then (λ value. option_map (λ values. value ∷ values)
           (all_of (map (λ one. master_named published.masters
-          one.0 one.1) masters)))) first ∙ ap (option_map (λ values. here.0 ∷ values)) rest.2,
+          one.0 one.1) masters)))) first ∙ ap (option_map (λ values. here ∷ values)) all,
     )
 
 -- what stands behind others
@@ -241,8 +228,9 @@ module _ (rows : Rows) (ticket : Ticket) where
       chain-why P (proper_name name) _ (name-why P name (λ bad. (refl, bad))) (λ named named_ok.
       chain-why P (unless (not (list_any is_named rows.clerks)) (Taken name)) _
       (unless-why P (not (list_any is_named rows.clerks)) (Taken name) (λ some.
-      let any = Any-from_list_any is_named rows.clerks (not-false (list_any is_named rows.clerks) some) in
-      (ticket, any.1, refl, (any.0, any.2, any.3), (bytes_eq-Decides any.1.name name).0 any.4)))
+      let (index, one, inside, is, holds) = Any-from_list_any is_named rows.clerks
+      (not-false (list_any is_named rows.clerks) some) in
+      (ticket, one, refl, (index, inside, is), (bytes_eq-Decides one.name name).0 holds)))
       (λ free free_ok. chain-why P (within which.Clerks (length rows.clerks)) _
       (within-why P which.Clerks (length rows.clerks) (λ more. (_, (ticket, name, refl, refl), refl, more)))
       (λ few few_ok. done-why P _))) in
@@ -274,7 +262,8 @@ module _ (rows : Rows) (ticket : Ticket) where
       sheet-why rows command body fault wrong (λ refusal same. (fault, wrong, same))))
       (λ master reads. chain-why P (within which.Masters (length rows.masters + 1)) _
       (within-why P which.Masters (length rows.masters + 1) (λ more. (_, (ticket, name, body, refl, refl), refl, more)))
-      (λ few few_ok. chain-why P _ _ (within-why P which.MasterCells _ (λ more. (
+      (λ few few_ok. chain-why P (within which.MasterCells (master_cells rows.masters + cell_count master)) _
+      (within-why P which.MasterCells _ (λ more. (
         _,
         (
           ticket,
@@ -403,7 +392,7 @@ module _ (rows : Rows) (ticket : Ticket) where
       (masters-why P published masters (λ master listed none. inl (master, listed, none))
       (λ one twice. inr (inl twice)))
       (λ places places_ok.
-      let at = masters-places published masters [] places places_ok in
+      let (found_places, are_found, all_found) = masters-places published masters [] places places_ok in
       let made : EditionRow =
       next_edition rows.editions name book places (in_order attributes (length rules.schema.attributes)) in
       chain-why P (within which.Editions (length rows.editions + 1)) _
@@ -422,7 +411,7 @@ module _ (rows : Rows) (ticket : Ticket) where
         more,
       )))
       (λ room room_ok. chain-why P (bindable published made) _ (bindable-why name rulebook masters folded made names_it
-      (at.2 ∙ ap Some (sym at.1)))
+      (all_found ∙ ap Some (sym are_found)))
       (λ binds binds_ok. done-why P _)))))))) in
       chain-why P (edition_row published name rulebook masters folded) _ whole (λ row ok. done-why P _)
 
@@ -466,7 +455,8 @@ module _ (rows : Rows) (ticket : Ticket) where
       (rows-why P attributes texts [] texts 1 refl refl
       (λ one row counted stands narrow. (row, counted, stands, narrow))
       (λ row cell listed there long. (cell.1, (row, listed, there), long)))
-      (λ full full_ok. chain-why P _ _ (within-why P which.Regions _ (λ more. (
+      (λ full full_ok. chain-why P (within which.Regions (region_count rows.regions at + 1)) _
+      (within-why P which.Regions _ (λ more. (
         _,
         (
           at,
@@ -495,7 +485,8 @@ module _ (rows : Rows) (ticket : Ticket) where
       chain-why P (derivation_of published edition version master pairs) _
       (derivation-why rows command edition version master pairs refl refl refl refl) (λ derivation found.
       let there = (IsAskedOf-found published edition version master pairs derivation found).named in
-      chain-why P _ _ (within-why P which.Regions _ (λ more. (
+      chain-why P (within which.Regions (region_count rows.regions derivation.edition + 1)) _
+      (within-why P which.Regions _ (λ more. (
         _,
         (derivation.edition, inr (inl ((edition, version), refl, there)), refl),
         refl,

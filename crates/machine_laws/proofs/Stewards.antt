@@ -1,5 +1,5 @@
 -- The steward is answered alike where the same was published, under the same names.
-use Rattle.std.proofs.Common.{◌≡◌, ◌∙◌, ℕ, Bool, true, false, List, [], ◌∷◌, ◌++◌, length, map, set, refl, sym, ap}
+use Rattle.std.proofs.Common.{◌≡◌, ◌∙◌, ℕ, Bool, true, false, List, [], ◌∷◌, ◌++◌, length, map, set, refl, sym, ap, Ok}
 use Rattle.std.specs.Prelude.{◌==◌, ◌||◌, if◌then◌else◌, not, slice_get}
 use Rattle.std.specs.List.{list_any}
 use Rattle.std.specs.Str.{bytes_eq}
@@ -22,7 +22,7 @@ use Rattle.desk_words.specs.declared.steward_work.StewardWork.TheVariants.{AddCl
 use Rattle.desk_words.specs.declared.steward_work.StewardWork.TheVariants.{AddEdition, AddRegion, AddDerived}
 use Rattle.desk_words.specs.Changes.{changed, put}
 use Rattle.desk_words.specs.Tables.{Published, Rows, new_clerk, published_of}
-use Rattle.machine_core.specs.Checked.{Checked, ◌>>=◌, ◌>>◌, certainly, done, unless}
+use Rattle.machine_core.specs.Checked.{Checked, ◌>>=◌, ◌>>◌, certainly, done, unless, run, and_then, told}
 use Rattle.machine_core.specs.Kept.{kept_made, region_made}
 use Rattle.machine_core.specs.Limits.{within}
 use Rattle.machine_core.specs.Machine.{machine, making_changes, making_of, steward_write}
@@ -60,81 +60,86 @@ clerk_making names name =
     >> (within which.Clerks (length names) >> done (new_clerk name)))
     >>= (λ row. done (record { change = change.Clerk (length names) row; act = act.Clerk; target = length names }))
 
-clerk_making-names : (rows : Rows) (name : List ℕ) → making_of rows (AddClerk name) ≡ clerk_making
-    (names_of rows.clerks) name
+clerk_making-names : (rows : Rows) (name : List ℕ) → run (making_of rows (AddClerk name))
+    ≡ run (clerk_making (names_of rows.clerks) name)
 clerk_making-names rows name =
     let any = list_any-names rows.clerks name in
     let long = sym (length-map rows.clerks (λ (row : ClerkRow). row.name)) in
-    λ i. tests.proper_name name >> (unless (not (any i)) (Taken name) >> (within which.Clerks (long i) >> done
+    λ i. run (tests.proper_name name >> (unless (not (any i)) (Taken name) >> (within which.Clerks (long i) >> done
     (new_clerk name))) >>= (λ row. done
-    (record { change = change.Clerk (long i) row; act = act.Clerk; target = long i }))
+    (record { change = change.Clerk (long i) row; act = act.Clerk; target = long i })))
 
 -- what the steward makes is the same
-making-alike : (rows other : Rows) (work : StewardWork) → AreAsToSteward rows other → making_of rows work ≡ making_of
-    other work
+making-alike : (rows other : Rows) (work : StewardWork) → AreAsToSteward rows other
+    → run (making_of rows work) ≡ run (making_of other work)
 making-alike rows other (AddClerk name) alike =
-    clerk_making-names rows name ∙ ap (λ names. clerk_making names name) alike.names
+    clerk_making-names rows name ∙ ap (λ names. run (clerk_making names name)) alike.names
     ∙ sym (clerk_making-names other name)
-making-alike rows other (AddSchema body) alike = ap (λ (one : Published). schema_row one.schemas body >>= (λ row. done
-    (record { change = change.Schema row; act = act.Schema; target = length one.schemas }))) alike.published
+making-alike rows other (AddSchema body) alike = ap
+    (λ (one : Published). run (schema_row one.schemas body >>= (λ row. done
+    (record { change = change.Schema row; act = act.Schema; target = length one.schemas })))) alike.published
 making-alike rows other (AddMaster name body) alike =
-    ap (λ (one : Published). master_row one.masters name body >>= (λ row.
-    done (record { change = change.Master row; act = act.Master; target = length one.masters }))) alike.published
+    ap (λ (one : Published). run (master_row one.masters name body >>= (λ row.
+    done (record { change = change.Master row; act = act.Master; target = length one.masters })))) alike.published
 making-alike rows other (AddRulebook name schema version body) alike =
-    ap (λ (one : Published). rulebook_row one name schema
+    ap (λ (one : Published). run (rulebook_row one name schema
     version body >>= (λ row. done (record {
       change = change.Rulebook row;
       act = act.Rulebook;
       target = length
           one.rulebooks;
-    }))) alike.published
-making-alike rows other (AddEdition name rulebook masters folded) alike = ap (λ (one : Published). edition_row one name
+    })))) alike.published
+making-alike rows other (AddEdition name rulebook masters folded) alike = ap
+    (λ (one : Published). run (edition_row one name
     rulebook masters folded >>= (λ row. done (record {
       change = change.Edition row;
       act = act.Edition;
       target = length
           one.editions;
-    }))) alike.published
+    })))) alike.published
 making-alike rows other (AddRegion edition version attributes texts) alike =
-    ap (λ (one : Published). region_row one edition
+    ap (λ (one : Published). run (region_row one edition
     version attributes texts >>= (λ row. done (record {
       change = change.Region row;
       act = act.Region;
       target = length
           one.regions;
-    }))) alike.published
+    })))) alike.published
 making-alike rows other (AddDerived edition version master pairs from) alike =
-    ap (λ (one : Published). derived_region one
+    ap (λ (one : Published). run (derived_region one
     edition version master pairs from >>= (λ row. done (record {
       change = change.Region row;
       act = act.Region;
       target = length
           one.regions;
-    }))) alike.published
+    })))) alike.published
 
 -- and so is the kept reply
 kept-alike : (rows other : Rows) (what : Act) (target : ℕ) → published_of rows ≡ published_of other
-    → names_of rows.clerks ≡ names_of other.clerks → kept_made rows what target ≡ kept_made other what target
+    → names_of rows.clerks ≡ names_of other.clerks
+    → run (kept_made rows what target) ≡ run (kept_made other what target)
 kept-alike rows other act.Clerk target published names =
     let name_in : ClerkRow → List ℕ = λ row. row.name in
     made_clerk-names (slice_get rows.clerks target)
-    ∙ ap (λ name. certainly name >>= (λ one. done (made.Clerk one))) (sym (slice_get-map name_in rows.clerks target)
+    ∙ ap (λ name. run (certainly name >>= (λ one. done (made.Clerk one))))
+    (sym (slice_get-map name_in rows.clerks target)
     ∙ ap (λ list. slice_get list target) names ∙ slice_get-map name_in other.clerks target)
     ∙ sym (made_clerk-names (slice_get other.clerks target))
 kept-alike rows other act.Schema target published names =
-    ap (λ (one : Published). certainly (slice_get one.schemas target)
-    >>= (λ row. done (made.Schema row.name row.version))) published
+    ap (λ (one : Published). run (certainly (slice_get one.schemas target)
+    >>= (λ row. done (made.Schema row.name row.version)))) published
 kept-alike rows other act.Master target published names =
-    ap (λ (one : Published). certainly (slice_get one.masters target)
-    >>= (λ row. done (made.Master row.name row.version))) published
-kept-alike rows other act.Rulebook target published names = ap (λ (one : Published). certainly (slice_get one.rulebooks
-    target) >>= (λ row. done (made.Rulebook row.name row.version))) published
+    ap (λ (one : Published). run (certainly (slice_get one.masters target)
+    >>= (λ row. done (made.Master row.name row.version)))) published
+kept-alike rows other act.Rulebook target published names = ap
+    (λ (one : Published). run (certainly (slice_get one.rulebooks
+    target) >>= (λ row. done (made.Rulebook row.name row.version)))) published
 kept-alike rows other act.Edition target published names =
-    ap (λ (one : Published). certainly (slice_get one.editions target)
-    >>= (λ row. done (made.Edition row.name row.version))) published
+    ap (λ (one : Published). run (certainly (slice_get one.editions target)
+    >>= (λ row. done (made.Edition row.name row.version)))) published
 kept-alike rows other act.Region target published names =
-    ap (λ (one : Published). certainly (slice_get one.regions target)
-    >>= region_made one target) published
+    ap (λ (one : Published). run (certainly (slice_get one.regions target)
+    >>= region_made one target)) published
 kept-alike rows other act.Nothing target published names = refl
 kept-alike rows other act.Opened target published names = refl
 kept-alike rows other act.Changed target published names = refl
@@ -191,28 +196,30 @@ changed-names rows other (change.Batch caller row) same = same
 -- the steward's request comes to the same
 steward-write-alike : (rows other : Rows) (ticket : Ticket) (work : StewardWork) (turn : Use)
     → AreAsToSteward rows other
-    → steward_write rows ticket work turn ≡ steward_write other ticket work turn
+    → run (steward_write rows ticket work turn) ≡ run (steward_write other ticket work turn)
 steward-write-alike rows other ticket work Repeated alike =
-    let kept : kept_made rows (own_of rows 0).row.act (own_of rows 0).row.target
-    ≡ kept_made other (own_of other 0).row.act (own_of other 0).row.target =
+    let kept : run (kept_made rows (own_of rows 0).row.act (own_of rows 0).row.target)
+    ≡ run (kept_made other (own_of other 0).row.act (own_of other 0).row.target) =
     kept-alike rows other (own_of rows 0).row.act (own_of rows 0).row.target alike.published alike.names
-    ∙ ap (λ (row : ClerkRow). kept_made other row.act row.target) alike.row in
-    ap (λ one. one >>= (λ found. done (reply.Made found, []))) kept
+    ∙ ap (λ (row : ClerkRow). run (kept_made other row.act row.target)) alike.row in
+    ap (λ one. and_then one (λ found. told (Ok (reply.Made found, [])))) kept
 steward-write-alike rows other ticket work Fresh alike =
     let last : Rows → ClerkRow → Making → Checked (Reply × List Change) = λ one row making.
     kept_made (changed one making.change) making.act making.target
     >>= (λ found. done (reply.Made found, making_changes row ticket making)) in
-    let each_making : (making : Making) → last rows (own_of rows 0).row making ≡ last other (own_of other 0).row making
+    let each_making : (making : Making) → run (last rows (own_of rows 0).row making)
+    ≡ run (last other (own_of other 0).row making)
     =
     λ making.
     let kept = kept-alike (changed rows making.change) (changed other making.change) making.act making.target
     (changed-published rows other making.change alike.published) (changed-names rows other making.change alike.names) in
-    λ i. kept i >>= (λ found. done (reply.Made found, making_changes (alike.row i) ticket making)) in
-    ap (λ one. one >>= last rows (own_of rows 0).row) (making-alike rows other work alike)
-    ∙ (λ i. making_of other work >>= (λ making. each_making making i))
+    λ i. and_then (kept i) (λ found. told (Ok (reply.Made found, making_changes (alike.row i) ticket making))) in
+    ap (λ one. and_then one (λ making. run (last rows (own_of rows 0).row making))) (making-alike rows other work alike)
+    ∙ (λ i. and_then (run (making_of other work)) (λ making. each_making making i))
 
 pub steward-machine : (rows other : Rows) (ticket : Ticket) (work : StewardWork) → AreAsToSteward rows other
-    → machine rows (Steward ticket work) ≡ machine other (Steward ticket work)
+    → run (machine rows (Steward ticket work)) ≡ run (machine other (Steward ticket work))
 steward-machine rows other ticket work alike =
-    ap (λ (row : ClerkRow). use_of row ticket >>= steward_write rows ticket work) alike.row
-    ∙ (λ i. use_of (own_of other 0).row ticket >>= (λ turn. steward-write-alike rows other ticket work turn alike i))
+    ap (λ (row : ClerkRow). run (use_of row ticket >>= steward_write rows ticket work)) alike.row
+    ∙ (λ i. and_then (run (use_of (own_of other 0).row ticket)) (λ turn.
+    steward-write-alike rows other ticket work turn alike i))

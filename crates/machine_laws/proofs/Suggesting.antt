@@ -1,15 +1,12 @@
 -- Every state of a valid kit has a suggestion, whatever the regions are.
-use Rattle.std.proofs.Common.{◌≡◌, ◌⊎◌, ◌≤◌, ◌+◌, ◌-◌, ℕ, zero, suc, true, false, List, [], ◌∷◌, ◌++◌, length, map, inl}
+use Rattle.std.proofs.Common.{◌≡◌, ◌⊎◌, ◌≤◌, ◌+◌, ◌-◌, ℕ, zero, suc, List, [], ◌∷◌, ◌++◌, length, map, inl}
 use Rattle.std.proofs.Common.{inr, refl, ap, arith}
 use Rattle.std.specs.Prelude.{◌↔◌, Contains}
 use Rattle.fix_model.specs.declared.kit.Kit.{Kit}
 use Rattle.fix_model.specs.declared.region.Region.{Region}
-use Rattle.fix_model.specs.declared.region.RowVerdict.TheVariants as row
-use Rattle.fix_model.specs.declared.state.Cell.{Cell}
-use Rattle.fix_model.specs.declared.state.Cell.TheVariants.{Uncovered, Confirmed, Fixed}
+use Rattle.fix_model.specs.declared.state.Cell.TheVariants.{Confirmed}
 use Rattle.fix_model.specs.declared.state.State.{State}
 use Rattle.fix_model.specs.declared.state.Step.{Step}
-use Rattle.fix_model.specs.Fix.{HasFix}
 use Rattle.fix_model.specs.Regions.{row_state}
 use Rattle.fix_model.specs.Run.{end_of}
 use Rattle.fix_model.specs.States.{Fits, cell_at, value_at}
@@ -23,12 +20,12 @@ use Rattle.region_suggest.specs.declared.suggestion.Suggestion.{Suggestion}
 use Rattle.region_suggest.specs.Offers.{AreOffers, HoldsConfirmed, IsOffer, IsPlace, ListsExactly, attributes_at}
 use Rattle.region_suggest.specs.Offers.{region_at, texts_at}
 use Rattle.region_suggest.specs.Suggestions.{IsSuggestion}
-use Rattle.region_suggest.proofs.Pairs.{ListsExactly-none, ListsExactly-push, ListsExactly-same, certain-only}
+use Rattle.region_suggest.proofs.Pairs.{ListsExactly-none, ListsExactly-push, ListsExactly-same}
 use Rattle.fix_engine.proofs.Rows.{Fits-row}
 use Rattle.region_suggest.proofs.Wider.{IsCovered-within, decide_listed}
 use Rattle.machine_laws.proofs.Advising.{some-gains, some-need}
-use Rattle.machine_laws.proofs.Answering.{some-answer}
-use Rattle.machine_laws.proofs.Decisions.{decide_each, decide_records, implied}
+use Rattle.machine_laws.proofs.Answering.{some-answer, decide_certain}
+use Rattle.machine_laws.proofs.Decisions.{decide_each, decide_records, implied, decide_confirmed}
 
 -- pairs of numbers from 1, with so many first ones, and so many second ones beside each
 module _ (Holds : ℕ × ℕ → Type 0) (decide : (pair : ℕ × ℕ) → Decided (Holds pair)) (most : ℕ) (rows : ℕ → ℕ)
@@ -165,30 +162,6 @@ module _ (Holds : ℕ × ℕ → Type 0) (decide : (pair : ℕ × ℕ) → Decid
           λ holds. (holds, inl (first_within pair holds).1),
         )) all.1,
       )
-
--- whether a cell is confirmed
-decide_confirmed : (cell : Cell) → Decided (cell ≡ Confirmed)
-decide_confirmed Uncovered = inr (λ same. cc)
-decide_confirmed Confirmed = inl refl
-decide_confirmed (Fixed step) = inr (λ same. cc)
-
--- whether a state has a certain fix
-decide_certain : (kit : Kit) (state : State) → IsValid kit → Fits kit state → Decided (HasFix kit state true)
-decide_certain kit state valid fits =
-    let answer = some-answer kit state valid fits in
-    by_verdict answer.0.first answer.0.second answer.0.verdict answer.1
-  where
-    by_verdict : (first second : List Step) (verdict : Verdict) → IsAnswer kit state first second verdict
-        → Decided (HasFix kit state true)
-    by_verdict first second (Fix true dissent) is = inl (first, dissent, is.0)
-    by_verdict first second (Fix false dissent) is = inr (λ certain.
-        (let same = certain-only kit state row.Partial (first, dissent, is.0) certain in cc))
-    by_verdict first second Conflict is = inr (λ certain.
-        (let same = certain-only kit state row.Conflict (
-          first,
-          is.is_first,
-          (second, is.is_second.holds),
-        ) certain in cc))
 
 module _ (kit : Kit) (state : State) (regions : List Region) (valid : IsValid kit) (fits : Fits kit state) where
   -- whether a pair names a row of a region

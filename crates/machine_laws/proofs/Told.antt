@@ -1,21 +1,19 @@
 -- A request that is not refused is told what the machine gives.
-use Rattle.std.proofs.Common.{◌≡◌, ◌≢◌, ◌⊎◌, ◌∙◌, ℕ, List, [], inl, inr, refl, sym, ap, subst}
+use Rattle.std.proofs.Common.{◌≡◌, ◌≢◌, ◌∙◌, ℕ, List, [], refl, sym, ap, subst}
 use Rattle.std.specs.Prelude.{Result, Ok, Err}
 use Rattle.desk_words.specs.declared.change.Change.{Change}
 use Rattle.desk_words.specs.declared.command.Command.{Command}
-use Rattle.desk_words.specs.declared.command.Command.TheVariants.{Steward, Look}
-use Rattle.desk_words.specs.declared.command.Ticket.{Ticket}
+use Rattle.desk_words.specs.declared.command.Command.TheVariants.{Look}
 use Rattle.desk_words.specs.declared.look.Look.{Look as LookOf}
 use Rattle.desk_words.specs.declared.refusal.Refusal.{Refusal}
 use Rattle.desk_words.specs.declared.reply.Reply.{Reply}
 use Rattle.desk_words.specs.declared.reply.Reply.TheVariants as reply
-use Rattle.desk_words.specs.declared.steward_work.StewardWork.{StewardWork}
 use Rattle.desk_words.specs.Tables.{Rows, published_of}
-use Rattle.machine_core.specs.Checked.{Checked, ◌>>=◌, done, Gives}
+use Rattle.machine_core.specs.Checked.{Checked, ◌>>=◌, done, Gives, ComesTo, IsFound}
 use Rattle.machine_core.specs.Machine.{IsStep, answered, clerk_of, look_reply, machine}
 use Rattle.machine_core.specs.Own.{own_of}
 use Rattle.machine_core.proofs.Chains.{Gives-bind, Gives-bind_ok, Gives-unique, done-value}
-use Rattle.machine_laws.proofs.Writes.{IsStewardsNew, clerk_of-ok, steward-written}
+use Rattle.machine_laws.proofs.Writes.{clerk_of-ok}
 
 pub step-told : (rows : Rows) (command : Command) (answer : Reply) (changes : List Change)
     → ((refusal : Refusal) → answer ≢ reply.Refused refusal) → IsStep rows command answer changes
@@ -30,7 +28,7 @@ step-told rows command answer changes told step = whole step.outcome step.gives 
 -- a look is told what comes of the clerk's own rows
 pub record IsToldTo (rows : Rows) (name : List ℕ) (look : LookOf) (answer : Reply) : Type 0 where
   pub place : ℕ
-  pub found : clerk_of rows.clerks name ≡ done place
+  pub found : IsFound (clerk_of rows.clerks name) place
   pub gives : Gives (look_reply (published_of rows) (own_of rows place) look) (Ok answer)
 
 pub look-told : (rows : Rows) (name : List ℕ) (look : LookOf) (answer : Reply) (changes : List Change)
@@ -57,7 +55,8 @@ pub told-again : (rows : Rows) (name : List ℕ) (look : LookOf) (answer other :
     → IsToldTo rows name look answer → IsStep rows (Look name look) other changes → other ≡ answer
 told-again rows name look answer other changes is step =
     let last : Reply → Checked (Reply × List Change) = λ one. done (one, []) in
-    let found : Gives (clerk_of rows.clerks name) (Ok is.place) = subst (λ one. Gives one (Ok is.place)) (sym is.found)
+    let found : Gives (clerk_of rows.clerks name) (Ok is.place) = subst (λ one. ComesTo one (Ok is.place))
+    (sym is.found)
     refl in
     let whole : Gives (machine rows (Look name look)) (Ok (answer, [])) = Gives-bind (clerk_of rows.clerks name)
     (λ place.
@@ -66,20 +65,3 @@ told-again rows name look answer other changes is step =
     refl) in
     let same = Gives-unique (machine rows (Look name look)) step.outcome (Ok (answer, [])) step.gives whole in
     ap (λ (both : Reply × List Change). both.0) (step.answers ∙ ap answered same)
-
--- a write of the steward changes nothing, or is new
-pub steward-cases : (rows : Rows) (ticket : Ticket) (work : StewardWork) (answer : Reply) (changes : List Change)
-    → IsStep rows (Steward ticket work) answer changes
-    → (changes ≡ []) ⊎ IsStewardsNew rows ticket work answer changes
-steward-cases rows ticket work answer changes step =
-    subst (λ (both : Reply × List Change). (both.1 ≡ []) ⊎ IsStewardsNew rows ticket work both.0 both.1)
-    (sym step.answers)
-    (whole step.outcome step.gives)
-  where
-    whole : (outcome : Result (Reply × List Change) Refusal) → Gives (machine rows (Steward ticket work)) outcome
-        → ((answered outcome).1 ≡ []) ⊎ IsStewardsNew rows ticket work (answered outcome).0 (answered outcome).1
-    whole (Ok made) gives = elim (steward-written rows ticket work made gives) [
-      | inl again ↦ inl again.unchanged
-      | inr new ↦ inr new
-    ]
-    whole (Err refusal) gives = inl refl

@@ -37,17 +37,18 @@ use Rattle.desk_valid.specs.declared.bound.Bound.{Bound}
 use Rattle.desk_valid.specs.Readings.{width_at}
 use Rattle.desk_valid.specs.Tallies.{is_active}
 use Rattle.desk_valid.specs.Valid.{AreValid}
-use Rattle.machine_core.specs.Answers.{bound_for, shown_state, state_of}
-use Rattle.machine_core.specs.Checked.{Answer, Checked, ◌>>=◌, answer_for, done, each, Gives}
+use Rattle.machine_core.specs.Answers.{shown_state, state_of}
+use Rattle.machine_core.specs.Checked.{Answer, Checked, ◌>>=◌, done, each, Gives}
 use Rattle.machine_core.specs.Look.Report.{Assessment, assessment_of, is_abandoned, is_certain_fix, is_committed}
 use Rattle.machine_core.specs.Look.Report.{is_confirmed_cell, is_conflict, is_fixed_cell, is_partial_fix}
 use Rattle.machine_core.specs.Look.Report.{is_uncovered_cell, line_over, report_line, report_of}
-use Rattle.machine_core.specs.Machine.{IsStep, answered, clerk_of, look_reply, machine}
+use Rattle.machine_core.specs.Machine.{IsStep, answered, machine}
 use Rattle.machine_core.specs.Own.{Own, own_of}
 use Rattle.machine_core.proofs.Chains.{Gives-bind_ok, done-value}
 use Rattle.machine_core.proofs.Tested.{each-length}
 use Rattle.machine_laws.specs.Sums.{AddsUp, LineAddsUp}
 use Rattle.machine_laws.proofs.Lists.{slice_get-read}
+use Rattle.machine_core.proofs.Walks.{Gives-Met, Met-Gives}
 
 -- three sums are the sum of the three
 sums-three : {A : Type 0} (one two three all : A → ℕ) (items : List A)
@@ -109,11 +110,12 @@ each-all_of : {A B : Type 0} (Q : A → Type 0) (P : B → Type 0) (find : A →
     → Gives (each find items) (Ok found) → All P found
 each-all_of Q P find [] found all holds gives = subst (All P) (sym (done-value [] found gives)) (All-nil P)
 each-all_of Q P find (first ∷ others) found all holds gives =
-    let here = Gives-bind_ok (find first) (λ one. each find others >>= (λ more. done (one ∷ more))) found gives in
-    let rest = Gives-bind_ok (each find others) (λ more. done (here.0 ∷ more)) found here.2 in
-    subst (All P) (sym (done-value (here.0 ∷ rest.0) found rest.2)) (All-cons P here.0 rest.0
-    (holds first here.0 (All-head Q first others all) here.1)
-    (each-all_of Q P find others rest.0 (All-tail Q first others all) holds rest.1))
+    let (here, is_here, rest) =
+    Gives-bind_ok (find first) (λ one. each find others >>= (λ more. done (one ∷ more))) found gives in
+    let (more, are_more, is) = Gives-bind_ok (each find others) (λ more. done (here ∷ more)) found rest in
+    subst (All P) (sym (done-value (here ∷ more) found is)) (All-cons P here more
+    (holds first here (All-head Q first others all) is_here)
+    (each-all_of Q P find others more (All-tail Q first others all) holds are_more))
 
 -- what is found at a place was found of the item there
 each-at : {A B : Type 0} (find : A → Checked B) (items : List A) (found : List B) (place : ℕ) (value : B)
@@ -122,11 +124,12 @@ each-at : {A B : Type 0} (find : A → Checked B) (items : List A) (found : List
 each-at find [] found place value gives there =
     absurd (let none = ap (λ list. slice_get list place) (sym (done-value [] found gives)) ∙ there in cc)
 each-at {A} {B} find (first ∷ others) found place value gives there =
-    let here = Gives-bind_ok (find first) (λ one. each find others >>= (λ more. done (one ∷ more))) found gives in
-    let rest = Gives-bind_ok (each find others) (λ more. done (here.0 ∷ more)) found here.2 in
-    let stands : slice_get (here.0 ∷ rest.0) place ≡ Some value =
-    ap (λ list. slice_get list place) (sym (done-value (here.0 ∷ rest.0) found rest.2)) ∙ there in
-    at_place place here.0 rest.0 stands here.1 (λ index later. each-at find others rest.0 index value rest.1 later)
+    let (here, is_here, rest) =
+    Gives-bind_ok (find first) (λ one. each find others >>= (λ more. done (one ∷ more))) found gives in
+    let (more, are_more, is) = Gives-bind_ok (each find others) (λ more. done (here ∷ more)) found rest in
+    let stands : slice_get (here ∷ more) place ≡ Some value =
+    ap (λ list. slice_get list place) (sym (done-value (here ∷ more) found is)) ∙ there in
+    at_place place here more stands is_here (λ index later. each-at find others more index value are_more later)
   where
     at_place : (place : ℕ) (one : B) (more : List B) → slice_get (one ∷ more) place ≡ Some value
         → Gives (find first) (Ok one)
@@ -158,19 +161,9 @@ assessment-cells : (published : Published) (edition : ℕ) (session : SessionRow
     → (session.edition ≡ edition) × HasFlags published session → Gives (assessment_of published session) (Ok assessment)
     → IfSome (width_at published edition) (λ width. length assessment.cells ≡ width)
 assessment-cells published edition session assessment on gives =
-    let made : Bound → Answer → Assessment = λ bound answer. record {
-      session = session;
-      verdict = answer.verdict;
-      cells = (shown_state bound (state_of session) answer answer.verdict).cells;
-    } in
-    let bound = Gives-bind_ok (bound_for published session) (λ bound. answer_for bound.kit (state_of session)
-    >>= (λ answer. done (made bound answer))) assessment gives in
-    let answer = Gives-bind_ok (answer_for bound.0.kit (state_of session)) (λ answer. done (made bound.0 answer))
-    assessment
-    bound.2 in
+    let (bound, binds, (answer, answers, is)) = Met-Gives (assessment_of published session) (Ok assessment) gives in
     let cells : length assessment.cells ≡ length session.confirmed =
-    ap (λ (one : Assessment). length one.cells) (done-value (made bound.0 answer.0) assessment answer.2)
-    ∙ length-shown bound.0 session answer.0 answer.0.verdict in
+    ap (λ (one : Assessment). length one.cells) is ∙ length-shown bound session answer answer.verdict in
     as_wide (width_at published edition) cells
     (subst (λ one. IfSome (width_at published one) (λ width. length session.confirmed ≡ width)) on.0 on.1)
   where
@@ -213,12 +206,13 @@ report-adds published clerk sessions sheet flags gives =
     let places : List ℕ = range_with_len 0 (length published.editions) in
     let made : List ReportLine → ReportSheet = λ lines.
     record { clerk = clerk; lines = lines; total = sum_by (λ line. line.sessions) lines } in
-    let lines = Gives-bind_ok (each (report_line published sessions) places) (λ lines. done (made lines)) sheet gives in
-    subst (AddsUp published) (sym (done-value (made lines.0) sheet lines.2)) (record {
-      whole = each-length (report_line published sessions) places lines.0 lines.1
+    let (lines, are, is) =
+    Gives-bind_ok (each (report_line published sessions) places) (λ lines. done (made lines)) sheet gives in
+    subst (AddsUp published) (sym (done-value (made lines) sheet is)) (record {
+      whole = each-length (report_line published sessions) places lines are
           ∙ length-range_with_len 0 (length published.editions);
       lines = λ place line stands.
-          let found = each-at (report_line published sessions) places lines.0 place line lines.1 stands in
+          let found = each-at (report_line published sessions) places lines place line are stands in
           let within : place < length published.editions =
           omega (
             arith,
@@ -241,15 +235,15 @@ report-adds published clerk sessions sheet flags gives =
         let are : All Is ones = λ index past inside.
         let passes = filter_passes on sessions index past inside in
         (grind (arith, nat_tests, passes), All-filter on (HasFlags published) sessions flags index past inside) in
-        let all = Gives-bind_ok (each (assessment_of published) ones) (λ all. done (line_over published edition all))
-        line
-        given in
-        let wide : IfSome (width_at published edition) (λ width. All (λ one. length one.cells ≡ width) all.0) =
-        turned (width_at published edition) all.0 (each-all_of Is (λ one. IfSome (width_at published edition) (λ width.
-        length one.cells ≡ width)) (assessment_of published) ones all.0 are (assessment-cells published edition)
-        all.1) in
-        subst (LineAddsUp published edition) (sym (done-value (line_over published edition all.0) line all.2))
-        (line-adds published edition all.0 wide)
+        let (all, assessed, is) =
+        Gives-bind_ok (each (assessment_of published) ones) (λ all. done (line_over published edition all)) line given
+        in
+        let wide : IfSome (width_at published edition) (λ width. All (λ one. length one.cells ≡ width) all) =
+        turned (width_at published edition) all (each-all_of Is (λ one. IfSome (width_at published edition) (λ width.
+        length one.cells ≡ width)) (assessment_of published) ones all are (assessment-cells published edition)
+        assessed) in
+        subst (LineAddsUp published edition) (sym (done-value (line_over published edition all) line is))
+        (line-adds published edition all wide)
       where
         turned : (found : Option ℕ) (all : List Assessment)
             → All (λ one. IfSome found (λ width. length one.cells ≡ width)) all
@@ -281,22 +275,15 @@ look-adds rows name sheet changes valid step =
         → reply.Report sheet ≡ (answered outcome).0 → AddsUp (published_of rows) sheet
     whole (Err refusal) gives is = absurd (cc)
     whole (Ok made) gives is =
-        let last : Reply → Checked (Reply × List Change) = λ answer. done (answer, []) in
-        let place = Gives-bind_ok (clerk_of rows.clerks name)
-        (λ place. look_reply (published_of rows) (own_of rows place)
-        Report >>= last) made gives in
-        let own : Own = own_of rows place.0 in
-        let answer = Gives-bind_ok (look_reply (published_of rows) own Report) last made place.2 in
-        let report = Gives-bind_ok (report_of (published_of rows) (Some own.row.name) own.sessions) (λ one.
-        done (reply.Report one)) answer.0 answer.1 in
-        let first : made.0 ≡ answer.0 = ap (λ (one : Reply × List Change). one.0)
-        (done-value (answer.0, []) made answer.2) in
-        let same : reply.Report sheet ≡ reply.Report report.0 = is ∙ first ∙ done-value (reply.Report report.0) answer.0
-        report.2 in
-        let sheets : report.0 ≡ sheet = cc in
+        let (place, is_place, (answer, (report, reports, told_so), made_so)) =
+        Met-Gives (machine rows (Look name Report)) (Ok made) gives in
+        let own : Own = own_of rows place in
+        let same : reply.Report sheet ≡ reply.Report report =
+        is ∙ ap (λ (one : Reply × List Change). one.0) made_so ∙ told_so in
+        let sheets : report ≡ sheet = cc in
         subst (AddsUp (published_of rows)) sheets
-        (report-adds (published_of rows) (Some own.row.name) own.sessions report.0
-        (own-flags rows valid place.0) report.1)
+        (report-adds (published_of rows) (Some own.row.name) own.sessions report (own-flags rows valid place)
+        (Gives-Met (report_of (published_of rows) (Some own.row.name) own.sessions) (Ok report) reports))
 
 pub desk-adds : (rows : Rows) (sheet : ReportSheet) (changes : List Change) → AreValid rows
     → IsStep rows DeskReport (reply.Report sheet) changes → AddsUp (published_of rows) sheet
@@ -308,14 +295,14 @@ desk-adds rows sheet changes valid step =
     whole (Err refusal) gives is = absurd (cc)
     whole (Ok made) gives is =
         let all : List SessionRow = flat_map (λ sessions. sessions) rows.sessions in
-        let report = Gives-bind_ok (report_of (published_of rows) None all) (λ one. done (reply.Report one, [])) made
-        gives in
-        let same : reply.Report sheet ≡ reply.Report report.0 =
-        is ∙ ap (λ (one : Reply × List Change). one.0) (done-value (reply.Report report.0, []) made report.2) in
-        let sheets : report.0 ≡ sheet = cc in
-        subst (AddsUp (published_of rows)) sheets (report-adds (published_of rows) None all report.0
+        let (report, reports, told_so) =
+        Gives-bind_ok (report_of (published_of rows) None all) (λ one. done (reply.Report one, [])) made gives in
+        let same : reply.Report sheet ≡ reply.Report report =
+        is ∙ ap (λ (one : Reply × List Change). one.0) (done-value (reply.Report report, []) made told_so) in
+        let sheets : report ≡ sheet = cc in
+        subst (AddsUp (published_of rows)) sheets (report-adds (published_of rows) None all report
         (all-flat (HasFlags (published_of rows)) rows.sessions (λ index past inside. at_list index past inside))
-        report.1)
+        reports)
       where
         at_list : (index : ℕ) (past : List SessionRow) → index < length rows.sessions
             → All (HasFlags (published_of rows)) (get_or rows.sessions index past)

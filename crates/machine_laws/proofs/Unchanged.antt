@@ -1,6 +1,6 @@
 -- Refusals and looks change nothing.
-use Rattle.std.proofs.Common.{◌≡◌, ◌∙◌, ℕ, ◌+◌, ◌-◌, List, [], inl, inr, refl, sym, ap, subst}
-use Rattle.std.specs.Prelude.{Result, Ok, Err, count_by, drop, slice_get, take}
+use Rattle.std.proofs.Common.{◌≡◌, ◌∙◌, ℕ, List, [], inl, inr, refl, sym, ap, subst}
+use Rattle.std.specs.Prelude.{Result, Ok, Err}
 use Rattle.desk_words.specs.declared.change.Change.{Change}
 use Rattle.desk_words.specs.declared.command.Command.{Command}
 use Rattle.desk_words.specs.declared.command.Command.TheVariants.{Steward, Clerk, Look, DeskReport, DeskDerive}
@@ -10,15 +10,13 @@ use Rattle.desk_words.specs.declared.reply.Reply.TheVariants as reply
 use Rattle.desk_words.specs.declared.rows.act.Act.{Act}
 use Rattle.desk_words.specs.declared.rows.act.Act.TheVariants as act
 use Rattle.desk_words.specs.Tables.{Published, Rows, published_of}
-use Rattle.machine_core.specs.Checked.{certainly, done, each, Gives}
-use Rattle.machine_core.specs.Kept.{batch_reply, kept_reply}
-use Rattle.machine_core.specs.Look.Report.{Assessment, assessment_of, is_certain_fix, is_conflict, is_partial_fix}
-use Rattle.machine_core.specs.Look.View.{view_at}
+use Rattle.machine_core.specs.Checked.{Gives}
+use Rattle.machine_core.specs.Kept.{kept_reply}
 use Rattle.machine_core.specs.Machine.{IsStep, answered, machine}
 use Rattle.machine_core.specs.Own.{Own, after, own_of}
-use Rattle.machine_core.proofs.Chains.{Gives-bind_ok, done-value}
 use Rattle.machine_laws.proofs.Writes.{clerk-written, derive-unchanged, look-unchanged, report-unchanged}
 use Rattle.machine_laws.proofs.Writes.{steward-written}
+use Rattle.machine_core.proofs.Walks.{Met-Gives}
 
 -- where what is answered changes nothing, a step does not
 pub step-unchanged : (rows : Rows) (command : Command) (answer : Reply) (changes : List Change)
@@ -36,37 +34,20 @@ step-unchanged rows command answer changes none step =
 pub kept-not_refused : (published : Published) (own : Own) (what : Act) (target : ℕ) (refusal : Refusal)
     → Gives (kept_reply published own what target) (Ok (reply.Refused refusal)) → ⊥
 kept-not_refused published own act.Opened target refusal gives =
-    let view = Gives-bind_ok (view_at published own (target + 1)) (λ view. done (reply.Opened view))
-    (reply.Refused refusal)
-    gives in
-    let same = done-value (reply.Opened view.0) (reply.Refused refusal) view.2 in
+    let (view, shown, same) =
+    Met-Gives (kept_reply published own act.Opened target) (Ok (reply.Refused refusal)) gives in
     cc
 kept-not_refused published own act.Changed target refusal gives =
-    let view = Gives-bind_ok (view_at published own (target + 1)) (λ view. done (reply.View view))
-    (reply.Refused refusal)
-    gives in
-    let same = done-value (reply.View view.0) (reply.Refused refusal) view.2 in
+    let (view, shown, same) =
+    Met-Gives (kept_reply published own act.Changed target) (Ok (reply.Refused refusal)) gives in
     cc
 kept-not_refused published own act.Committed target refusal gives =
-    let row = Gives-bind_ok (certainly (slice_get own.records target))
-    (λ row. done (reply.Committed (target + 1) row.session
-    row.certain)) (reply.Refused refusal) gives in
-    let same = done-value (reply.Committed (target + 1) row.0.session row.0.certain) (reply.Refused refusal) row.2 in
+    let (row, stands, same) =
+    Met-Gives (kept_reply published own act.Committed target) (Ok (reply.Refused refusal)) gives in
     cc
 kept-not_refused published own act.Batched target refusal gives =
-    let row = Gives-bind_ok (certainly (slice_get own.batches target)) (batch_reply published own (target + 1))
-    (reply.Refused refusal) gives in
-    let counted : List Assessment → Reply = λ sessions. reply.Batched (record {
-      batch = target + 1;
-      first = row.0.first;
-      rows = row.0.count;
-      certain = count_by (λ one. is_certain_fix one.verdict) sessions;
-      partial = count_by (λ one. is_partial_fix one.verdict) sessions;
-      conflict = count_by (λ one. is_conflict one.verdict) sessions;
-    }) in
-    let all = Gives-bind_ok (each (assessment_of published) (take row.0.count (drop (row.0.first - 1) own.sessions)))
-    (λ sessions. done (counted sessions)) (reply.Refused refusal) row.2 in
-    let same = done-value (counted all.0) (reply.Refused refusal) all.2 in
+    let (row, stands, (all, assessed, same)) =
+    Met-Gives (kept_reply published own act.Batched target) (Ok (reply.Refused refusal)) gives in
     cc
 kept-not_refused published own act.Nothing target refusal gives = gives
 kept-not_refused published own act.Clerk target refusal gives = gives

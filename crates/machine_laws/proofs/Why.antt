@@ -39,7 +39,7 @@ use Rattle.desk_words.specs.declared.rows.session.Stage.TheVariants.{Active, Com
 use Rattle.desk_words.specs.Tables.{Published, Rows, published_of}
 use Rattle.desk_valid.specs.declared.bound.Bound.{Bound}
 use Rattle.desk_valid.specs.Bindings.{bound_at}
-use Rattle.desk_valid.specs.Tallies.{bytes_in, is_active, text_bytes}
+use Rattle.desk_valid.specs.Tallies.{bytes_in, is_active, text_bytes, active_count, typed_bytes}
 use Rattle.fix_engine.specs.Verdicts.{IsAnswer}
 use Rattle.fix_engine.specs.declared.verdict.Verdict.{Verdict}
 use Rattle.fix_engine.specs.declared.verdict.Verdict.TheVariants.{Fix, Conflict}
@@ -48,15 +48,16 @@ use Rattle.fix_model.specs.States.{cell_at, fixed_by, uncovered_count}
 use Rattle.machine_core.specs.Answers.{bound_for, state_of}
 use Rattle.machine_core.specs.Causes.{AreWords, AsksWith, Cause, Commits, Explains, MakesSessions, Names, RefusesBody}
 use Rattle.machine_core.specs.Checked.{Answer, Checked, ◌>>=◌, ◌>>◌, answer_for, certainly, done, each, each_behind}
+use Rattle.machine_core.specs.Checked.{IsFound}
 use Rattle.machine_core.specs.Checked.{some_or, unless, value_or, Gives}
 use Rattle.machine_core.specs.Clerk.Abandon.{abandon}
 use Rattle.machine_core.specs.declared.column.Column.{Column}
-use Rattle.machine_core.specs.Clerk.Batch.{another_column, enter_batch, is_starred, word_of}
+use Rattle.machine_core.specs.Clerk.Batch.{another_column, enter_batch, word_of, row_session}
 use Rattle.machine_core.specs.Clerk.Carry.{carry, carry_row}
 use Rattle.machine_core.specs.Clerk.Commit.{accepted_record, accepts, commit, commit_rows, fixed_end}
 use Rattle.machine_core.specs.Clerk.Commit.{not_in_conflict, record_at}
-use Rattle.machine_core.specs.Clerk.Confirm.{confirm, confirm_row}
-use Rattle.machine_core.specs.Clerk.Enter.{enter, enter_row}
+use Rattle.machine_core.specs.Clerk.Confirm.{confirm, confirm_row, bytes_with}
+use Rattle.machine_core.specs.Clerk.Enter.{enter, enter_row, new_session}
 use Rattle.machine_core.specs.Clerk.Withdraw.{confirmed_place, withdraw, withdraw_row}
 use Rattle.machine_core.specs.Faults.{sheet_refusal}
 use Rattle.machine_core.specs.Finding.{edition_named, newest_edition, session_at}
@@ -66,13 +67,14 @@ use Rattle.machine_core.specs.Machine.{clerk_of, deed_of}
 use Rattle.machine_core.specs.Named.{GivesText, attributes_in, carried_in, session_in, sheet_words}
 use Rattle.machine_core.specs.Own.{Own, own_of}
 use Rattle.machine_core.specs.Tests.{active, active_session, attribute_of, session_of, typed_cell}
-use Rattle.machine_core.specs.Views.{edition_at, view_of, view_with}
+use Rattle.machine_core.specs.Views.{edition_at, view_of}
 use Rattle.machine_core.proofs.Chains.{Gives-bind_ok, done-value, refused-not_done, refused-refusal}
 use Rattle.machine_core.proofs.Tested.{certainly-ok, certainly-why, chain-why, done-why, each-why, each_behind-found}
 use Rattle.machine_core.proofs.Tested.{each_behind-refused, some_or-ok, some_or-why, unless-why, value_or-ok}
 use Rattle.machine_core.proofs.Tested.{value_or-why, within-why}
 use Rattle.machine_laws.proofs.Explanations.{answer-given}
 use Rattle.machine_laws.proofs.Names.{none-passes}
+use Rattle.machine_core.proofs.Walks.{Met, Met-Gives}
 
 -- the image of an item is among the images
 pub Contains-image : {A B : Type 0} (image : A → B) (items : List A) (item : A) → Contains items item
@@ -105,12 +107,13 @@ answer-why P kit state refusal gives = done-why P gives.0 refusal gives.2
 -- nor is a session shown
 pub view-why : (P : Refusal → Type 0) (published : Published) (number : ℕ) (session : SessionRow) (refusal : Refusal)
     → Gives (view_of published number session) (Err refusal) → P refusal
-view-why P published number session = chain-why P (bound_for published session) _
-    (certainly-why P (bound_at published session.edition)) (λ bound is.
-    chain-why P (answer_for bound.kit (state_of session))
-    (λ answer. done (view_with published number session bound answer))
-    (answer-why P bound.kit (state_of session))
-    (λ answer given. done-why P (view_with published number session bound answer)))
+view-why P published number session refusal gives = none
+    (Met-Gives (view_of published number session) (Err refusal) gives)
+  where
+    none : Met (view_of published number session) (Err refusal) → P refusal
+    none (inl never) = absurd never
+    none (inr (bound, binds, inl never)) = absurd never
+    none (inr (bound, binds, inr (answer, is, never))) = absurd never
 
 -- an attribute is not found
 pub attribute-why : (P : Refusal → Type 0) (words : List (List ℕ)) (word : List ℕ)
@@ -124,7 +127,8 @@ cell-why : (P : Refusal → Type 0) (words : List (List ℕ)) (cell : List ℕ �
     → (All (λ one. one ≢ cell.0) words → P (UnknownAttr cell.0)) → (200 < length cell.1 → P (ValueLong cell.0))
     → (refusal : Refusal) → Gives (typed_cell words cell) (Err refusal) → P refusal
 cell-why P words cell unknown long = chain-why P (attribute_of words cell.0) _ (attribute-why P words cell.0 unknown)
-    (λ place is. chain-why P _ _ (unless-why P (nat_le (length cell.1) 200) (ValueLong cell.0) (λ fails.
+    (λ place is. chain-why P (unless (nat_le (length cell.1) 200) (ValueLong cell.0)) _
+    (unless-why P (nat_le (length cell.1) 200) (ValueLong cell.0) (λ fails.
     long (grind (arith, nat_tests, fails)))) (λ passed ok. done-why P _))
 
 -- a session is not active
@@ -283,7 +287,7 @@ explain-why rows name number word own asks =
     >> (fixed_at (end_it answer) place word >> explanation_of bound (state_of session) answer.first place) in
     chain-why P (attribute_of bound.names.attributes word) _ (attribute-why P bound.names.attributes word (λ unknown.
     (bound.names.attributes, words, (0, omega arith, refl), unknown)))
-    (λ place there. chain-why P (answer_for bound.kit (state_of session)) (explaining place)
+    (λ place there. chain-why P (answer_for bound.kit (state_of session)) _
     (answer-why P bound.kit (state_of session)) (λ answer given.
     let explains : Explains rows command word session bound answer = record {
       name = name;
@@ -293,11 +297,10 @@ explain-why rows name number word own asks =
       binds = binds;
       answers = answer-given bound.kit (state_of session) answer given;
     } in
-    chain-why P (not_in_conflict answer.verdict) (λ _. fixed_at (end_it answer) place word
-    >> explanation_of bound (state_of session) answer.first place)
+    chain-why P (not_in_conflict answer.verdict) _
     (conflict-why P answer.verdict (λ conflict. (session, bound, answer, conflict, inr (word, explains))))
-    (λ fix fix_ok. chain-why P (fixed_at (end_it answer) place word) (λ _. explanation_of bound (state_of session)
-    answer.first place) (unless-why P (is_some (fixed_by (cell_at (end_it answer) place))) (NotFixed word) (λ fails. (
+    (λ fix fix_ok. chain-why P (fixed_at (end_it answer) place word) _
+    (unless-why P (is_some (fixed_by (cell_at (end_it answer) place))) (NotFixed word) (λ fails. (
       session,
       bound,
       answer,
@@ -311,7 +314,7 @@ explain-why rows name number word own asks =
     differ : {told : Bool} → told ≡ true → told ≡ false → ⊥
     differ holds fails = (let both : true ≡ false = sym holds ∙ fails in cc)
 
-module _ (rows : Rows) (name : List ℕ) (place : ℕ) (found : clerk_of rows.clerks name ≡ done place) (ticket : Ticket)
+module _ (rows : Rows) (name : List ℕ) (place : ℕ) (found : IsFound (clerk_of rows.clerks name) place) (ticket : Ticket)
   where
     abbrev its : Own
     its = own_of rows place
@@ -360,11 +363,14 @@ module _ (rows : Rows) (name : List ℕ) (place : ℕ) (found : clerk_of rows.cl
               confirmed word listed,
           unknown,
         ))))
-        (λ places ok. chain-why P _ _ (within-why P which.ActiveSessions _
+        (λ places ok. chain-why P (within which.ActiveSessions (active_count its.sessions + 1)) _
+        (within-why P which.ActiveSessions _
         (λ more. (_, (its, 1, asks, refl, refl), refl, more)))
-        (λ few few_ok. chain-why P _ _ (within-why P which.Sessions _
+        (λ few few_ok. chain-why P (within which.Sessions (length its.sessions + 1)) _ (within-why P which.Sessions _
         (λ more. (_, (its, 1, asks, refl, refl), refl, more)))
-        (λ few_too few_too_ok. chain-why P _ _ (within-why P which.Bytes _ (λ more.
+        (λ few_too few_too_ok. chain-why P (within which.Bytes (text_bytes its.sessions its.records
+        + bytes_in (new_session at (length bound.names.attributes) texts places 0).typed)) _
+        (within-why P which.Bytes _ (λ more.
         (_, (its, asks, (at, bound, texts, newest, binds, given, refl)), refl, more)))
         (λ last last_ok. done-why P _))))))) in
         chain-why P (enter_row (published_of rows) its edition cells confirmed) _ whole (λ session ok. done-why P _)
@@ -379,7 +385,7 @@ module _ (rows : Rows) (name : List ℕ) (place : ℕ) (found : clerk_of rows.cl
         chain-why P (confirm_row (published_of rows) its number cells) _
         (confirm-why rows command its number cells asks refl
         refl (λ word text there. there))
-        (λ session is. chain-why P _ _ (within-why P which.Bytes _
+        (λ session is. chain-why P (within which.Bytes (bytes_with its number session)) _ (within-why P which.Bytes _
         (λ more. (_, (its, asks, (session, is, refl)), refl, more)))
         (λ passed ok. done-why P _))
 
@@ -404,7 +410,8 @@ module _ (rows : Rows) (name : List ℕ) (place : ℕ) (found : clerk_of rows.cl
         chain-why P (attribute_of bound.names.attributes word) _
         (attribute-why P bound.names.attributes word (λ unknown.
         (bound.names.attributes, words, listed, unknown)))
-        (λ at there. chain-why P _ _ (unless-why P (slice_index_or session.confirmed at false) (NotConfirmed word)
+        (λ at there. chain-why P (unless (slice_index_or session.confirmed at false) (NotConfirmed word)) _
+        (unless-why P (slice_index_or session.confirmed at false) (NotConfirmed word)
         (λ fails. (
           session,
           at,
@@ -504,13 +511,13 @@ module _ (rows : Rows) (name : List ℕ) (place : ℕ) (found : clerk_of rows.cl
         chain-why P (active_session its.sessions number) _ (active-why rows command its number asks refl) (λ session is.
         chain-why P (bound_for (published_of rows) session) _
         (certainly-why P (bound_at (published_of rows) session.edition)) (λ bound binds.
-        chain-why P (fixed_end bound.kit (state_of session)) (ended session bound)
-        (chain-why P (answer_for bound.kit (state_of session)) (judged session bound)
+        chain-why P (fixed_end bound.kit (state_of session)) _
+        (chain-why P (answer_for bound.kit (state_of session)) _
         (answer-why P bound.kit (state_of session)) (λ answer given.
         let answers : IsAnswer bound.kit (state_of session) answer.first answer.second answer.verdict =
         answer-given bound.kit (state_of session) answer given in
         chain-why P (not_in_conflict answer.verdict)
-        (λ _. done (end_of bound.kit (state_of session) answer.first)) (conflict-why P answer.verdict (λ conflict. (
+        _ (conflict-why P answer.verdict (λ conflict. (
           session,
           bound,
           answer,
@@ -522,8 +529,8 @@ module _ (rows : Rows) (name : List ℕ) (place : ℕ) (found : clerk_of rows.cl
         (λ end given.
         let fixed = end-given bound.kit (state_of session) end given in
         let commits = commits-it number accept session bound fixed.0 is binds fixed.1 in
-        chain-why P (accepted_record bound number accept end) (last session)
-        (chain-why P (accepts accept (uncovered_count end)) (λ _. done (record_at bound number end))
+        chain-why P (accepted_record bound number accept end) _
+        (chain-why P (accepts accept (uncovered_count end)) _
         (accepts-why P accept (uncovered_count end) (λ certain some. (
           session,
           bound,
@@ -540,7 +547,7 @@ module _ (rows : Rows) (name : List ℕ) (place : ℕ) (found : clerk_of rows.cl
         let same : bytes row ≡ bytes (record_at bound number (end_of bound.kit (state_of session) fixed.0.first)) =
         ap bytes (done-value (record_at bound number end) row accepted.2)
         ∙ ap (λ (one : State). bytes (record_at bound number one)) fixed.3 in
-        chain-why P (within which.Bytes (bytes row)) (λ _. done (record session { stage = Committed }, row))
+        chain-why P (within which.Bytes (bytes row)) _
         (within-why P which.Bytes (bytes row) (λ more.
         (bytes row, (its, asks, (session, bound, fixed.0, commits, same)), refl, more)))
         (λ passed ok. done-why P (record session { stage = Committed }, row)))))) in
@@ -556,34 +563,37 @@ module _ (rows : Rows) (name : List ℕ) (place : ℕ) (found : clerk_of rows.cl
         let command : Command = Clerk name ticket (Batch edition body) in
         let P : Refusal → Type 0 = Cause rows command in
         let says = each_behind-refused (another_column words) columns [] refusal gives in
-        let column : List ℕ = says.1 in
+        let column : List ℕ = says.item in
         let word : List ℕ = word_of column in
         let listed : Contains (map word_of columns) word =
-        Contains-image word_of columns column (subst (λ list. Contains list column) (sym says.4)
-        (Contains-append_right says.0 (column ∷ says.2) column (0, omega arith, refl))) in
+        Contains-image word_of columns column (subst (λ list. Contains list column) (sym says.same)
+        (Contains-append_right says.earlier (column ∷ says.later) column (0, omega arith, refl))) in
         let taken : ℕ → Column → Bool = λ at earlier. earlier.attribute == at in
         chain-why P (attribute_of words word) _ (attribute-why P words word (λ unknown.
         (words, are, subst (λ list. Contains list word) (sym named) listed, unknown)))
-        (λ at found. chain-why P _ _ (unless-why P (not (list_any (taken at) says.3)) (Twice word) (λ some.
-        let any = Any-from_list_any (taken at) says.3 (not-false (list_any (taken at) says.3) some) in
-        let earlier = each_behind-found (another_column words) says.0 [] says.3 any.1 says.5 (any.0, any.2, any.3) in
+        (λ at found. chain-why P (unless (not (list_any (taken at) says.sofar)) (Twice word)) _
+        (unless-why P (not (list_any (taken at) says.sofar)) (Twice word) (λ some.
+        let (index, one, inside, is, holds) = Any-from_list_any (taken at) says.sofar
+        (not-false (list_any (taken at) says.sofar) some) in
+        let earlier = each_behind-found (another_column words) says.earlier [] says.sofar one says.passed
+        (index, inside, is) in
         elim earlier [
           | inl none ↦ absurd (omega (arith, none.1))
           | inr before ↦
               let at_word : word ≡ get_or words at [] = word-at word words at
               (some_or-ok (position (bytes_eq word) words) (UnknownAttr word) at found) in
-              let value = column-word words before.0 before.2 any.1 before.3 in
-              let same_place : any.1.attribute ≡ at = grind (arith, nat_tests, any.4) in
-              let equal : word_of before.0 ≡ word = value ∙ ap (λ place. get_or words place []) same_place
+              let value = column-word words before.item before.sofar one before.gave in
+              let same_place : one.attribute ≡ at = grind (arith, nat_tests, holds) in
+              let equal : word_of before.item ≡ word = value ∙ ap (λ place. get_or words place []) same_place
               ∙ sym at_word in
               inl (record {
-                earlier = map word_of says.0;
-                later = map word_of says.2;
-                is = named ∙ ap (map word_of) says.4 ∙ map-append word_of says.0 (column ∷ says.2);
-                twice = subst (λ one. Contains (map word_of says.0) one) equal
-                    (Contains-image word_of says.0 before.0 before.1);
+                earlier = map word_of says.earlier;
+                later = map word_of says.later;
+                is = named ∙ ap (map word_of) says.same ∙ map-append word_of says.earlier (column ∷ says.later);
+                twice = subst (λ one. Contains (map word_of says.earlier) one) equal
+                    (Contains-image word_of says.earlier before.item before.listed);
               })
-        ])) (λ passed ok. done-why P _)) refusal says.6
+        ])) (λ passed ok. done-why P _)) refusal says.refused_so
       where
         not-false : (told : Bool) → not told ≡ false → told ≡ true
         not-false true is = refl
@@ -592,19 +602,8 @@ module _ (rows : Rows) (name : List ℕ) (place : ℕ) (found : clerk_of rows.cl
         column-word : (words : List (List ℕ)) (column : List ℕ) (before : List Column) (found : Column)
             → Gives (another_column words before column) (Ok found) → word_of column ≡ get_or words found.attribute []
         column-word words column before found gives =
-            let at = Gives-bind_ok (attribute_of words (word_of column)) (λ at. unless (not (list_any (λ earlier.
-            earlier.attribute == at) before)) (Twice (word_of column)) >> done (record {
-              attribute = at;
-              confirms = is_starred
-                  column;
-            })) found gives in
-            let free = Gives-bind_ok (unless (not (list_any (λ earlier. earlier.attribute == at.0) before))
-            (Twice (word_of column))) (λ _. done (record { attribute = at.0; confirms = is_starred column })) found
-            at.2 in
-            let made : Column = record { attribute = at.0; confirms = is_starred column } in
-            let same : found ≡ made = done-value made found free.2 in
-            word-at (word_of column) words at.0 (some_or-ok (position (bytes_eq (word_of column)) words)
-            (UnknownAttr (word_of column)) at.0 at.1) ∙ ap (λ (one : Column). get_or words one.attribute []) (sym same)
+            let (at, there, (passed, free, is)) = Met-Gives (another_column words before column) (Ok found) gives in
+            word-at (word_of column) words at there ∙ ap (λ (one : Column). get_or words one.attribute []) (sym is)
 
     batch-why : (edition body : List ℕ) (refusal : Refusal) → Gives (enter_batch (published_of rows) its edition body)
         (Err refusal) → Cause rows (Clerk name ticket (Batch edition body)) refusal
@@ -630,17 +629,20 @@ module _ (rows : Rows) (name : List ℕ) (place : ℕ) (found : clerk_of rows.cl
         column-why edition body bound.names.attributes sheet.columns refusal words (ap sheet_words reads) gives)
         (λ columns given.
         let makes : MakesSessions command (length sheet.grid.rows) = (sheet, reads, refl) in
-        chain-why P _ _ (within-why P which.BatchRows _
+        chain-why P (within which.BatchRows (length sheet.grid.rows)) _ (within-why P which.BatchRows _
         (λ more. (_, (name, ticket, edition, body, refl, makes), refl, more)))
-        (λ few_rows few_rows_ok. chain-why P _ _ (within-why P which.ActiveSessions _ (λ more. (
+        (λ few_rows few_rows_ok. chain-why P
+        (within which.ActiveSessions (active_count its.sessions + length sheet.grid.rows)) _
+        (within-why P which.ActiveSessions _ (λ more. (
           _,
           (its, _, asks, makes, refl),
           refl,
           more,
         )))
-        (λ active active_ok. chain-why P _ _
+        (λ active active_ok. chain-why P (within which.Sessions (length its.sessions + length sheet.grid.rows)) _
         (within-why P which.Sessions _ (λ more. (_, (its, _, asks, makes, refl), refl, more)))
-        (λ few few_ok. chain-why P _ _ (within-why P which.Batches _ (λ more. (
+        (λ few few_ok. chain-why P (within which.Batches (length its.batches + 1)) _
+        (within-why P which.Batches _ (λ more. (
           _,
           (
             its,
@@ -655,7 +657,10 @@ module _ (rows : Rows) (name : List ℕ) (place : ℕ) (found : clerk_of rows.cl
           refl,
           more,
         )))
-        (λ batches batches_ok. chain-why P _ _ (within-why P which.Bytes _ (λ more. (
+        (λ batches batches_ok. chain-why P
+        (within which.Bytes (text_bytes its.sessions its.records + typed_bytes (map (row_session at
+        (length bound.names.attributes) (length its.batches + 1) columns) sheet.grid.rows))) _
+        (within-why P which.Bytes _ (λ more. (
           _,
           (
             its,

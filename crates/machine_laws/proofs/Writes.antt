@@ -1,7 +1,7 @@
 -- What a request comes to: a repeat, a new write, or a look.
 use Rattle.std.proofs.Common.{◌≡◌, ◌⊎◌, ℕ, ◌+◌, ◌<◌, List, [], length, drop, Option, Some, None, inl, inr, refl, sym}
 use Rattle.std.proofs.Common.{ap, subst, arith}
-use Rattle.std.specs.Prelude.{Ok, flat_map, option_map, position}
+use Rattle.std.specs.Prelude.{Ok, option_map, position, Result, Err}
 use Rattle.std.specs.Str.{bytes_eq}
 use Rattle.std.proofs.lemmas.List.{length-drop}
 use Rattle.std.proofs.lemmas.List.Quantifiers.{position-Some}
@@ -19,13 +19,12 @@ use Rattle.desk_words.specs.declared.steward_work.StewardWork.{StewardWork}
 use Rattle.desk_words.specs.Changes.{changed}
 use Rattle.desk_words.specs.Tables.{Published, Rows, new_clerk, published_of}
 use Rattle.desk_valid.proofs.Named.{option_map-Some}
-use Rattle.machine_core.specs.Checked.{Checked, ◌>>=◌, done, some_or, Gives}
-use Rattle.machine_core.specs.Deriving.{derived_sheet}
+use Rattle.machine_core.specs.Checked.{done, some_or, Gives, IsFound, run}
 use Rattle.machine_core.specs.Kept.{kept_made, kept_reply}
-use Rattle.machine_core.specs.Machine.{changes_if, clerk_of, clerk_write, clerk_write_at, deed_of, look_reply, machine}
+use Rattle.machine_core.specs.Machine.{changes_if, clerk_of, clerk_write_at, deed_of, machine}
+use Rattle.machine_core.specs.Machine.{IsStep, answered}
 use Rattle.machine_core.specs.Machine.{making_changes, making_of, steward_write}
 use Rattle.machine_core.specs.declared.making.Making.{Making}
-use Rattle.machine_core.specs.Look.Report.{report_of}
 use Rattle.machine_core.specs.Own.{Own, after, changes_of, own_of}
 use Rattle.machine_core.specs.declared.deed.Deed.{Deed}
 use Rattle.machine_core.specs.declared.ticket.Use.{Use}
@@ -33,10 +32,12 @@ use Rattle.machine_core.specs.declared.ticket.Use.TheVariants.{Fresh, Repeated}
 use Rattle.machine_core.specs.Ticket.{use_of}
 use Rattle.machine_core.proofs.Chains.{Gives-bind_ok, done-value}
 use Rattle.machine_core.proofs.Tested.{some_or-ok}
+use Rattle.machine_core.proofs.Walks.{Gives-Met, Met-Gives}
+use Rattle.desk_words.specs.declared.refusal.Refusal.{Refusal}
 
 -- the place of the clerk of a name: behind the steward
 pub record IsPlaceOf (clerks : List ClerkRow) (name : List ℕ) (place : ℕ) : Type 0 where
-  pub found : clerk_of clerks name ≡ done place
+  pub found : IsFound (clerk_of clerks name) place
   pub behind : 0 < place
   pub within : place < length clerks
 
@@ -48,7 +49,7 @@ clerk_of-ok clerks name place gives =
     let found = option_map-Some (λ found. found + 1) (position is_named (drop 1 clerks)) place there in
     let short = (position-Some is_named (drop 1 clerks) found.0 (new_clerk []) found.1).0 in
     record {
-      found = ap (λ one. some_or one NoClerk) there;
+      found = ap (λ one. run (some_or one NoClerk)) there;
       behind = omega (arith, found.2);
       within = omega (arith, found.2, short, length-drop 1 clerks);
     }
@@ -85,42 +86,30 @@ data IsWrite (published : Published) (own : Own) (work : ClerkWork) : Use → Re
 write-found : (published : Published) (own : Own) (work : ClerkWork) (turn : Use) (both : Reply × Option Deed)
     → Gives (clerk_write_at published own work turn) (Ok both) → IsWrite published own work turn both.0 both.1
 write-found published own work Repeated both gives =
-    let kept = Gives-bind_ok (kept_reply published own own.row.act own.row.target) (λ answer. done (answer, None)) both
-    gives in
-    let is : both ≡ (kept.0, None) = done-value (kept.0, None) both kept.2 in
-    subst (λ (one : Reply × Option Deed). IsWrite published own work Repeated one.0 one.1) (sym is)
-    (again kept.0 kept.1)
+    let (answer, kept, is) = Gives-bind_ok (kept_reply published own own.row.act own.row.target)
+    (λ answer. done (answer, None)) both gives in
+    subst (λ (one : Reply × Option Deed). IsWrite published own work Repeated one.0 one.1)
+    (sym (done-value (answer, None) both is)) (again answer kept)
 write-found published own work Fresh both gives =
-    let shown : Deed → Checked (Reply × Option Deed) = λ deed. kept_reply published (after own deed) deed.act
-    deed.target
-    >>= (λ answer. done (answer, Some deed)) in
-    let deed = Gives-bind_ok (deed_of published own work) shown both gives in
-    let kept = Gives-bind_ok (kept_reply published (after own deed.0) deed.0.act deed.0.target) (λ answer.
-    done (answer, Some deed.0)) both deed.2 in
-    let is : both ≡ (kept.0, Some deed.0) = done-value (kept.0, Some deed.0) both kept.2 in
+    let (deed, does, (answer, kept, is)) = Met-Gives (clerk_write_at published own work Fresh) (Ok both) gives in
     subst (λ (one : Reply × Option Deed). IsWrite published own work Fresh one.0 one.1) (sym is)
-    (anew kept.0 deed.0 deed.1 kept.1)
+    (anew answer deed (Gives-Met (deed_of published own work) (Ok deed) does)
+    (Gives-Met (kept_reply published (after own deed) deed.act deed.target) (Ok answer) kept))
 
 -- what a clerk's write comes to
 pub clerk-written : (rows : Rows) (name : List ℕ) (ticket : Ticket) (work : ClerkWork) (made : Reply × List Change)
     → Gives (machine rows (Clerk name ticket work)) (Ok made)
     → IsRepeat rows name ticket made.0 made.1 ⊎ IsNew rows name ticket work made.0 made.1
 clerk-written rows name ticket work made gives =
-    let last : ℕ → Reply × Option Deed → Checked (Reply × List Change) = λ place both.
-    done (both.0, changes_if place (own_of rows place).row ticket both.1) in
-    let place = Gives-bind_ok (clerk_of rows.clerks name)
-    (λ place. clerk_write (published_of rows) (own_of rows place) ticket
-    work >>= last place) made gives in
-    let both = Gives-bind_ok (clerk_write (published_of rows) (own_of rows place.0) ticket work) (last place.0) made
-    place.2 in
-    let turn = Gives-bind_ok (use_of (own_of rows place.0).row ticket) (clerk_write_at (published_of rows)
-    (own_of rows place.0) work) both.0 both.1 in
-    let is : made ≡ (both.0.0, changes_if place.0 (own_of rows place.0).row ticket both.0.1) =
-    done-value (both.0.0, changes_if place.0 (own_of rows place.0).row ticket both.0.1) made both.2 in
+    let (place, is_place, (both, (turn, used, at_turn), is)) =
+    Met-Gives (machine rows (Clerk name ticket work)) (Ok made) gives in
     subst (λ (one : Reply × List Change). IsRepeat rows name ticket one.0 one.1 ⊎ IsNew rows name ticket work one.0
     one.1)
-    (sym is) (whole place.0 turn.0 both.0.0 both.0.1 (clerk_of-ok rows.clerks name place.0 place.1) turn.1
-    (write-found (published_of rows) (own_of rows place.0) work turn.0 both.0 turn.2))
+    (sym is) (whole place turn both.0 both.1
+    (clerk_of-ok rows.clerks name place (Gives-Met (clerk_of rows.clerks name) (Ok place) is_place))
+    (Gives-Met (use_of (own_of rows place).row ticket) (Ok turn) used)
+    (write-found (published_of rows) (own_of rows place) work turn both
+    (Gives-Met (clerk_write_at (published_of rows) (own_of rows place) work turn) (Ok both) at_turn)))
   where
     whole : (place : ℕ) (turn : Use) (answer : Reply) (deed : Option Deed) → IsPlaceOf rows.clerks name place
         → Gives (use_of (own_of rows place).row ticket) (Ok turn)
@@ -162,32 +151,24 @@ steward-found : (rows : Rows) (ticket : Ticket) (work : StewardWork) (turn : Use
     → Gives (use_of (own_of rows 0).row ticket) (Ok turn) → Gives (steward_write rows ticket work turn) (Ok both)
     → IsStewardsRepeat rows ticket both.0 both.1 ⊎ IsStewardsNew rows ticket work both.0 both.1
 steward-found rows ticket work Repeated both used gives =
-    let kept = Gives-bind_ok (kept_made rows (own_of rows 0).row.act (own_of rows 0).row.target) (λ made.
+    let (made, kept, is) = Gives-bind_ok (kept_made rows (own_of rows 0).row.act (own_of rows 0).row.target) (λ made.
     done (reply.Made made, [])) both gives in
-    let is : both ≡ (reply.Made kept.0, []) = done-value (reply.Made kept.0, []) both kept.2 in
+    let same : both ≡ (reply.Made made, []) = done-value (reply.Made made, []) both is in
     inl (record {
       use_made = used;
-      made = kept.0;
-      kept = kept.1;
-      answered = ap (λ (one : Reply × List Change). one.0) is;
-      unchanged = ap (λ (one : Reply × List Change). one.1) is;
+      made = made;
+      kept = kept;
+      answered = ap (λ (one : Reply × List Change). one.0) same;
+      unchanged = ap (λ (one : Reply × List Change). one.1) same;
     })
 steward-found rows ticket work Fresh both used gives =
-    let last : Making → Made → Checked (Reply × List Change) = λ making made.
-    done (reply.Made made, making_changes (own_of rows 0).row ticket making) in
-    let making = Gives-bind_ok (making_of rows work) (λ making. kept_made (changed rows making.change) making.act
-    making.target >>= last making) both gives in
-    let kept = Gives-bind_ok (kept_made (changed rows making.0.change) making.0.act making.0.target) (last making.0)
-    both
-    making.2 in
-    let is : both ≡ (reply.Made kept.0, making_changes (own_of rows 0).row ticket making.0) =
-    done-value (reply.Made kept.0, making_changes (own_of rows 0).row ticket making.0) both kept.2 in
+    let (making, makes, (made, kept, is)) = Met-Gives (steward_write rows ticket work Fresh) (Ok both) gives in
     inr (record {
       use_made = used;
-      making = making.0;
-      makes = making.1;
-      made = kept.0;
-      kept = kept.1;
+      making = making;
+      makes = Gives-Met (making_of rows work) (Ok making) makes;
+      made = made;
+      kept = Gives-Met (kept_made (changed rows making.change) making.act making.target) (Ok made) kept;
       answered = ap (λ (one : Reply × List Change). one.0) is;
       changed_so = ap (λ (one : Reply × List Change). one.1) is;
     })
@@ -196,34 +177,45 @@ pub steward-written : (rows : Rows) (ticket : Ticket) (work : StewardWork) (made
     → Gives (machine rows (Steward ticket work)) (Ok made)
     → IsStewardsRepeat rows ticket made.0 made.1 ⊎ IsStewardsNew rows ticket work made.0 made.1
 steward-written rows ticket work made gives =
-    let turn = Gives-bind_ok (use_of (own_of rows 0).row ticket) (steward_write rows ticket work) made gives in
-    steward-found rows ticket work turn.0 made turn.1 turn.2
+    let (turn, used, at_turn) =
+    Gives-bind_ok (use_of (own_of rows 0).row ticket) (steward_write rows ticket work) made gives in
+    steward-found rows ticket work turn made used at_turn
 
 -- a look changes nothing
 pub look-unchanged : (rows : Rows) (name : List ℕ) (look : LookOf) (made : Reply × List Change)
     → Gives (machine rows (Look name look)) (Ok made) → made.1 ≡ []
 look-unchanged rows name look made gives =
-    let last : Reply → Checked (Reply × List Change) = λ answer. done (answer, []) in
-    let place = Gives-bind_ok (clerk_of rows.clerks name)
-    (λ place. look_reply (published_of rows) (own_of rows place) look
-    >>= last) made gives in
-    let answer = Gives-bind_ok (look_reply (published_of rows) (own_of rows place.0) look) last made place.2 in
-    ap (λ (one : Reply × List Change). one.1) (done-value (answer.0, []) made answer.2)
+    let (place, is_place, (answer, answers, is)) = Met-Gives (machine rows (Look name look)) (Ok made) gives in
+    ap (λ (one : Reply × List Change). one.1) is
 
 -- nor does the desk's report
 pub report-unchanged : (rows : Rows) (made : Reply × List Change) → Gives (machine rows DeskReport) (Ok made)
     → made.1 ≡ []
 report-unchanged rows made gives =
-    let sheet = Gives-bind_ok (report_of (published_of rows) None (flat_map (λ sessions. sessions) rows.sessions))
-    (λ sheet.
-    done (reply.Report sheet, [])) made gives in
-    ap (λ (one : Reply × List Change). one.1) (done-value (reply.Report sheet.0, []) made sheet.2)
+    let (sheet, reports, is) = Met-Gives (machine rows DeskReport) (Ok made) gives in
+    ap (λ (one : Reply × List Change). one.1) is
 
 -- nor do derived rows
 pub derive-unchanged : (rows : Rows) (edition : List ℕ) (version : ℕ) (master : List ℕ) (pairs : List (List ℕ × List ℕ))
     (made : Reply × List Change) → Gives (machine rows (DeskDerive edition version master pairs)) (Ok made)
     → made.1 ≡ []
 derive-unchanged rows edition version master pairs made gives =
-    let sheet = Gives-bind_ok (derived_sheet (published_of rows) edition version master pairs) (λ sheet.
-    done (reply.Derived sheet, [])) made gives in
-    ap (λ (one : Reply × List Change). one.1) (done-value (reply.Derived sheet.0, []) made sheet.2)
+    let (sheet, derives, is) = Met-Gives (machine rows (DeskDerive edition version master pairs)) (Ok made) gives in
+    ap (λ (one : Reply × List Change). one.1) is
+
+-- a write of the steward changes nothing, or is new
+pub steward-cases : (rows : Rows) (ticket : Ticket) (work : StewardWork) (answer : Reply) (changes : List Change)
+    → IsStep rows (Steward ticket work) answer changes
+    → (changes ≡ []) ⊎ IsStewardsNew rows ticket work answer changes
+steward-cases rows ticket work answer changes step =
+    subst (λ (both : Reply × List Change). (both.1 ≡ []) ⊎ IsStewardsNew rows ticket work both.0 both.1)
+    (sym step.answers)
+    (whole step.outcome step.gives)
+  where
+    whole : (outcome : Result (Reply × List Change) Refusal) → Gives (machine rows (Steward ticket work)) outcome
+        → ((answered outcome).1 ≡ []) ⊎ IsStewardsNew rows ticket work (answered outcome).0 (answered outcome).1
+    whole (Ok made) gives = elim (steward-written rows ticket work made gives) [
+      | inl repeated ↦ inl repeated.unchanged
+      | inr written ↦ inr written
+    ]
+    whole (Err refusal) gives = inl refl

@@ -17,7 +17,7 @@ use Rattle.desk_valid.specs.declared.bound.Bound.{Bound}
 use Rattle.desk_valid.specs.Bindings.{bound_at}
 use Rattle.fix_engine.specs.Verdicts.{IsAnswer}
 use Rattle.machine_core.specs.Answers.{state_of}
-use Rattle.machine_core.specs.Checked.{Answer, done}
+use Rattle.machine_core.specs.Checked.{Answer, IsFound}
 use Rattle.machine_core.specs.Machine.{clerk_of}
 use Rattle.machine_core.specs.Own.{own_of}
 use Rattle.machine_core.specs.Ticket.{ticketed}
@@ -50,7 +50,7 @@ row_after rows place ticket number = ticketed (own_of rows place).row ticket act
 pub record CarriesOne (rows : Rows) (name : List ℕ) (ticket : Ticket) (number version : ℕ) (answer : Reply)
     (changes : List Change) : Type 0 where
   pub place : ℕ
-  pub found : clerk_of rows.clerks name ≡ done place
+  pub found : IsFound (clerk_of rows.clerks name) place
   pub old : SessionRow
   pub counted : 1 ≤ number
   pub stands : slice_get (list_at rows.sessions place) (number - 1) ≡ Some old

@@ -12,7 +12,7 @@ use Rattle.fix_explain.specs.Reasons.{IsReason}
 use Rattle.fix_explain.specs.Uses.{AreUses}
 use Rattle.fix_model.specs.declared.state.Step.{Step}
 use Rattle.machine_core.specs.Answers.{state_of}
-use Rattle.machine_core.specs.Checked.{Answer, done}
+use Rattle.machine_core.specs.Checked.{Answer, IsFound}
 use Rattle.machine_core.specs.Finding.{session_at}
 use Rattle.machine_core.specs.Machine.{clerk_of}
 use Rattle.machine_core.specs.Views.{name_at, named_step}
@@ -21,7 +21,7 @@ use Rattle.machine_core.specs.Views.{name_at, named_step}
 -- run fixes the attribute with this word, and of the uses of that reason
 pub record TellsReason (rows : Rows) (name : List ℕ) (number : ℕ) (word : List ℕ) (told : Explained) : Type 0 where
   pub place : ℕ
-  pub found : clerk_of rows.clerks name ≡ done place
+  pub found : IsFound (clerk_of rows.clerks name) place
   pub session : SessionRow
   pub stands : session_at (list_at rows.sessions place) number ≡ Some session
   pub bound : Bound

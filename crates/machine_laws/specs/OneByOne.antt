@@ -5,7 +5,7 @@ use Rattle.desk_words.specs.declared.command.Command.TheVariants.{Clerk}
 use Rattle.desk_words.specs.declared.command.Ticket.{Ticket}
 use Rattle.desk_words.specs.declared.rows.session.SessionRow.{SessionRow}
 use Rattle.desk_words.specs.Tables.{Rows}
-use Rattle.machine_core.specs.Checked.{done}
+use Rattle.machine_core.specs.Checked.{IsFound}
 use Rattle.machine_core.specs.Clerk.Batch.{is_starred, word_of}
 use Rattle.machine_core.specs.Own.{Own}
 use Rattle.machine_laws.specs.Callers.{clerk, own_by}
@@ -48,8 +48,8 @@ pub record IsOneByOne (name : List ℕ) (before at_once in_turn : Rows) : Type 0
   pub own_at_once : Own
   pub own_in_turn : Own
   pub news : List SessionRow
-  pub is : own_by before (clerk name) ≡ done own
-  pub is_at_once : own_by at_once (clerk name) ≡ done own_at_once
-  pub is_in_turn : own_by in_turn (clerk name) ≡ done own_in_turn
+  pub is : IsFound (own_by before (clerk name)) own
+  pub is_at_once : IsFound (own_by at_once (clerk name)) own_at_once
+  pub is_in_turn : IsFound (own_by in_turn (clerk name)) own_in_turn
   pub entered_at_once : own_at_once.sessions ≡ own.sessions ++ news
   pub entered_in_turn : own_in_turn.sessions ≡ own.sessions ++ map single news

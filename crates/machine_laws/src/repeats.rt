@@ -9,7 +9,7 @@ ghost use Rattle.desk_words.specs.declared.reply.Reply.{Reply as ReplyOf};
 ghost use Rattle.desk_words.specs.declared.reply.Reply.TheVariants.{Refused};
 ghost use Rattle.desk_words.specs.Tables.{rows_of};
 ghost use Rattle.desk_valid.specs.Valid.{AreValid};
-ghost use Rattle.machine_core.specs.Checked.{done};
+ghost use Rattle.machine_core.specs.Checked.{IsFound};
 ghost use Rattle.machine_core.specs.Machine.{IsStep};
 ghost use Rattle.machine_core.specs.Own.{Own};
 ghost use Rattle.machine_laws.specs.Callers.{Caller, asks, number_of, own_by};
@@ -21,7 +21,7 @@ use desk_words::{Command, Tables};
 pub fn an_accepted_write_has_the_next_number(tables: &Tables, command: &Command)
     requires { AreValid (rows_of tables.now) }
     ensures { (caller : Caller) (own : Own) (answer : ReplyOf) (changes : List ChangeOf)
-        → own_by (rows_of tables.now) caller ≡ done own → asks caller command.now ≡ true → changes ≢ []
+        → IsFound (own_by (rows_of tables.now) caller) own → asks caller command.now ≡ true → changes ≢ []
         → IsStep (rows_of tables.now) command.now answer changes
         → number_of command.now ≡ own.row.last + 1 }
 {}
@@ -31,7 +31,7 @@ pub fn an_accepted_write_has_the_next_number(tables: &Tables, command: &Command)
 pub fn accepted_numbers_go_up_by_one(tables: &Tables)
     requires { AreValid (rows_of tables.now) }
     ensures all { (caller : Caller) (own : Own) (events : List Event)
-        → own_by (rows_of tables.now) caller ≡ done own → AreAnswered (rows_of tables.now) events
+        → IsFound (own_by (rows_of tables.now) caller) own → AreAnswered (rows_of tables.now) events
         → numbers_of caller events ≡ range_with_len (own.row.last + 1) (length (numbers_of caller events)) }
     ensures from_one_on { (caller : Caller) (event : Event) (events : List Event) → is_write_of caller event ≡ true
         → AreAnswered (rows_of tables.now) (event ∷ events)
