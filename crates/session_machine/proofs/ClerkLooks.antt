@@ -11,7 +11,7 @@ use Rattle.desk_words.specs.Tables.{Published, Rows, published_of}
 use Rattle.desk_valid.specs.declared.bound.Bound.{Bound}
 use Rattle.desk_valid.specs.Readings.{width_at}
 use Rattle.machine_core.specs.Answers.{bound_for}
-use Rattle.machine_core.specs.Checked.{Checked, ◌>>=◌, done, each, Gives}
+use Rattle.machine_core.specs.Checked.{Checked, ◌>>=◌, done, each, Gives, IsFound}
 use Rattle.machine_core.specs.Clerk.Confirm.{confirm_row, with_cells}
 use Rattle.machine_core.specs.Look.Preview.{preview}
 use Rattle.machine_core.specs.Machine.{clerk_of, look_reply, machine}
@@ -22,9 +22,9 @@ use Rattle.machine_core.specs.Sessions.{IsSessionOf}
 use Rattle.machine_core.specs.Tests.{active_session, typed_cell}
 use Rattle.machine_core.specs.Views.{view_of}
 use Rattle.machine_core.specs.declared.stop.Stop.{Stop}
-use Rattle.machine_core.proofs.Chains.{Gives-bind, Gives-bind_ok, done-value}
+use Rattle.machine_core.proofs.Chains.{Gives-bind, Gives-bind_ok, done-value, Gives-found}
 use Rattle.machine_core.proofs.Widths.{length-confirmed_at, length-typed_over}
-use Rattle.machine_core.proofs.Answering.{Answers-found, Answers-stopped}
+use Rattle.machine_core.proofs.Answering.{Answers-found, Answers-stopped, Answers-then}
 use Rattle.machine_laws.proofs.Sessions.{active_session-ok}
 use Rattle.machine_views.proofs.Keeping.{session-stands}
 
@@ -46,22 +46,22 @@ module _ (rows : Rows) (name : List ℕ) (look : LookOf) where
 
   -- where nothing is shown, it stops there
   pub look-stopped : (place : ℕ) (stop : Stop) (result : Result (Reply × List Change) Stop)
-      → clerk_of rows.clerks name ≡ done place → IsErrAnd result (λ one. one ≡ stop)
+      → IsFound (clerk_of rows.clerks name) place → IsErrAnd result (λ one. one ≡ stop)
       → Answers {A = Reply} (Err stop) (look_reply (published_of rows) (own_of rows place) look)
       → Answers result (machine rows (Look name look))
   look-stopped place stop result found is answers =
-      let Told : Checked ℕ → Type 0 = λ one. Answers result (one >>= look_at) in
-      subst Told (sym found) (Answers-stopped (look_reply (published_of rows) (own_of rows place) look) shown stop
-      result is answers)
+      let clerk : Checked ℕ = clerk_of rows.clerks name in
+      Answers-then clerk look_at place result (Gives-found clerk place found)
+      (Answers-stopped (look_reply (published_of rows) (own_of rows place) look) shown stop result is answers)
 
   -- and else it is what is shown, with no changes
-  pub look-gives : (place : ℕ) (answer : Reply) → clerk_of rows.clerks name ≡ done place
+  pub look-gives : (place : ℕ) (answer : Reply) → IsFound (clerk_of rows.clerks name) place
       → Gives (look_reply (published_of rows) (own_of rows place) look) (Ok answer)
       → Gives (machine rows (Look name look)) (Ok (answer, []))
   look-gives place answer found gives =
-      let Told : Checked ℕ → Type 0 = λ one. Gives (one >>= look_at) (Ok (answer, [])) in
-      subst Told (sym found) (Gives-bind (look_reply (published_of rows) (own_of rows place) look) shown answer
-      (Ok (answer, [])) gives refl)
+      let clerk : Checked ℕ = clerk_of rows.clerks name in
+      Gives-bind clerk look_at place (Ok (answer, [])) (Gives-found clerk place found)
+      (Gives-bind (look_reply (published_of rows) (own_of rows place) look) shown answer (Ok (answer, [])) gives refl)
 
 -- what a look finds is replied
 pub reply-gives : {A : Type 0} (found : Checked A) (as_reply : A → Reply) (value : A) → Gives found (Ok value)
@@ -81,7 +81,7 @@ with_cells-stands published session texts is =
     }
 
 module _ (published : Published) (own : Own) (number : ℕ) (cells : List (List ℕ × List ℕ)) (session : SessionRow)
-    (finds : confirm_row published own number cells ≡ done session) where
+    (finds : IsFound (confirm_row published own number cells) session) where
   -- the session after a Confirm is on its edition
   pub confirm_row-stands : AreOwnRows published own.sessions own.records own.batches → IsSessionOf published session
   confirm_row-stands are =
@@ -103,8 +103,8 @@ module _ (published : Published) (own : Own) (number : ℕ) (cells : List (List 
   pub preview-gives : (view : View) → Gives (view_of published number session) (Ok view)
       → Gives (preview published own number cells) (Ok view)
   preview-gives view gives =
-      let Told : Checked SessionRow → Type 0 = λ one. Gives (one >>= view_of published number) (Ok view) in
-      subst Told (sym finds) gives
+      let confirmed : Checked SessionRow = confirm_row published own number cells in
+      Gives-bind confirmed (view_of published number) session (Ok view) (Gives-found confirmed session finds) gives
 
 -- where a Confirm would be refused, so is its Preview
 pub preview-stopped : (published : Published) (own : Own) (number : ℕ) (cells : List (List ℕ × List ℕ)) (stop : Stop)

@@ -9,7 +9,7 @@ use Rattle.desk_words.specs.declared.command.Ticket.{Ticket}
 use Rattle.desk_words.specs.declared.reply.Reply.{Reply}
 use Rattle.desk_words.specs.declared.rows.clerk.ClerkRow.{ClerkRow}
 use Rattle.desk_words.specs.Tables.{Rows, published_of}
-use Rattle.machine_core.specs.Checked.{Checked, ◌>>=◌, done, Gives}
+use Rattle.machine_core.specs.Checked.{Checked, ◌>>=◌, done, Gives, IsFound, run, Outcome, and_then}
 use Rattle.machine_core.specs.Kept.{kept_reply}
 use Rattle.machine_core.specs.Machine.{changes_if, clerk_of, clerk_write, clerk_write_at, deed_of, machine}
 use Rattle.machine_core.specs.Outcomes.{Answers, Finds}
@@ -19,8 +19,8 @@ use Rattle.machine_core.specs.declared.deed.Deed.{Deed}
 use Rattle.machine_core.specs.declared.stop.Stop.{Stop}
 use Rattle.machine_core.specs.declared.ticket.Use.{Use}
 use Rattle.machine_core.specs.declared.ticket.Use.TheVariants.{Fresh, Repeated}
-use Rattle.machine_core.proofs.Chains.{Gives-bind}
-use Rattle.machine_core.proofs.Answering.{Answers-found, Answers-stopped}
+use Rattle.machine_core.proofs.Chains.{Gives-bind, Gives-found}
+use Rattle.machine_core.proofs.Answering.{Answers-found, Answers-stopped, Answers-then, Answers-same}
 use Rattle.session_machine.specs.Written.{clerk_changes}
 use Rattle.session_machine.proofs.ClerkOwn.{own-there}
 
@@ -43,7 +43,7 @@ module _ (rows : Rows) (name : List ℕ) (ticket : Ticket) (work : ClerkWork) wh
 
   -- where it is not the clerk's turn, it stops there
   write-untimely : (place : ℕ) (stop : Stop) (result : Result (Reply × List Change) Stop)
-      → clerk_of rows.clerks name ≡ done place → IsErrAnd result (λ one. one ≡ stop)
+      → IsFound (clerk_of rows.clerks name) place → IsErrAnd result (λ one. one ≡ stop)
       → Finds {A = Use} (Err stop) (use_of (own_of rows place).row ticket)
       → Answers result (machine rows (Clerk name ticket work))
   write-untimely place stop result found is finds =
@@ -52,17 +52,20 @@ module _ (rows : Rows) (name : List ℕ) (ticket : Ticket) (work : ClerkWork) wh
       let write : Checked (Reply × Option Deed) = clerk_write (published_of rows) own ticket work in
       let untimely : Answers {A = Reply × Option Deed} (Err stop) write = Answers-stopped turn
       (clerk_write_at (published_of rows) own work) stop (Err stop) refl (Answers-found turn (Err stop) finds) in
-      let Told : Checked ℕ → Type 0 = λ one. Answers result (one >>= write_at rows ticket work) in
-      subst Told (sym found) (Answers-stopped write (told rows place ticket) stop result is untimely)
+      Answers-then (clerk_of rows.clerks name) (write_at rows ticket work) place result
+      (Gives-found (clerk_of rows.clerks name) place found)
+      (Answers-stopped write (told rows place ticket) stop result is untimely)
 
   -- and else it is the write at that turn
-  write-timely : (place : ℕ) (used : Use) → clerk_of rows.clerks name ≡ done place
-      → use_of (own_of rows place).row ticket ≡ done used
-      → machine rows (Clerk name ticket work) ≡ clerk_changes rows place ticket work used
+  write-timely : (place : ℕ) (used : Use) → IsFound (clerk_of rows.clerks name) place
+      → IsFound (use_of (own_of rows place).row ticket) used
+      → run (machine rows (Clerk name ticket work)) ≡ run (clerk_changes rows place ticket work used)
   write-timely place used found turn =
       let own : Own = own_of rows place in
-      ap (λ (one : Checked ℕ). one >>= write_at rows ticket work) found
-      ∙ ap (λ (one : Checked Use). one >>= clerk_write_at (published_of rows) own work >>= told rows place ticket) turn
+      ap (λ (one : Outcome ℕ). and_then one (λ there. run (write_at rows ticket work there))) found
+      ∙ ap (λ (one : Outcome Use). and_then
+      (and_then one (λ used. run (clerk_write_at (published_of rows) own work used)))
+      (λ both. run (told rows place ticket both))) turn
 
 -- the own rows of a clerk, and the clerk's row, as they were read from tables with these rows
 module _ (rows tables : Rows) (same : tables ≡ rows) (place : ℕ) (own : Own) (is : own ≡ own_of rows place)
@@ -72,7 +75,7 @@ module _ (rows tables : Rows) (same : tables ≡ rows) (place : ℕ) (own : Own)
   row-there = reads ∙ ap (λ (one : Own). one.row) (own-there rows tables same place own is)
 
   module _ (name : List ℕ) (ticket : Ticket) (work : ClerkWork) (result : Result (Reply × List Change) Stop)
-      (found : clerk_of tables.clerks name ≡ done place) where
+      (found : IsFound (clerk_of tables.clerks name) place) where
     -- the result is that of the write over tables with these rows
     abbrev Told : Rows → Type 0
     Told one = Answers result (machine one (Clerk name ticket work))
@@ -86,14 +89,15 @@ module _ (rows tables : Rows) (same : tables ≡ rows) (place : ℕ) (own : Own)
         (subst Stops row-there finds))
 
     -- and else it is the write at that turn
-    pub write-told : (used : Use) → use_of row ticket ≡ done used
+    pub write-told : (used : Use) → IsFound (use_of row ticket) used
         → Answers result (clerk_changes tables place ticket work used)
         → Answers result (machine rows (Clerk name ticket work))
     write-told used turn answers =
-        let its : use_of (own_of tables place).row ticket ≡ done used =
-        ap (λ (one : ClerkRow). use_of one ticket) (sym row-there) ∙ turn in
+        let its : IsFound (use_of (own_of tables place).row ticket) used =
+        ap (λ (one : ClerkRow). run (use_of one ticket)) (sym row-there) ∙ turn in
         let machine_is = write-timely tables name ticket work place used found its in
-        subst Told same (subst (Answers result) (sym machine_is) answers)
+        subst Told same (Answers-same (clerk_changes tables place ticket work used)
+        (machine tables (Clerk name ticket work)) result (sym machine_is) answers)
 
 module _ (rows : Rows) (place : ℕ) (ticket : Ticket) (work : ClerkWork) where
   -- a repeat has the kept reply, and no changes

@@ -1,22 +1,20 @@
 -- Books stay those of their editions where tables change, and so a desk is seated as it was.
-use Rattle.std.proofs.Common.{◌≡◌, ◌∙◌, ℕ, ◌<◌, List, [], ◌∷◌, ◌++◌, length, Some, append_assoc, ap, subst, sym}
-use Rattle.std.specs.Prelude.{OnErr, OnOk, Result, Ok, Err, slice_get}
+use Rattle.std.proofs.Common.{◌≡◌, ◌∙◌, ℕ, List, [], ◌∷◌, ◌++◌, Some, append_assoc, ap, subst, sym}
+use Rattle.std.specs.Prelude.{OnErr, OnOk, Result, Ok, Err}
 use Rattle.std.proofs.lemmas.List.Elements.{All-weaker}
-use Rattle.std.proofs.lemmas.Option.{option_and_then_some, slice_get_within}
 use Rattle.desk_words.specs.declared.change.Change.{Change}
 use Rattle.desk_words.specs.Changes.{changed, changed_all}
 use Rattle.desk_words.specs.Tables.{Published, Rows, published_of}
-use Rattle.desk_valid.specs.declared.bound.Bound.{Bound}
-use Rattle.desk_valid.specs.Bindings.{bound_at, bound_in}
+use Rattle.desk_valid.specs.Bindings.{bound_at}
 use Rattle.desk_valid.specs.Valid.{AreValid}
 use Rattle.fix_engine.specs.WorkSeen.{WorkSeen}
 use Rattle.master_index.specs.declared.shelf.Shelved.{Shelved}
 use Rattle.machine_core.specs.Shelves.{AreHeld, bound_on}
 use Rattle.machine_laws.proofs.Kept.{bound_at-more}
 use Rattle.machine_laws.proofs.Lists.{Begins}
-use Rattle.machine_laws.proofs.More.{AreMore}
-use Rattle.machine_laws.proofs.Staying.{AreMore-changed, AreMore-same}
+use Rattle.machine_laws.proofs.More.{AreMore, AreMore-changed, AreMore-same}
 use Rattle.session_machine.specs.Seats.{IsSeated}
+use Rattle.machine_core.proofs.Widths.{edition-stands}
 
 -- a list begins with all that the list before it begins with
 Begins-through : {T : Type 0} (first second third : List T) → Begins first second → Begins second third
@@ -43,13 +41,6 @@ AreMore-changed_all rows (change ∷ changes) = AreMore-through (published_of ro
     (published_of (changed rows change)) (published_of (changed_all rows (change ∷ changes)))
     (AreMore-changed rows change) (AreMore-changed_all (changed rows change) changes)
 
--- an edition that is bound stands
-bound_at-within : (published : Published) (place : ℕ) (bound : Bound) → bound_at published place ≡ Some bound
-    → place < length published.editions
-bound_at-within published place bound is =
-    option_and_then_some (bound_in published) (slice_get published.editions place) bound is
-    (λ row stands binds. slice_get_within published.editions place row stands)
-
 -- so each book that is held is that of its edition still
 AreHeld-changed : (rows : Rows) (changes : List Change) (held : List (ℕ × Shelved)) → AreValid rows
     → AreHeld (published_of rows) held → AreHeld (published_of (changed_all rows changes)) held
@@ -58,7 +49,7 @@ AreHeld-changed rows changes held valid are =
     All-weaker (λ pair. bound_at (published_of rows) pair.0 ≡ Some (bound_on pair.1))
     (λ pair. bound_at later pair.0 ≡ Some (bound_on pair.1))
     (λ pair bound. bound_at-more rows valid later (AreMore-changed_all rows changes) pair.0
-    (bound_at-within (published_of rows) pair.0 (bound_on pair.1) bound) ∙ bound) held are
+    (edition-stands (published_of rows) pair.0 (bound_on pair.1) bound) ∙ bound) held are
 
 -- and a desk is seated whether changes that leave valid tables were made or not
 pub IsSeated-settled : {E : Type 0} (rows after : Rows) (changes : List Change) (shelf : List (ℕ × Shelved))

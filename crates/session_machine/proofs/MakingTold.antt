@@ -26,7 +26,7 @@ use Rattle.desk_valid.specs.Rows.Region.{IsRegionRow}
 use Rattle.desk_valid.specs.Valid.{AreValid}
 use Rattle.machine_core.specs.declared.making.Making.{Making}
 use Rattle.machine_core.specs.declared.stop.Stop.{Stop}
-use Rattle.machine_core.specs.Checked.{Checked, ◌>>=◌, certainly, done, some_or, Gives}
+use Rattle.machine_core.specs.Checked.{Checked, ◌>>=◌, certainly, done, some_or, Gives, IsFound, run, Outcome, and_then}
 use Rattle.machine_core.specs.Finding.{edition_named}
 use Rattle.machine_core.specs.Kept.{kept_made, region_made}
 use Rattle.machine_core.specs.Machine.{making_of}
@@ -35,17 +35,16 @@ use Rattle.machine_core.specs.Steward.AddClerk.{clerk_row}
 use Rattle.machine_core.specs.Steward.AddMaster.{master_row}
 use Rattle.machine_core.specs.Steward.AddRegion.{region_count, region_on, region_row}
 use Rattle.machine_core.specs.Steward.AddSchema.{schema_row}
-use Rattle.machine_core.proofs.Answering.{Answers-stopped}
-use Rattle.machine_core.proofs.Chains.{Gives-bind}
-use Rattle.machine_views.proofs.Making.{clerk-given, master-given, region-kept, schema-given}
+use Rattle.machine_core.proofs.Answering.{Answers-stopped, Answers-same}
+use Rattle.machine_core.proofs.Chains.{Gives-bind, Gives-same, Gives-found}
+use Rattle.machine_views.proofs.Making.{clerk-given, master-given, region-kept, schema-given, edition-given}
 use Rattle.machine_laws.proofs.Accepted.{making-sound}
 use Rattle.machine_laws.proofs.Deeds.{put-end}
 use Rattle.session_machine.specs.Made.{AddsRegion, made_by, row_by}
-
--- an item behind others stands at their number
-slice_get-push : {T : Type 0} (items : List T) (item : T) → slice_get (items ++ item ∷ []) (length items) ≡ Some item
-slice_get-push [] item = refl
-slice_get-push (first ∷ items) item = slice_get-push items item
+use Rattle.desk_base.proofs.Lists.{slice_get-end}
+use Rattle.desk_words.specs.declared.rows.edition.EditionRow.{EditionRow}
+use Rattle.machine_core.specs.Steward.AddEdition.{edition_row}
+use Rattle.machine_core.proofs.Stopping.{Finds-same}
 
 -- what is answered of the rows and of the work is answered of equal ones
 pub Answers-made : {rows other : Rows} {work same : StewardWork} (result : Result (Made × Making) Stop) → rows ≡ other
@@ -64,12 +63,12 @@ made-told rows work making told makes kept =
     makes (Gives-bind (kept_by making) (λ made. done (made, making)) told (Ok (told, making)) kept refl)
 
 -- a row of the steward's act, put at a place
-abbrev put_so : Change → Act → ℕ → Making
+abbrev pub put_so : Change → Act → ℕ → Making
 put_so change act target = record { change = change; act = act; target = target }
 
 module _ (rows : Rows) (place : ℕ) (told : List ℕ) where
   -- a new clerk
-  pub clerk-made : (name : List ℕ) (row : ClerkRow) → clerk_row rows.clerks name ≡ done row → told ≡ row.name
+  pub clerk-made : (name : List ℕ) (row : ClerkRow) → IsFound (clerk_row rows.clerks name) row → told ≡ row.name
       → place ≡ length rows.clerks
       → Gives (made_by rows (AddClerk name)) (Ok (made.Clerk told, put_so (change.Clerk place row) act.Clerk place))
   clerk-made name row found named last =
@@ -78,12 +77,12 @@ module _ (rows : Rows) (place : ℕ) (told : List ℕ) where
       let end : ℕ = length rows.clerks in
       let making : Making = put_so (change.Clerk end row) act.Clerk end in
       let stands : slice_get (put rows.clerks end row) end ≡ Some row =
-      ap (λ list. slice_get list end) (put-end rows.clerks row) ∙ slice_get-push rows.clerks row in
+      ap (λ list. slice_get list end) (put-end rows.clerks row) ∙ slice_get-end rows.clerks row in
       subst Makes (sym last) (made-told rows (AddClerk name) making (made.Clerk told) (rw found refl)
       (clerk-given (changed rows making.change) end told row stands named))
 
   -- a new version of a schema's name
-  pub schema-made : (body : List ℕ) (row : SchemaRow) → schema_row rows.schemas body ≡ done row → told ≡ row.name
+  pub schema-made : (body : List ℕ) (row : SchemaRow) → IsFound (schema_row rows.schemas body) row → told ≡ row.name
       → place ≡ length rows.schemas
       → Gives (made_by rows (AddSchema body))
       (Ok (made.Schema told row.version, put_so (change.Schema row) act.Schema place))
@@ -92,10 +91,10 @@ module _ (rows : Rows) (place : ℕ) (told : List ℕ) where
       let end : ℕ = length rows.schemas in
       subst (λ there. Gives (made_by rows (AddSchema body)) (Ok (made.Schema told row.version, making there)))
       (sym last) (made-told rows (AddSchema body) (making end) (made.Schema told row.version) (rw found refl)
-      (schema-given (changed rows (change.Schema row)) end told row (slice_get-push rows.schemas row) named))
+      (schema-given (changed rows (change.Schema row)) end told row (slice_get-end rows.schemas row) named))
 
   -- and of a master's
-  pub master-made : (name body : List ℕ) (row : MasterRow) → master_row rows.masters name body ≡ done row
+  pub master-made : (name body : List ℕ) (row : MasterRow) → IsFound (master_row rows.masters name body) row
       → told ≡ row.name → place ≡ length rows.masters
       → Gives (made_by rows (AddMaster name body))
       (Ok (made.Master told row.version, put_so (change.Master row) act.Master place))
@@ -104,24 +103,55 @@ module _ (rows : Rows) (place : ℕ) (told : List ℕ) where
       let end : ℕ = length rows.masters in
       subst (λ there. Gives (made_by rows (AddMaster name body)) (Ok (made.Master told row.version, making there)))
       (sym last) (made-told rows (AddMaster name body) (making end) (made.Master told row.version) (rw found refl)
-      (master-given (changed rows (change.Master row)) end told row (slice_get-push rows.masters row) named))
+      (master-given (changed rows (change.Master row)) end told row (slice_get-end rows.masters row) named))
+
+  -- and of an edition's
+  pub edition-made : (name : List ℕ) (rulebook : List ℕ × ℕ) (masters : List (List ℕ × ℕ)) (folded : List (List ℕ))
+      (row : EditionRow) → IsFound (edition_row (published_of rows) name rulebook masters folded) row → told ≡ row.name
+      → place ≡ length rows.editions
+      → Gives (made_by rows (AddEdition name rulebook masters folded))
+      (Ok (made.Edition told row.version, put_so (change.Edition row) act.Edition place))
+  edition-made name rulebook masters folded row found named last =
+      let work : StewardWork = AddEdition name rulebook masters folded in
+      let making : ℕ → Making = λ there. put_so (change.Edition row) act.Edition there in
+      let end : ℕ = length rows.editions in
+      let row_of : Checked EditionRow = edition_row (published_of rows) name rulebook masters folded in
+      let put_in : EditionRow → Checked Making = λ one. done (put_so (change.Edition one) act.Edition end) in
+      subst (λ there. Gives (made_by rows work) (Ok (made.Edition told row.version, making there))) (sym last)
+      (made-told rows work (making end) (made.Edition told row.version)
+      (Gives-bind row_of put_in row (Ok (making end)) (Gives-found row_of row found) refl)
+      (edition-given (changed rows (change.Edition row)) end told row (slice_get-end rows.editions row) named))
+
+-- where the row is not found that a write puts, nothing is made
+pub row-unmade : {A : Type 0} (rows : Rows) (work : StewardWork) (found : Checked A) (put_in : A → Making) (stop : Stop)
+    (result : Result (Made × Making) Stop) → run (making_of rows work) ≡ run (found >>= (λ row. done (put_in row)))
+    → IsErrAnd result (λ one. one ≡ stop) → Answers {A = A} (Err stop) found → Answers result (made_by rows work)
+row-unmade rows work found put_in stop result same stops answers =
+    let told : Making → Checked (Made × Making) = λ making.
+    kept_made (changed rows making.change) making.act making.target >>= (λ made. done (made, making)) in
+    let put_so_far : Answers {A = Making} (Err stop) (found >>= (λ row. done (put_in row))) =
+    Answers-stopped found (λ row. done (put_in row)) stop (Err stop) refl answers in
+    Answers-stopped (making_of rows work) told stop result stops
+    (Answers-same (found >>= (λ row. done (put_in row))) (making_of rows work) (Err stop) (sym same) put_so_far)
 
 -- the row of a region on the edition that is named is found over that edition's attributes
 pub region-found : (rows : Rows) (name : List ℕ) (version : ℕ) (words : List (List ℕ))
     (texts : List (List (List ℕ))) (place : ℕ) (bound : Bound) (regions : List RegionRow) (attributes : List (List ℕ))
     (result : Result RegionRow Stop)
-    → some_or (edition_named rows.editions name version) (NoSuch kind.Edition) ≡ done place
+    → IsFound (some_or (edition_named rows.editions name version) (NoSuch kind.Edition)) place
     → bound_at (published_of rows) place ≡ Some bound → regions ≡ rows.regions → attributes ≡ bound.names.attributes
     → Finds result (region_on regions place attributes words texts)
     → Finds result (region_row (published_of rows) name version words texts)
 region-found rows name version words texts place bound regions attributes result named is all wide finds =
     let over : ℕ → Checked RegionRow = λ edition. certainly (bound_at (published_of rows) edition)
     >>= (λ one. region_on rows.regions edition one.names.attributes words texts) in
-    let same : region_row (published_of rows) name version words texts
-    ≡ region_on rows.regions place bound.names.attributes words texts =
-    ap (λ (one : Checked ℕ). one >>= over) named
-    ∙ ap (λ one. certainly one >>= (λ found. region_on rows.regions place found.names.attributes words texts)) is in
-    subst (λ (one : Checked RegionRow). Finds result one) (sym same)
+    let same : run (region_on rows.regions place bound.names.attributes words texts)
+    ≡ run (region_row (published_of rows) name version words texts) =
+    sym (ap (λ (one : Outcome ℕ). and_then one (λ edition. run (over edition))) named
+    ∙ ap (λ one. run (certainly one >>= (λ found. region_on rows.regions place found.names.attributes words texts))) is)
+    in
+    Finds-same (region_on rows.regions place bound.names.attributes words texts)
+    (region_row (published_of rows) name version words texts) result same
     (subst (λ list. Finds result (region_on rows.regions place list words texts)) wide
     (subst (λ list. Finds result (region_on list place attributes words texts)) all finds))
 
@@ -138,9 +168,9 @@ module _ (rows : Rows) (work : StewardWork) where
 
   -- what adds a region makes the region of its row
   region-making : AddsRegion work
-      → making_of rows work ≡ (row_by (published_of rows) work >>= (λ row. done (adding row)))
-  region-making adds = elim work as (λ one. AddsRegion one → making_of rows one
-      ≡ (row_by (published_of rows) one >>= (λ row. done (adding row)))) [
+      → run (making_of rows work) ≡ run (row_by (published_of rows) work >>= (λ row. done (adding row)))
+  region-making adds = elim work as (λ one. AddsRegion one → run (making_of rows one)
+      ≡ run (row_by (published_of rows) one >>= (λ row. done (adding row)))) [
         | AddRegion edition version attributes texts ↦ λ _. refl
         | AddDerived edition version master pairs from ↦ λ _. refl
         | AddClerk name ↦ λ none. absurd none
@@ -154,17 +184,13 @@ module _ (rows : Rows) (work : StewardWork) where
   pub region-unmade : (stop : Stop) (result : Result (Made × Making) Stop) → AddsRegion work
       → IsErrAnd result (λ one. one ≡ stop) → Answers {A = RegionRow} (Err stop) (row_by (published_of rows) work)
       → Answers result (made_by rows work)
-  region-unmade stop result adds stops answers =
-      let told : Making → Checked (Made × Making) = λ making.
-      kept_made (changed rows making.change) making.act making.target >>= (λ made. done (made, making)) in
-      let unmade : Answers {A = Making} (Err stop) (making_of rows work) =
-      subst (λ (one : Checked Making). Answers {A = Making} (Err stop) one) (sym (region-making adds))
-      (Answers-stopped (row_by (published_of rows) work) (λ row. done (adding row)) stop (Err stop) refl answers) in
-      Answers-stopped (making_of rows work) told stop result stops unmade
+  region-unmade stop result adds =
+      row-unmade rows work (row_by (published_of rows) work) adding stop result (region-making adds)
 
   module _ (row : RegionRow) (adds : AddsRegion work) (gives : Gives (row_by (published_of rows) work) (Ok row)) where
     makes : Gives (making_of rows work) (Ok (adding row))
-    makes = subst (λ (one : Checked Making). Gives one (Ok (adding row))) (sym (region-making adds))
+    makes = Gives-same (row_by (published_of rows) work >>= (λ one. done (adding one))) (making_of rows work)
+        (Ok (adding row)) (sym (region-making adds))
         (Gives-bind (row_by (published_of rows) work) (λ one. done (adding one)) row (Ok (adding row)) gives refl)
 
     -- a new region's row is good where it is put
@@ -172,7 +198,7 @@ module _ (rows : Rows) (work : StewardWork) where
     region-good valid =
         let end : ℕ = length rows.regions in
         let sound = making-sound rows work (adding row) valid makes in
-        let good = sound.valid.regions end row (slice_get-push rows.regions row) in
+        let good = sound.valid.regions end row (slice_get-end rows.regions row) in
         record {
           edition = good.edition;
           few = subst (λ before. region_count before row.edition < 8) (before-new rows.regions row) good.few;
@@ -195,4 +221,4 @@ module _ (rows : Rows) (work : StewardWork) where
         let after : Gives (region_made (published_of next) end row) (Ok told) = rw (before-new rows.regions row) here in
         subst (λ there. Gives (made_by rows work) (Ok (told, making there))) (sym last)
         (made-told rows work (making end) told makes
-        (region-kept next end row told (slice_get-push rows.regions row) after))
+        (region-kept next end row told (slice_get-end rows.regions row) after))

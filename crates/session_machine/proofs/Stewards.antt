@@ -1,5 +1,5 @@
 -- The steward's write: a new one, and one that comes again.
-use Rattle.std.proofs.Common.{◌≡◌, ◌∙◌, List, [], refl, sym, ap, subst}
+use Rattle.std.proofs.Common.{◌≡◌, ◌∙◌, List, [], sym, ap}
 use Rattle.std.specs.Prelude.{Result, Ok, Err, IsErrAnd}
 use Rattle.std.proofs.lemmas.Option.{slice_get-get_or}
 use Rattle.desk_words.specs.declared.change.Change.{Change}
@@ -15,7 +15,7 @@ use Rattle.desk_words.specs.Changes.{changed}
 use Rattle.desk_words.specs.Tables.{Rows, new_clerk}
 use Rattle.desk_valid.specs.Rows.Clerk.{IsClerkRow}
 use Rattle.desk_valid.specs.Valid.{AreValid}
-use Rattle.machine_core.specs.Checked.{Checked, ◌>>=◌, done, Gives}
+use Rattle.machine_core.specs.Checked.{Checked, Gives, IsFound, Outcome, and_then, done, run, ◌>>=◌}
 use Rattle.machine_core.specs.declared.making.Making.{Making}
 use Rattle.machine_core.specs.declared.stop.Stop.{Stop}
 use Rattle.machine_core.specs.declared.ticket.Use.{Use}
@@ -25,8 +25,8 @@ use Rattle.machine_core.specs.Machine.{machine, making_changes, making_of, stewa
 use Rattle.machine_core.specs.Outcomes.{Answers, Finds}
 use Rattle.machine_core.specs.Own.{own_of}
 use Rattle.machine_core.specs.Ticket.{use_of}
-use Rattle.machine_core.proofs.Chains.{Gives-bind, bind-assoc}
-use Rattle.machine_core.proofs.Answering.{Answers-found, Answers-stopped}
+use Rattle.machine_core.proofs.Chains.{Gives-bind, Gives-found, Gives-same, bind-assoc}
+use Rattle.machine_core.proofs.Answering.{Answers-found, Answers-same, Answers-stopped}
 use Rattle.machine_laws.proofs.EveryStep.{use-repeated}
 use Rattle.session_machine.specs.Made.{made_by}
 
@@ -36,8 +36,9 @@ steward-row rows valid =
     valid.clerks 0 (own_of rows 0).row (slice_get-get_or rows.clerks 0 (new_clerk []) valid.tables.steward)
 
 -- a write that comes again has the last number
-pub use-again : (row : ClerkRow) (ticket : Ticket) → use_of row ticket ≡ done Repeated → ticket.number ≡ row.last
-use-again row ticket is = use-repeated row ticket (subst (λ (one : Checked Use). Gives one (Ok Repeated)) (sym is) refl)
+pub use-again : (row : ClerkRow) (ticket : Ticket) → IsFound (use_of row ticket) Repeated → ticket.number ≡ row.last
+use-again row ticket is = use-repeated row ticket
+    (Gives-found (use_of row ticket) Repeated is)
 
 module _ (rows : Rows) (ticket : Ticket) (work : StewardWork) where
   -- where it is not the steward's turn, the write stops there
@@ -49,21 +50,23 @@ module _ (rows : Rows) (ticket : Ticket) (work : StewardWork) where
       Answers-stopped turn (steward_write rows ticket work) stop result is (Answers-found turn (Err stop) finds)
 
   -- and else it is the write at that turn
-  pub write-timely : (used : Use) → use_of (own_of rows 0).row ticket ≡ done used
-      → machine rows (Steward ticket work) ≡ steward_write rows ticket work used
-  write-timely used turn = ap (λ (one : Checked Use). one >>= steward_write rows ticket work) turn
+  pub write-timely : (used : Use) → IsFound (use_of (own_of rows 0).row ticket) used
+      → run (machine rows (Steward ticket work)) ≡ run (steward_write rows ticket work used)
+  write-timely used turn = ap (λ (one : Outcome Use). and_then one (λ one. run (steward_write rows ticket work one)))
+      turn
 
   -- the reply of what was made, and its changes
   abbrev accepted : Made × Making → Checked (Reply × List Change)
   accepted both = done (reply.Made both.0, making_changes (own_of rows 0).row ticket both.1)
 
   -- a new write is what is made, with its reply and its changes
-  fresh-made : steward_write rows ticket work Fresh ≡ (made_by rows work >>= accepted)
+  fresh-made : run (steward_write rows ticket work Fresh) ≡ run (made_by rows work >>= accepted)
   fresh-made =
       let kept_by : Making → Checked Made = λ making. kept_made (changed rows making.change) making.act making.target in
       let both_of : Making → Checked (Made × Making) = λ making. kept_by making >>= (λ made. done (made, making)) in
       sym (bind-assoc (making_of rows work) both_of accepted
-      ∙ (λ i. making_of rows work >>= (λ making. bind-assoc (kept_by making) (λ made. done (made, making)) accepted i)))
+      ∙ (λ i. and_then (run (making_of rows work)) (λ making.
+      bind-assoc (kept_by making) (λ made. done (made, making)) accepted i)))
 
   -- so it gives them
   pub fresh-given : (told : Made) (making : Making) (changes : List Change)
@@ -71,7 +74,7 @@ module _ (rows : Rows) (ticket : Ticket) (work : StewardWork) where
       → Gives (steward_write rows ticket work Fresh) (Ok (reply.Made told, changes))
   fresh-given told making changes gives is =
       let result : Result (Reply × List Change) Refusal = Ok (reply.Made told, changes) in
-      subst (λ (one : Checked (Reply × List Change)). Gives one result) (sym fresh-made)
+      Gives-same (made_by rows work >>= accepted) (steward_write rows ticket work Fresh) result (sym fresh-made)
       (Gives-bind (made_by rows work) accepted (told, making) result gives (ap (λ list. Ok (reply.Made told, list)) is))
 
   -- and it stops where nothing is made
@@ -79,7 +82,7 @@ module _ (rows : Rows) (ticket : Ticket) (work : StewardWork) where
       → Answers {A = Made × Making} (Err stop) (made_by rows work)
       → Answers result (steward_write rows ticket work Fresh)
   fresh-stopped stop result is answers =
-      subst (λ (one : Checked (Reply × List Change)). Answers result one) (sym fresh-made)
+      Answers-same (made_by rows work >>= accepted) (steward_write rows ticket work Fresh) result (sym fresh-made)
       (Answers-stopped (made_by rows work) accepted stop result is answers)
 
   -- one that comes again has the kept reply, and no changes

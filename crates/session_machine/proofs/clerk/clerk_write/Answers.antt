@@ -1,11 +1,11 @@
-use Rattle.std.proofs.Common.{◌≡◌, ◌∙◌, ◌<◌, ap, arith, length, subst, sym}
+use Rattle.std.proofs.Common.{◌≡◌, ◌∙◌, ◌<◌, ap, arith, length, subst, sym, Ok}
 use Rattle.std.specs.Prelude.{IfOk}
 use Rattle.desk_words.specs.declared.command.Command.{Command}
 use Rattle.desk_words.specs.declared.command.Command.TheVariants.{Clerk}
 use Rattle.desk_words.specs.declared.rows.clerk.ClerkRow.{ClerkRow}
 use Rattle.desk_words.specs.Tables.{Rows, published_of, rows_of}
 use Rattle.desk_valid.specs.Valid.{AreValid}
-use Rattle.machine_core.specs.Checked.{done}
+use Rattle.machine_core.specs.Checked.{IsFound, told}
 use Rattle.machine_core.specs.Machine.{machine}
 use Rattle.machine_core.specs.Outcomes.{Answers}
 use Rattle.machine_core.specs.Own.{Own, own_of}
@@ -53,8 +53,8 @@ repeated-requires-clause-own c = own-there c.args.totalled.now (rows_of c.tables
 
 pub repeated-requires-clause-started : goal.repeated-requires-clause-started
 repeated-requires-clause-started c =
-    let turn : use_of c.row.result.now c.args.ticket.now ≡ done Repeated =
-    c.in_ok-used.ensures.finds ∙ ap (λ (used : Use). done used) c.in-Repeated.is in
+    let turn : IsFound (use_of c.row.result.now c.args.ticket.now) Repeated =
+    c.in_ok-used.ensures.finds ∙ ap (λ (used : Use). told (Ok used)) c.in-Repeated.is in
     omega (
       arith,
       use-again c.row.result.now c.args.ticket.now turn,
@@ -94,14 +94,14 @@ pub returns-in-Repeated-clause-answers : goal.returns-in-Repeated-clause-answers
 returns-in-Repeated-clause-answers c = write-told c.args.totalled.now (rows_of c.tables-tables.result.now)
     c.tables-tables.ensures.tables c.in_ok-place.place c.own_at-own.result c.own_at-own.ensures c.row.result.now
     c.row.ensures c.args.name.now c.args.ticket.now c.args.work.now c.repeated.result c.in_ok-place.ensures.finds
-    Repeated (c.in_ok-used.ensures.finds ∙ ap (λ (used : Use). done used) c.in-Repeated.is)
+    Repeated (c.in_ok-used.ensures.finds ∙ ap (λ (used : Use). told (Ok used)) c.in-Repeated.is)
     (c.repeated.ensures.answers c.args.ticket.now c.args.work.now)
 
 pub returns-in-Fresh-clause-answers : goal.returns-in-Fresh-clause-answers
 returns-in-Fresh-clause-answers c = write-told c.args.totalled.now (rows_of c.tables-tables.result.now)
     c.tables-tables.ensures.tables c.in_ok-place.place c.own_at-own.result c.own_at-own.ensures c.row.result.now
     c.row.ensures c.args.name.now c.args.ticket.now c.args.work.now c.fresh.result c.in_ok-place.ensures.finds
-    Fresh (c.in_ok-used.ensures.finds ∙ ap (λ (used : Use). done used) c.in-Fresh.is) c.fresh.ensures.answers
+    Fresh (c.in_ok-used.ensures.finds ∙ ap (λ (used : Use). told (Ok used)) c.in-Fresh.is) c.fresh.ensures.answers
 
 pub returns-in-Repeated-clause-held : goal.returns-in-Repeated-clause-held
 returns-in-Repeated-clause-held c =

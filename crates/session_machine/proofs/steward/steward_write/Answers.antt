@@ -1,10 +1,10 @@
-use Rattle.std.proofs.Common.{◌≡◌, ◌∙◌, Err, ap, arith, subst, sym}
+use Rattle.std.proofs.Common.{◌≡◌, ◌∙◌, Err, ap, arith, subst, sym, Ok}
 use Rattle.std.specs.Prelude.{IfOk}
 use Rattle.desk_words.specs.declared.command.Command.TheVariants.{Steward}
 use Rattle.desk_words.specs.declared.rows.clerk.ClerkRow.{ClerkRow}
 use Rattle.desk_words.specs.Tables.{Rows, rows_of}
-use Rattle.machine_core.specs.Checked.{done}
-use Rattle.machine_core.specs.Machine.{machine}
+use Rattle.machine_core.specs.Checked.{IsFound, run, told}
+use Rattle.machine_core.specs.Machine.{machine, steward_write}
 use Rattle.machine_core.specs.Outcomes.{Answers, Finds}
 use Rattle.machine_core.specs.Own.{own_of}
 use Rattle.machine_core.specs.Ticket.{use_of}
@@ -13,6 +13,7 @@ use Rattle.machine_core.specs.declared.ticket.Use.TheVariants.{Fresh, Repeated}
 use Rattle.session_machine.specs.Booked.{IsBooked}
 use Rattle.session_machine.proofs.Stewards.{steward-row, use-again, write-timely, write-untimely}
 use Rattle.session_machine.proofs.steward.steward_write.Goals as goal
+use Rattle.machine_core.proofs.Answering.{Answers-same}
 
 pub use_of-requires : goal.use_of-requires
 use_of-requires c =
@@ -23,8 +24,8 @@ use_of-requires c =
 
 pub repeated-requires-clause-started : goal.repeated-requires-clause-started
 repeated-requires-clause-started c =
-    let turn : use_of c.steward_of.result.now c.args.ticket.now ≡ done Repeated =
-    c.in_ok-use_of.ensures.finds ∙ ap (λ (used : Use). done used) c.in-Repeated.is in
+    let turn : IsFound (use_of c.steward_of.result.now c.args.ticket.now) Repeated =
+    c.in_ok-use_of.ensures.finds ∙ ap (λ (used : Use). told (Ok used)) c.in-Repeated.is in
     omega (
       arith,
       use-again c.steward_of.result.now c.args.ticket.now turn,
@@ -47,12 +48,13 @@ returns-in-Repeated-clause-answers c =
     let result = c.repeated.result in
     let rows : Rows = rows_of c.tables-tables.result.now in
     let row : (own_of rows 0).row ≡ c.steward_of.result.now = sym c.steward_of.ensures in
-    let turn : use_of (own_of rows 0).row c.args.ticket.now ≡ done Repeated =
-    ap (λ (one : ClerkRow). use_of one c.args.ticket.now) row ∙ c.in_ok-use_of.ensures.finds
-    ∙ ap (λ (used : Use). done used) c.in-Repeated.is in
+    let turn : IsFound (use_of (own_of rows 0).row c.args.ticket.now) Repeated =
+    ap (λ (one : ClerkRow). run (use_of one c.args.ticket.now)) row ∙ c.in_ok-use_of.ensures.finds
+    ∙ ap (λ (used : Use). told (Ok used)) c.in-Repeated.is in
     let Told : Rows → Type 0 = λ one. Answers result (machine one (Steward c.args.ticket.now c.args.work.now)) in
-    subst Told c.tables-tables.ensures.tables (subst (Answers result)
-    (sym (write-timely rows c.args.ticket.now c.args.work.now Repeated turn))
+    subst Told c.tables-tables.ensures.tables (Answers-same
+    (steward_write rows c.args.ticket.now c.args.work.now Repeated) (machine rows (Steward c.args.ticket.now
+    c.args.work.now)) result (sym (write-timely rows c.args.ticket.now c.args.work.now Repeated turn))
     (c.repeated.ensures.answers c.args.ticket.now c.args.work.now))
 
 pub returns-in-Repeated-clause-booked : goal.returns-in-Repeated-clause-booked
@@ -67,10 +69,11 @@ returns-in-Fresh-clause-answers c =
     let rows : Rows = c.args.totalled.now in
     let row : (own_of rows 0).row ≡ c.steward_of.result.now =
     sym (c.steward_of.ensures ∙ ap (λ (one : Rows). (own_of one 0).row) c.tables-tables.ensures.tables) in
-    let turn : use_of (own_of rows 0).row c.args.ticket.now ≡ done Fresh =
-    ap (λ (one : ClerkRow). use_of one c.args.ticket.now) row ∙ c.in_ok-use_of.ensures.finds
-    ∙ ap (λ (used : Use). done used) c.in-Fresh.is in
-    subst (Answers c.fresh.result) (sym (write-timely rows c.args.ticket.now c.args.work.now Fresh turn))
+    let turn : IsFound (use_of (own_of rows 0).row c.args.ticket.now) Fresh =
+    ap (λ (one : ClerkRow). run (use_of one c.args.ticket.now)) row ∙ c.in_ok-use_of.ensures.finds
+    ∙ ap (λ (used : Use). told (Ok used)) c.in-Fresh.is in
+    Answers-same (steward_write rows c.args.ticket.now c.args.work.now Fresh) (machine rows (Steward c.args.ticket.now
+    c.args.work.now)) c.fresh.result (sym (write-timely rows c.args.ticket.now c.args.work.now Fresh turn))
     c.fresh.ensures.answers
 
 pub returns-in-Fresh-clause-booked : goal.returns-in-Fresh-clause-booked

@@ -1,4 +1,4 @@
-use Rattle.std.proofs.Common.{◌≡◌, ap, subst}
+use Rattle.std.proofs.Common.{◌≡◌, ap, subst, List, ◌∙◌, [], Ok}
 use Rattle.desk_words.specs.Tables.{Rows, published_of, rows_of}
 use Rattle.machine_core.specs.Shelves.{AreHeld}
 use Rattle.session_machine.specs.Seats.{Seat}
@@ -6,6 +6,15 @@ use Rattle.session_machine.proofs.Weighed.{report-gives}
 use Rattle.session_machine.proofs.desk.Desk.step.Goals as goal
 use Rattle.session_machine.proofs.desk.Desk.step.Goals.{in-Steward, in-Clerk, in-Look, in-DeskDerive}
 use Rattle.session_machine.proofs.desk.Desk.step.Goals.{in-DeskReport+in_ok-sheet-in-DeskReport}
+use Rattle.std.specs.Prelude.{Result}
+use Rattle.desk_words.specs.declared.change.Change.{Change}
+use Rattle.desk_words.specs.declared.command.Command.{Command}
+use Rattle.desk_words.specs.declared.command.Command.TheVariants.{Steward, Clerk, Look, DeskReport, DeskDerive}
+use Rattle.desk_words.specs.declared.reply.Reply.{Reply}
+use Rattle.machine_core.specs.Machine.{machine}
+use Rattle.machine_core.specs.Outcomes.{Answers}
+use Rattle.machine_core.specs.declared.stop.Stop.{Stop}
+use Rattle.desk_words.specs.declared.reply.Reply.TheVariants.{Report}
 
 pub invariant_of-self-2 : goal.invariant_of-self-2
 invariant_of-self-2 c = elim c.match-command.branch [
@@ -38,18 +47,31 @@ invariant_of-self-2 c = elim c.match-command.branch [
   })
 ]
 
+-- what answers a command over tables answers it over equal tables
+Answers-over : (result : Result (Reply × List Change) Stop) (rows other : Rows) (command : Command) → rows ≡ other
+    → Answers result (machine rows command) → Answers result (machine other command)
+Answers-over result rows other command same answers =
+    subst (λ (one : Rows). Answers result (machine one command)) same answers
+
 pub returns-clause-answers : goal.returns-clause-answers
 returns-clause-answers c =
     let same : c.self.inside.totalled ≡ c.args.self.now.rows = ap (λ (seat : Seat). seat.rows) c.self.view_is in
     elim c.match-command.branch [
-      | in-Steward w ↦ rw (w.result-is, w.in-Steward.is, ← same) w.steward_write.ensures.answers
-      | in-Clerk w ↦ rw (w.result-is, w.in-Clerk.is, ← same) w.clerk_write.ensures.answers
-      | in-Look w ↦ rw (w.result-is, w.in-Look.is, ← same) w.clerk_look.ensures.answers
+      | in-Steward w ↦ rw (w.result-is, w.in-Steward.is) (Answers-over w.steward_write.result c.self.inside.totalled
+          c.args.self.now.rows (Steward w.in-Steward.ticket w.in-Steward.work) same w.steward_write.ensures.answers)
+      | in-Clerk w ↦ rw (w.result-is, w.in-Clerk.is) (Answers-over w.clerk_write.result c.self.inside.totalled
+          c.args.self.now.rows (Clerk w.in-Clerk.name w.in-Clerk.ticket w.in-Clerk.work) same
+          w.clerk_write.ensures.answers)
+      | in-Look w ↦ rw (w.result-is, w.in-Look.is) (Answers-over w.clerk_look.result c.self.inside.totalled
+          c.args.self.now.rows (Look w.in-Look.name w.in-Look.look) same w.clerk_look.ensures.answers)
       | in-DeskReport+in_ok-sheet-in-DeskReport w ↦
           let sheet = w.in_ok-sheet-in-DeskReport.sheet in
           let gives = report-gives (rows_of w.tables.result.now) sheet w.in_ok-sheet-in-DeskReport.ensures.report in
-          rw (w.result-is, w.in-DeskReport.is, ← same, w.new.ensures, ← w.tables.ensures.tables) gives
+          rw (w.result-is, w.in-DeskReport.is, w.new.ensures) (Answers-over (Ok (Report sheet, []))
+          (rows_of w.tables.result.now) c.args.self.now.rows DeskReport (w.tables.ensures.tables ∙ same) gives)
       | in-DeskDerive w ↦
           let answers = rw w.as_slice-pairs.ensures at w.derived_reply.ensures.answers in
-          rw (w.result-is, w.in-DeskDerive.is, ← same) answers
+          rw (w.result-is, w.in-DeskDerive.is) (Answers-over w.derived_reply.result c.self.inside.totalled
+          c.args.self.now.rows (DeskDerive w.in-DeskDerive.edition w.in-DeskDerive.version w.in-DeskDerive.master
+          w.in-DeskDerive.pairs) same answers)
     ]

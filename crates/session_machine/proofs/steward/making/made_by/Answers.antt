@@ -1,3 +1,7 @@
+use Rattle.std.proofs.Common.{subst}
+use Rattle.desk_words.specs.Tables.{Rows}
+use Rattle.machine_core.specs.Outcomes.{Answers}
+use Rattle.session_machine.specs.Made.{made_by}
 use Rattle.session_machine.proofs.MakingTold.{Answers-made}
 use Rattle.session_machine.proofs.steward.making.made_by.Goals as goal
 
@@ -20,3 +24,8 @@ returns-in-AddRulebook-clause-answers c =
 pub returns-in-AddEdition-clause-answers : goal.returns-in-AddEdition-clause-answers
 returns-in-AddEdition-clause-answers c =
     Answers-made c.add_edition.result c.tables-tables.ensures.tables c.in-AddEdition.is c.add_edition.ensures
+
+pub returns-in-AddRegion-clause-answers : goal.returns-in-AddRegion-clause-answers
+returns-in-AddRegion-clause-answers c =
+    subst (λ (rows : Rows). Answers c.add_region.result (made_by rows c.args.work.now)) c.tables-tables.ensures.tables
+    c.add_region.ensures.answers
