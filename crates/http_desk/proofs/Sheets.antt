@@ -1,8 +1,8 @@
 -- The records and the derived rows that the machine replies have a text for each attribute.
-use Rattle.std.proofs.Common.{◌≡◌, ◌∙◌, ◌⊎◌, inl, inr, ℕ, suc, ◌+◌, ◌-◌, ◌≤◌, true, false, List, [], ◌∷◌}
+use Rattle.std.proofs.Common.{◌≡◌, ◌∙◌, ◌⊎◌, inl, inr, ℕ, suc, ◌-◌, ◌≤◌, true, false, List, [], ◌∷◌}
 use Rattle.std.proofs.Common.{length}
-use Rattle.std.proofs.Common.{refl, sym, ap, subst, arith, Option, Some, None, Result, Ok, Err}
-use Rattle.std.specs.Prelude.{◌==◌, All, IfSome, drop, filter, flat_map, slice_get, slice_index_or, take}
+use Rattle.std.proofs.Common.{refl, sym, ap, subst, arith, Option, Some, Result, Ok, Err}
+use Rattle.std.specs.Prelude.{◌==◌, All, IfSome, filter, slice_get, slice_index_or}
 use Rattle.std.specs.Prelude.{zip, ⊤}
 use Rattle.std.specs.List.{range_with_len}
 use Rattle.std.specs.Option.{option_map_or}
@@ -15,9 +15,7 @@ use Rattle.desk_words.specs.declared.command.Command.TheVariants.{Steward, Clerk
 use Rattle.desk_words.specs.declared.command.Ticket.{Ticket}
 use Rattle.desk_words.specs.declared.look.Look.{Look as LookOf}
 use Rattle.desk_words.specs.declared.look.Look.TheVariants as look
-use Rattle.desk_words.specs.declared.refusal.Kind.TheVariants as kind
 use Rattle.desk_words.specs.declared.refusal.Refusal.{Refusal}
-use Rattle.desk_words.specs.declared.refusal.Refusal.TheVariants as refusal
 use Rattle.desk_words.specs.declared.reply.DerivedSheet.{DerivedSheet}
 use Rattle.desk_words.specs.declared.reply.Reply.{Reply}
 use Rattle.desk_words.specs.declared.reply.Reply.TheVariants as reply
@@ -27,7 +25,7 @@ use Rattle.desk_words.specs.declared.rows.act.Act.TheVariants as act
 use Rattle.desk_words.specs.declared.rows.record.RecordRow.{RecordRow}
 use Rattle.desk_words.specs.declared.rows.session.SessionRow.{SessionRow}
 use Rattle.desk_words.specs.declared.steward_work.StewardWork.{StewardWork}
-use Rattle.desk_words.specs.Changes.{changed, changed_all}
+use Rattle.desk_words.specs.Changes.{changed_all}
 use Rattle.desk_words.specs.Tables.{Published, Rows, list_at, published_of}
 use Rattle.desk_valid.specs.declared.bound.Bound.{Bound}
 use Rattle.desk_valid.specs.Bindings.{bound_at}
@@ -39,25 +37,18 @@ use Rattle.machine_core.specs.declared.machine.Weighed.{Weighed}
 use Rattle.machine_core.specs.declared.ticket.Use.{Use as UseOf}
 use Rattle.machine_core.specs.declared.ticket.Use.TheVariants.{Fresh, Repeated}
 use Rattle.machine_core.specs.declared.deed.Deed.{Deed}
-use Rattle.machine_core.specs.Checked.{Gives, certainly, each, some_or}
+use Rattle.machine_core.specs.Checked.{Gives, each}
 use Rattle.machine_core.specs.Deriving.{derived_sheet}
-use Rattle.machine_core.specs.Finding.{edition_named, session_at}
-use Rattle.machine_core.specs.Kept.{kept_made, kept_reply}
-use Rattle.machine_core.specs.Look.Carry.{carrying}
-use Rattle.machine_core.specs.Look.Explain.{explain}
-use Rattle.machine_core.specs.Look.Preview.{preview}
+use Rattle.machine_core.specs.Finding.{session_at}
+use Rattle.machine_core.specs.Kept.{kept_reply}
 use Rattle.machine_core.specs.Look.Records.{is_on, record_line, records_of}
-use Rattle.machine_core.specs.Look.Report.{assessment_of, report_of}
-use Rattle.machine_core.specs.Look.Suggest.{suggestion_of}
-use Rattle.machine_core.specs.Look.View.{view_at}
-use Rattle.machine_core.specs.Machine.{answered, clerk_of, clerk_write, clerk_write_at, deed_of, look_reply}
-use Rattle.machine_core.specs.Machine.{machine, making_changes, making_of, steward_write}
+use Rattle.machine_core.specs.Machine.{answered, clerk_write_at, look_reply}
+use Rattle.machine_core.specs.Machine.{machine, steward_write}
 use Rattle.machine_core.specs.Own.{Own, after, own_of}
-use Rattle.machine_core.specs.Ticket.{use_of}
 use Rattle.machine_core.specs.Weighing.{IsSettleable, IsWeighed}
 use Rattle.machine_core.proofs.Widths.{width-bound}
-use Rattle.machine_core.proofs.Chains.{Gives-bind_ok, done-value}
 use Rattle.machine_core.proofs.Deriving.{derived_sheet-full}
+use Rattle.machine_core.proofs.Walks.{Gives-Met, Met, Met-Gives}
 
 -- ---- which replies are sheets
 
@@ -69,86 +60,50 @@ IsSheet answer = ⊥
 
 -- the kept reply of a clerk is none
 kept_no_sheet : (published : Published) (own : Own) (deed : Act) (place : ℕ) (answer : Reply) → IsSheet answer
-    → Gives (kept_reply published own deed place) (Ok answer) → ⊥
-kept_no_sheet published own act.Opened place answer is gives =
-    let view = Gives-bind_ok (view_at published own (place + 1)) _ answer gives in
-    subst IsSheet (done-value (reply.Opened view.0) answer view.2) is
-kept_no_sheet published own act.Changed place answer is gives =
-    let view = Gives-bind_ok (view_at published own (place + 1)) _ answer gives in
-    subst IsSheet (done-value (reply.View view.0) answer view.2) is
-kept_no_sheet published own act.Committed place answer is gives =
-    let row = Gives-bind_ok (certainly (slice_get own.records place)) _ answer gives in
-    subst IsSheet (done-value (reply.Committed (place + 1) row.0.session row.0.certain) answer row.2) is
-kept_no_sheet published own act.Batched place answer is gives =
-    let row = Gives-bind_ok (certainly (slice_get own.batches place)) _ answer gives in
-    let sessions = Gives-bind_ok (each (assessment_of published) (take row.0.count (drop (row.0.first - 1)
-    own.sessions))) _ answer row.2 in
-    subst IsSheet (done-value _ answer sessions.2) is
-kept_no_sheet published own act.Nothing place answer is gives = gives
-kept_no_sheet published own act.Clerk place answer is gives = gives
-kept_no_sheet published own act.Schema place answer is gives = gives
-kept_no_sheet published own act.Master place answer is gives = gives
-kept_no_sheet published own act.Rulebook place answer is gives = gives
-kept_no_sheet published own act.Edition place answer is gives = gives
-kept_no_sheet published own act.Region place answer is gives = gives
+    → Met (kept_reply published own deed place) (Ok answer) → ⊥
+kept_no_sheet published own act.Opened place answer is (view, _, same) = subst IsSheet same is
+kept_no_sheet published own act.Changed place answer is (view, _, same) = subst IsSheet same is
+kept_no_sheet published own act.Committed place answer is (row, _, same) = subst IsSheet same is
+kept_no_sheet published own act.Batched place answer is (row, _, (sessions, _, same)) = subst IsSheet same is
+kept_no_sheet published own act.Nothing place answer is never = never
+kept_no_sheet published own act.Clerk place answer is never = never
+kept_no_sheet published own act.Schema place answer is never = never
+kept_no_sheet published own act.Master place answer is never = never
+kept_no_sheet published own act.Rulebook place answer is never = never
+kept_no_sheet published own act.Edition place answer is never = never
+kept_no_sheet published own act.Region place answer is never = never
 
 -- nor is what a clerk's write replies
 write_no_sheet : (published : Published) (own : Own) (work : ClerkWork) (used : UseOf) (made : Reply × Option Deed)
-    → IsSheet made.0 → Gives (clerk_write_at published own work used) (Ok made) → ⊥
-write_no_sheet published own work Repeated made is gives =
-    let kept = Gives-bind_ok (kept_reply published own own.row.act own.row.target) _ made gives in
-    let same = done-value {A = Reply × Option Deed} (kept.0, None) made kept.2 in
-    kept_no_sheet published own own.row.act own.row.target kept.0
-    (subst IsSheet (ap (λ (p : Reply × Option Deed). p.0) same) is) kept.1
-write_no_sheet published own work Fresh made is gives =
-    let done_so = Gives-bind_ok (deed_of published own work) _ made gives in
-    let deed : Deed = done_so.0 in
-    let kept = Gives-bind_ok (kept_reply published (after own deed) deed.act deed.target) _ made done_so.2 in
-    let same = done-value {A = Reply × Option Deed} (kept.0, Some deed) made kept.2 in
-    kept_no_sheet published (after own deed) deed.act deed.target kept.0
-    (subst IsSheet (ap (λ (p : Reply × Option Deed). p.0) same) is) kept.1
+    → IsSheet made.0 → Met (clerk_write_at published own work used) (Ok made) → ⊥
+write_no_sheet published own work Repeated made is (kept, given, same) =
+    kept_no_sheet published own own.row.act own.row.target kept
+    (subst (λ (one : Reply × Option Deed). IsSheet one.0) same is) given
+write_no_sheet published own work Fresh made is (deed, _, (kept, given, same)) =
+    kept_no_sheet published (after own deed) deed.act deed.target kept
+    (subst (λ (one : Reply × Option Deed). IsSheet one.0) same is) given
 
 -- nor what the steward's write does
 steward_no_sheet : (rows : Rows) (ticket : Ticket) (work : StewardWork) (used : UseOf) (answer : Reply × List Change)
-    → IsSheet answer.0 → Gives (steward_write rows ticket work used) (Ok answer) → ⊥
-steward_no_sheet rows ticket work Repeated answer is gives =
-    let made = Gives-bind_ok (kept_made rows (own_of rows 0).row.act (own_of rows 0).row.target) _ answer gives in
-    let same = done-value {A = Reply × List Change} (reply.Made made.0, []) answer made.2 in
-    subst IsSheet (ap (λ (p : Reply × List Change). p.0) same) is
-steward_no_sheet rows ticket work Fresh answer is gives =
-    let making = Gives-bind_ok (making_of rows work) _ answer gives in
-    let made = Gives-bind_ok (kept_made (changed rows making.0.change) making.0.act making.0.target) _ answer
-    making.2 in
-    let same = done-value {A = Reply × List Change}
-    (reply.Made made.0, making_changes (own_of rows 0).row ticket making.0) answer made.2 in
-    subst IsSheet (ap (λ (p : Reply × List Change). p.0) same) is
+    → IsSheet answer.0 → Met (steward_write rows ticket work used) (Ok answer) → ⊥
+steward_no_sheet rows ticket work Repeated answer is (made, _, same) =
+    subst (λ (one : Reply × List Change). IsSheet one.0) same is
+steward_no_sheet rows ticket work Fresh answer is (making, _, (made, _, same)) =
+    subst (λ (one : Reply × List Change). IsSheet one.0) same is
 
 -- a look that replies one asked for records
 look_sheet : (published : Published) (own : Own) (looked : LookOf) (answer : Reply) → IsSheet answer
-    → Gives (look_reply published own looked) (Ok answer)
+    → Met (look_reply published own looked) (Ok answer)
     → (edition : List ℕ) × (version : ℕ) × (sheet : RecordSheet) × (answer ≡ reply.Records sheet)
     × Gives (records_of published own edition version) (Ok sheet)
-look_sheet published own (look.View number) answer is gives =
-    let view = Gives-bind_ok (view_at published own number) _ answer gives in
-    absurd (subst IsSheet (done-value (reply.View view.0) answer view.2) is)
-look_sheet published own (look.Suggest number) answer is gives =
-    let made = Gives-bind_ok (suggestion_of published own number) _ answer gives in
-    absurd (subst IsSheet (done-value (reply.Suggested made.0) answer made.2) is)
-look_sheet published own (look.Preview number cells) answer is gives =
-    let view = Gives-bind_ok (preview published own number cells) _ answer gives in
-    absurd (subst IsSheet (done-value (reply.View view.0) answer view.2) is)
-look_sheet published own look.Report answer is gives =
-    let made = Gives-bind_ok (report_of published (Some own.row.name) own.sessions) _ answer gives in
-    absurd (subst IsSheet (done-value (reply.Report made.0) answer made.2) is)
-look_sheet published own (look.Records edition version) answer is gives =
-    let made = Gives-bind_ok (records_of published own edition version) _ answer gives in
-    (edition, version, made.0, done-value (reply.Records made.0) answer made.2, made.1)
-look_sheet published own (look.Explain number word) answer is gives =
-    let made = Gives-bind_ok (explain published own number word) _ answer gives in
-    absurd (subst IsSheet (done-value (reply.Explained made.0) answer made.2) is)
-look_sheet published own (look.Carry number version) answer is gives =
-    let made = Gives-bind_ok (carrying published own number version) _ answer gives in
-    absurd (subst IsSheet (done-value (reply.Carried made.0) answer made.2) is)
+look_sheet published own (look.View number) answer is (view, _, same) = absurd (subst IsSheet same is)
+look_sheet published own (look.Suggest number) answer is (made, _, same) = absurd (subst IsSheet same is)
+look_sheet published own (look.Preview number cells) answer is (view, _, same) = absurd (subst IsSheet same is)
+look_sheet published own look.Report answer is (made, _, same) = absurd (subst IsSheet same is)
+look_sheet published own (look.Records edition version) answer is (sheet, met, same) =
+    (edition, version, sheet, same, Gives-Met (records_of published own edition version) (Ok sheet) met)
+look_sheet published own (look.Explain number word) answer is (made, _, same) = absurd (subst IsSheet same is)
+look_sheet published own (look.Carry number version) answer is (made, _, same) = absurd (subst IsSheet same is)
 
 -- records of a clerk over a version of an edition
 record AreRecords (rows : Rows) (answer : Reply) : Type 0 where
@@ -171,56 +126,41 @@ record AreRows (rows : Rows) (answer : Reply) : Type 0 where
 
 -- so a request that is replied a sheet asked for it, and changes nothing
 sheet_asked : (rows : Rows) (command : Command) (answer : Reply) (changes : List Change) → IsSheet answer
-    → Gives (machine rows command) (Ok (answer, changes))
+    → Met (machine rows command) (Ok (answer, changes))
     → (changes ≡ []) × (AreRecords rows answer ⊎ AreRows rows answer)
-sheet_asked rows (Steward ticket work) answer changes is gives =
-    let used = Gives-bind_ok (use_of (own_of rows 0).row ticket) _ (answer, changes) gives in
-    absurd (steward_no_sheet rows ticket work used.0 (answer, changes) is used.2)
-sheet_asked rows (Clerk name ticket work) answer changes is gives =
-    let place = Gives-bind_ok (clerk_of rows.clerks name) _ (answer, changes) gives in
-    let own : Own = own_of rows place.0 in
-    let write = Gives-bind_ok (clerk_write (published_of rows) own ticket work) _ (answer, changes) place.2 in
-    let same = done-value {A = Reply × List Change} _ (answer, changes) write.2 in
-    let first : answer ≡ write.0.0 = ap (λ (p : Reply × List Change). p.0) same in
-    let used = Gives-bind_ok (use_of own.row ticket) _ write.0 write.1 in
-    absurd (write_no_sheet (published_of rows) own work used.0 write.0 (subst IsSheet first is) used.2)
-sheet_asked rows (Look name looked) answer changes is gives =
-    let place = Gives-bind_ok (clerk_of rows.clerks name) _ (answer, changes) gives in
-    let own : Own = own_of rows place.0 in
-    let made = Gives-bind_ok (look_reply (published_of rows) own looked) _ (answer, changes) place.2 in
-    let same = done-value {A = Reply × List Change} (made.0, []) (answer, changes) made.2 in
-    let first : answer ≡ made.0 = ap (λ (p : Reply × List Change). p.0) same in
-    let found = look_sheet (published_of rows) own looked made.0 (subst IsSheet first is) made.1 in (
-      ap (λ (p : Reply × List Change). p.1) same,
+sheet_asked rows (Steward ticket work) answer changes is (used, _, written) =
+    absurd (steward_no_sheet rows ticket work used (answer, changes) is written)
+sheet_asked rows (Clerk name ticket work) answer changes is (place, _, (made, (used, _, written), same)) =
+    let first : answer ≡ made.0 = ap (λ (both : Reply × List Change). both.0) same in
+    absurd (write_no_sheet (published_of rows) (own_of rows place) work used made (subst IsSheet first is) written)
+sheet_asked rows (Look name looked) answer changes is (place, _, (made, shown, same)) =
+    let first : answer ≡ made = ap (λ (both : Reply × List Change). both.0) same in
+    let (edition, version, sheet, told, gives) = look_sheet (published_of rows) (own_of rows place) looked made
+    (subst IsSheet first is) shown in (
+      ap (λ (both : Reply × List Change). both.1) same,
       inl (record {
-        place = place.0;
-        edition = found.0;
-        version = found.1;
-        sheet = found.2;
-        is = first ∙ found.3;
-        gives = found.4;
-      }),
-    )
-sheet_asked rows DeskReport answer changes is gives =
-    let made = Gives-bind_ok (report_of (published_of rows) None (flat_map (λ sessions. sessions) rows.sessions)) _
-    (answer, changes) gives in
-    let same = done-value {A = Reply × List Change} (reply.Report made.0, []) (answer, changes) made.2 in
-    absurd (subst IsSheet (ap (λ (p : Reply × List Change). p.0) same) is)
-sheet_asked rows (DeskDerive edition version master pairs) answer changes is gives =
-    let made = Gives-bind_ok (derived_sheet (published_of rows) edition version master pairs) _ (answer, changes)
-    gives in
-    let same = done-value {A = Reply × List Change} (reply.Derived made.0, []) (answer, changes) made.2 in (
-      ap (λ (p : Reply × List Change). p.1) same,
-      inr (record {
+        place = place;
         edition = edition;
         version = version;
-        master = master;
-        pairs = pairs;
-        sheet = made.0;
-        is = ap (λ (p : Reply × List Change). p.0) same;
-        gives = made.1;
+        sheet = sheet;
+        is = first ∙ told;
+        gives = gives;
       }),
     )
+sheet_asked rows DeskReport answer changes is (made, _, same) =
+    absurd (subst IsSheet (ap (λ (both : Reply × List Change). both.0) same) is)
+sheet_asked rows (DeskDerive edition version master pairs) answer changes is (sheet, met, same) = (
+  ap (λ (both : Reply × List Change). both.1) same,
+  inr (record {
+    edition = edition;
+    version = version;
+    master = master;
+    pairs = pairs;
+    sheet = sheet;
+    is = ap (λ (both : Reply × List Change). both.0) same;
+    gives = Gives-Met (derived_sheet (published_of rows) edition version master pairs) (Ok sheet) met;
+  }),
+)
 
 -- ---- records
 
@@ -233,10 +173,6 @@ All-zip (number ∷ numbers) [] P each = λ k d within. absurd (omega arith)
 All-zip (number ∷ numbers) (row ∷ rows) P each =
     All-cons (λ (one : ℕ × RecordRow). P one.1) (number, row) (zip numbers rows) (each 0 row refl)
     (All-zip numbers rows P (λ place other stands. each (suc place) other stands))
-
-certainly_found : {A : Type 0} (found : Option A) (value : A) → Gives (certainly found) (Ok value) → found ≡ Some value
-certainly_found None value gives = absurd gives
-certainly_found (Some other) value gives = cc
 
 -- the session of a number from 1 on
 session_stands : (sessions : List SessionRow) (number : ℕ) (session : SessionRow) → 1 ≤ number
@@ -270,23 +206,20 @@ records_full : (rows : Rows) (place : ℕ) (name : List ℕ) (version : ℕ) (sh
     → Gives (records_of (published_of rows) (own_of rows place) name version) (Ok sheet) → IsFull sheet
 records_full rows place name version sheet valid gives =
     let own : Own = own_of rows place in
-    let found = Gives-bind_ok (some_or (edition_named rows.editions name version) (refusal.NoSuch kind.Edition)) _ sheet
-    gives in
-    let bound = Gives-bind_ok (certainly (bound_at (published_of rows) found.0)) _ sheet found.2 in
-    let is = certainly_found (bound_at (published_of rows) found.0) bound.0 bound.1 in
+    let (edition, _, (bound, is, same)) = Met-Gives (records_of (published_of rows) own name version) (Ok sheet) gives
+    in
     let numbered : List (ℕ × RecordRow) = zip (range_with_len 1 (length own.records)) own.records in
     let Good : RecordRow → Type 0 =
     λ row. (at : ℕ) × IsRecordRow (list_at rows.sessions place) (list_at rows.records place) at row in
-    let good = All-filter (is_on own found.0) (λ (one : ℕ × RecordRow). Good one.1) numbered
+    let good = All-filter (is_on own edition) (λ (one : ℕ × RecordRow). Good one.1) numbered
     (All-zip (range_with_len 1 (length own.records)) own.records Good
     (λ at row stands. (at, valid.records place at row stands))) in
-    let on = filter_passes (is_on own found.0) numbered in
-    let same = done-value _ sheet bound.2 in
+    let on = filter_passes (is_on own edition) numbered in
     subst IsFull (sym same)
-    (All-map (λ line. length line.texts ≡ length bound.0.names.attributes) record_line
-    (filter (is_on own found.0) numbered)
-    (λ k d within. record_full rows place found.0 bound.0
-    (slice_index_or (filter (is_on own found.0) numbered) k d) valid is (good k d within) (on k d within)))
+    (All-map (λ line. length line.texts ≡ length bound.names.attributes) record_line
+    (filter (is_on own edition) numbered)
+    (λ k d within. record_full rows place edition bound
+    (slice_index_or (filter (is_on own edition) numbered) k d) valid is (good k d within) (on k d within)))
 
 -- ---- what is weighed
 
@@ -304,7 +237,8 @@ weighed_sheet rows command weighed (inl step) settleable is =
         → (weighed.changes ≡ []) × (AreRecords rows weighed.reply ⊎ AreRows rows weighed.reply)
     by_outcome (Ok made) gives same =
         sheet_asked rows command weighed.reply weighed.changes is
-        (subst (λ (p : Reply × List Change). Gives (machine rows command) (Ok p)) (sym same) gives)
+        (Met-Gives (machine rows command) (Ok (weighed.reply, weighed.changes))
+        (subst (λ (both : Reply × List Change). Gives (machine rows command) (Ok both)) (sym same) gives))
     by_outcome (Err why) gives same = absurd (subst IsSheet (ap (λ (p : Reply × List Change). p.0) same) is)
 
 -- records have a text for each attribute
