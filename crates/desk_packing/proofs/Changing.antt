@@ -56,7 +56,8 @@ puts-change rows change are fits = put_over change fits
     at_part : (kind : ℕ) (line : Line) (after : List Line) → line.kind ≡ 0 + kind → kind < 10
         → Puts (list_at (parts_of false rows) kind) line after
         → Puts (lines_of rows) line (joined (set (parts_of false rows) kind after))
-    at_part kind line after of there = puts-joined kind 0 (parts_of false rows) line after (AreParts-parts_of false rows)
+    at_part kind line after of there = puts-joined kind 0 (parts_of false rows) line after
+        (AreParts-parts_of false rows)
         of there
 
     put_over : (change : Change) → Fits rows change

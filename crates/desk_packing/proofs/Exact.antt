@@ -88,7 +88,8 @@ split-back count front rest long =
 split-only : (count : ℕ) (packed rest front : List ℕ) → split count packed ≡ Some (front, rest)
     → (length front ≡ count) × (packed ≡ front ++ rest)
 split-only count packed rest front found =
-    let (there, is) = if-some {A = List ℕ × List ℕ} (nat_le count (length packed)) (take count packed, drop count packed)
+    let (there, is) = if-some {A = List ℕ × List ℕ} (nat_le count (length packed))
+    (take count packed, drop count packed)
     (front, rest) found in
     let (front_is, rest_is) = pair-parts (take count packed) front (drop count packed) rest is in (
       ap length (sym front_is) ∙ length-take-le count packed (leb-true count (length packed) there),

@@ -6,7 +6,8 @@ use Rattle.desk_words.specs.declared.rows.act.Act.TheVariants as act
 use Rattle.desk_words.specs.declared.rows.clerk.Digest.{Digest}
 use Rattle.desk_words.specs.declared.rows.session.Stage.{Stage}
 use Rattle.desk_words.specs.declared.rows.session.Stage.TheVariants as stage
-use Rattle.desk_packing.specs.Formats.{Format, IsExact, both, bytes, fixed, flag, formed, list, none, text, u16, u32, u64}
+use Rattle.desk_packing.specs.Formats.{Format, IsExact, both, bytes, fixed, flag, formed, list, none, text, u16, u32}
+use Rattle.desk_packing.specs.Formats.{u64}
 use Rattle.desk_packing.specs.RowFormats.{act_code, act_format, acts, batch, clerk, committed, digest, edition}
 use Rattle.desk_packing.specs.RowFormats.{edition_with, master, old_edition, region, region_format, rulebook, schema}
 use Rattle.desk_packing.specs.RowFormats.{session, stage_code, stage_format, stages}

@@ -66,7 +66,8 @@ StandFrom-drop zero kind from parts is are =
     let same : kind ≡ from = sym (add-zero kind) ∙ sym is in
     subst (λ start. StandFrom start (joined parts)) same (StandFrom-joined kind parts are)
 StandFrom-drop (suc count) kind from [] is are = record { kinds = tt; order = tt }
-StandFrom-drop (suc count) kind from (part ∷ parts) is are = StandFrom-drop count (kind + 1) from parts (omega arith) are.1
+StandFrom-drop (suc count) kind from (part ∷ parts) is are = StandFrom-drop count (kind + 1) from parts (omega arith)
+    are.1
 
 -- the lines of the first parts are of earlier kinds than the parts after them
 pub joined-before : (count kind : ℕ) (parts : List (List Line)) → AreParts kind parts

@@ -195,7 +195,8 @@ module _ {A : Type 0} (format : Format A) (exact : IsExact format) where
         fit = (one.fit, others.fit);
         lines_are = one.lines_are ∙ ap (λ b. list_lines format kind owner 0 rows.0 ++ b)
             (others.lines_are ∙ ap (λ b. own_lines format kind (owner + 1) more.0 ++ b) rest_is)
-            ∙ sym (append_assoc (list_lines format kind owner 0 rows.0) (own_lines format kind (owner + 1) more.0) rest);
+            ∙ sym (append_assoc (list_lines format kind owner 0 rows.0) (own_lines format kind (owner + 1) more.0)
+            rest);
         are = record {
           each = ap suc others.are.each;
           short = All-cons IsShort rows.0 more.0 (omega (arith, one.few)) others.are.short;

@@ -258,7 +258,8 @@ module _ (is_old : Bool) (lines : List Line) {clerks : List ClerkRow} {schemas :
       schemas_are in
       let of_masters = list_in-only master master-exact 3 0 0 after_schemas after_masters masters (omega arith)
       masters_are in
-      let of_rulebooks = list_in-only rulebook rulebook-exact 4 0 0 after_masters after_rulebooks rulebooks (omega arith)
+      let of_rulebooks = list_in-only rulebook rulebook-exact 4 0 0 after_masters after_rulebooks rulebooks
+      (omega arith)
       rulebooks_are in
       let of_editions = list_in-only (edition_in is_old) (edition_in-exact is_old) 5 0 0 after_rulebooks after_editions
       editions (omega arith) editions_are in

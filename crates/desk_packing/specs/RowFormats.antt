@@ -60,7 +60,8 @@ digest = formed (fixed 32) (λ found. record { bytes = found }) (λ row. row.byt
 
 -- a clerk from its fields in their order
 abbrev pub clerk_from : List ℕ × (ℕ × (Digest × (Act × ℕ))) → ClerkRow
-clerk_from (name, (last, (sent, (deed, target)))) = record { name = name; last = last; digest = sent; act = deed; target = target }
+clerk_from (name, (last, (sent, (deed, target)))) = record
+    { name = name; last = last; digest = sent; act = deed; target = target }
 
 -- a clerk: the name, and the number, digest, act and target of the last request
 abbrev pub clerk : Format ClerkRow
@@ -90,7 +91,8 @@ master = formed (both text (both u32 bytes))
 
 -- a rulebook from its fields in their order
 abbrev pub rulebook_from : List ℕ × (ℕ × (ℕ × List ℕ)) → RulebookRow
-rulebook_from (name, (version, (schema_at, body))) = record { name = name; version = version; schema = schema_at; body = body }
+rulebook_from (name, (version, (schema_at, body))) = record
+    { name = name; version = version; schema = schema_at; body = body }
 
 -- a rulebook: name, version, the place of its schema, and text
 abbrev pub rulebook : Format RulebookRow
@@ -100,7 +102,8 @@ rulebook = formed (both text (both u32 (both u32 bytes)))
 
 -- an edition from its fields in their order
 abbrev pub edition_from : List ℕ × (ℕ × (ℕ × (List ℕ × List ℕ))) → EditionRow
-edition_from (name, (version, (rulebook_at, (masters_at, folded)))) = record { name = name; version = version; rulebook = rulebook_at; masters = masters_at; folded = folded }
+edition_from (name, (version, (rulebook_at, (masters_at, folded)))) = record
+    { name = name; version = version; rulebook = rulebook_at; masters = masters_at; folded = folded }
 
 -- an edition: name, version, the places of its rulebook and masters, and the folded attributes in the format given
 abbrev pub edition_with : Format (List ℕ) → Format EditionRow
@@ -130,7 +133,8 @@ region = formed (both u32 region_format)
 
 -- a session from its fields in their order
 abbrev pub session_from : ℕ × (List (List ℕ) × (List Bool × (Stage × ℕ))) → SessionRow
-session_from (edition_at, (typed, (confirmed, (reached, batch_at)))) = record { edition = edition_at; typed = typed; confirmed = confirmed; stage = reached; batch = batch_at }
+session_from (edition_at, (typed, (confirmed, (reached, batch_at)))) = record
+    { edition = edition_at; typed = typed; confirmed = confirmed; stage = reached; batch = batch_at }
 
 -- a session: the place of its edition, the typed texts, the flags of what is confirmed, the stage and the batch
 abbrev pub session : Format SessionRow

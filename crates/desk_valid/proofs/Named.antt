@@ -263,7 +263,8 @@ module _ (rows : Published) (row : EditionRow) (rules : Rules) (bare : Bare)
             subst Binds (sym there) binding,
         λ binds.
             let binding : IsBinding whole row.folded = subst Binds there binds in
-            let (kit, bare_binds, few) = narrow-bare rules.rulebook rules.schema masters row.folded binding.kit binding.binds
+            let (kit, bare_binds, few) = narrow-bare rules.rulebook rules.schema masters row.folded binding.kit
+            binding.binds
             binding.narrow in
             let narrow : BindNarrowly rules (bare_of masters) row.folded = record
             { kit = kit; binds = bare_binds; narrow = few } in

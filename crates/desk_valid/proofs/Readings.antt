@@ -72,4 +72,5 @@ is_some-header_at rows place =
 
 -- where a place has no header, no master reads there
 pub master_at-none : (rows : Published) (place : ℕ) → header_at rows place ≡ None → master_at rows place ≡ None
-master_at-none rows place none = None-from_is_some (master_at rows place) (sym (is_some-header_at rows place) ∙ ap is_some none)
+master_at-none rows place none = None-from_is_some (master_at rows place)
+    (sym (is_some-header_at rows place) ∙ ap is_some none)

@@ -21,15 +21,15 @@ IsRunBefore-cons : (kit : Kit) (state : State) (step : Step) (rest : List Step) 
 IsRunBefore-cons kit state step rest least first [] maximal = absurd (maximal.1 step least.holds)
 IsRunBefore-cons kit state step rest least first (next ∷ others) ((fires, whole), final) =
     elim (least.least next fires) [
-  | inr before ↦ inr (inl before)
-  | inl same ↦
-      let there : IsMaximalRun kit (after kit state step) others = subst (λ (x : Step). IsMaximalRun kit
-      (after kit state x) others) (sym same) (whole, final) in
-      elim (first.least others there) [
-        | inl equal ↦ inl (rw (same, equal) refl)
-        | inr before ↦ inr (inr (same, before))
-      ]
-]
+      | inr before ↦ inr (inl before)
+      | inl same ↦
+          let there : IsMaximalRun kit (after kit state step) others = subst (λ (x : Step). IsMaximalRun kit
+          (after kit state x) others) (sym same) (whole, final) in
+          elim (first.least others there) [
+            | inl equal ↦ inl (rw (same, equal) refl)
+            | inr before ↦ inr (inr (same, before))
+          ]
+    ]
 
 -- where nothing fires, the first run is empty
 pub IsFirstRun-nil : (kit : Kit) (state : State) → IsFinal kit state → IsFirstRun kit state []

@@ -138,7 +138,8 @@ module _ (whole : Schema) (tree : ℕ) (desk : IsDesk whole tree)
 
   -- a row that has the key is given the new body
   change_refused : (r : Row) (stop : Option Error) → Has (db tree) r → has_key l r ≡ true
-      → Updates task (doing tree) (shown_line l ++ rowid r ∷ shown (desk_table tree) (added_row l (db tree))) db (Err stop)
+      → Updates task (doing tree) (shown_line l ++ rowid r ∷ shown (desk_table tree) (added_row l (db tree))) db
+      (Err stop)
       → IsHuge l ⊎ IsHugeOn tree whole.indexes l
   change_refused r stop there key (inl (why, queried, is)) =
       let its = all_has HasId (db tree) r holds.keyed there in
@@ -216,7 +217,8 @@ module _ (whole : Schema) (tree : ℕ) (desk : IsDesk whole tree)
       let (r, stored, conflicting, is) = are.sound there (inl refl) in
       let key = sound_key whole tree desk None Enforced l db lines holds r stored conflicting in
       inr (change_refused r stop stored key
-      (subst (λ t. Updates task (doing tree) (shown_line l ++ rowid t ∷ shown (desk_table tree) (added_row l (db tree))) db
+      (subst (λ t. Updates task (doing tree) (shown_line l ++ rowid t ∷ shown (desk_table tree) (added_row l (db tree)))
+      db
       (Err stop)) is h))
 
   -- it is tried

@@ -260,7 +260,8 @@ module _ (schema : Schema) (tree : ℕ) (desk : IsDesk schema tree)
       subst Written_as (sym trees_are) (
         added next (λ x there key. conflict_is [] x are there key) applied,
         record { tables = applied.tables; others = applied.others },
-        λ x has. left_stays (record { table = desk_table tree; gone = []; news = new ∷ [] }) next x refl applied has has,
+        λ x has. left_stays (record { table = desk_table tree; gone = []; news = new ∷ [] }) next x refl applied has
+            has,
         inl applied.rows,
       )
 
@@ -301,7 +302,8 @@ module _ (schema : Schema) (tree : ℕ) (desk : IsDesk schema tree)
       let (done, tried, ending) = went trying in
       let (last, counts, gives) = went ending in
       let source : Row = Null ∷ params in
-      let (each, each_tried, each_trees) = from_rows schema tree limit keys params db source rows _ done given.1 tried in
+      let (each, each_tried, each_trees) = from_rows schema tree limit keys params db source rows _ done given.1 tried
+      in
       let plain : cast_row (desk_table tree) source ≡ source = cast_source tree (pos l.kind) (pos l.owner)
       (pos l.place) l.body in
       let one =

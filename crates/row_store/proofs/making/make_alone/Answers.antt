@@ -23,7 +23,8 @@ after_crash : {S : Type 0} (g : Ghosts S) (old begun last end given : Held S)
 after_crash g old begun last end given is before_begun made_begun last_step same =
     let before = subst (λ h. Survives (state g h) (state g last) (λ _. ⊥)) is before_begun in
     let made = subst (Made g last) is made_begun in
-    subst (Crash g old) same (survives_then (state g old) (state g last) (state g end) _ _ (MakesTableIn (state g old).now)
+    subst (Crash g old) same (survives_then (state g old) (state g last) (state g end) _ _
+    (MakesTableIn (state g old).now)
     (λ _ db none. absurd none)
     (λ clean db is. ((state g last).now, made (omega (arith, last_step.clean)), is))
     (survives_begin g old (state g last) _ before) last_step)

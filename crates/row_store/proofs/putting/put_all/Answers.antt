@@ -1,4 +1,5 @@
-use Rattle.std.proofs.Common.{◌≤◌, ◌≡◌, ◌≢◌, ◌∙◌, ◌++◌, ◌∷◌, [], List, ◌+◌, fold, map, refl, sym, ap, subst, arith, rules}
+use Rattle.std.proofs.Common.{◌≤◌, ◌≡◌, ◌≢◌, ◌∙◌, ◌++◌, ◌∷◌, [], List, ◌+◌, fold, map, refl, sym, ap, subst, arith}
+use Rattle.std.proofs.Common.{rules}
 use Rattle.std.proofs.Common.{take}
 use Rattle.std.proofs.Common.{true, add-one, ◌⊎◌, ◌<◌, ℕ, inl, inr, length, slice_get, slice_index_or, Some, option_map}
 use Rattle.std.proofs.Math.Seq.{take-suc}
@@ -137,7 +138,8 @@ after_crash : {S : Type 0} (g : Ghosts S) (rows : List PackedRow) (count : ℕ) 
     → Crash g rows old given
 after_crash g rows count old last end given all before some last_step same =
     let put = rw (take_all count rows all) at some in
-    subst (Crash g rows old) same (survives_then (state g old) (state g last) (state g end) _ _ (PutsIn (map line_of rows) (state g old).now)
+    subst (Crash g rows old) same (survives_then (state g old) (state g last) (state g end) _ _
+    (PutsIn (map line_of rows) (state g old).now)
     (λ _ db none. absurd none)
     (λ clean db is. ((state g last).now, put (omega (arith, last_step.clean)), is))
     (survives_begin g old (state g last) _ before) last_step)

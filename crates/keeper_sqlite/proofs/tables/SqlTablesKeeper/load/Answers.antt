@@ -9,7 +9,8 @@ returns-clause-loaded g c =
     let clean = no_doubt _ (g.met.S.NeverUnclean.never_unclean c.load-answer.new.self.connection.store) in
     rw (← c.self.view_is) (rw c.count.ensures.same
     (loaded_again rows_of c.load-answer.result (state g.S.Store c.self.inside.inner.connection)
-    (state g.S.Store c.load-answer.new.self.connection) clean c.load-answer.ensures.leaves.keeps c.load-answer.ensures.leaves.held))
+    (state g.S.Store c.load-answer.new.self.connection) clean c.load-answer.ensures.leaves.keeps
+    c.load-answer.ensures.leaves.held))
 
 pub returns-clause-unchanged : goal.returns-clause-unchanged
 returns-clause-unchanged g c =
@@ -26,7 +27,8 @@ pub returns-clause-kept : goal.returns-clause-kept
 returns-clause-kept g c =
     rw (← c.self.view_is) (rw c.count.ensures.same
     (loaded_kept rows_of c.load-answer.result (state g.S.Store c.self.inside.inner.connection)
-    (state g.S.Store c.load-answer.new.self.connection) c.load-answer.ensures.leaves.keeps c.load-answer.ensures.leaves.held))
+    (state g.S.Store c.load-answer.new.self.connection) c.load-answer.ensures.leaves.keeps
+    c.load-answer.ensures.leaves.held))
 
 pub returns-clause-leaves : goal.returns-clause-leaves
 returns-clause-leaves g c = rw (← c.self.view_is) (rw c.count.ensures.same c.load-answer.ensures.leaves)
