@@ -10,7 +10,6 @@ mod replies;
 mod requests;
 mod showing;
 mod steps;
-mod targets;
 mod trace;
 
 use crate::beginnings::Beginnings;

@@ -1,10 +1,10 @@
 //! The request of a step, and the reply to it.
 use crate::replies::{tell, tell_unread};
-use crate::targets::route_of;
 use desk_json::{Route, command_of};
 use desk_trials::KeptDesk;
 use desk_words::{Command, Digest};
 use http_cut::Routes;
+use http_desk::route_in;
 use machine_core::is_numbered;
 use std::alloc::Global;
 use std::test::Fail;
@@ -23,7 +23,9 @@ pub fn tell_reply(
     let Some(found) = routes.find(target) else {
         return Err(Fail::new("a step has a target without a route"));
     };
-    let route = route_of(alloc, &found)?;
+    let Ok(route) = route_in(alloc, &found) else {
+        return Err(Fail::new("a step has a target whose parameters are none"));
+    };
     let told = tell_reply_to(text, alloc, desk, &route, digest_of(name), body);
     drop(route);
     told

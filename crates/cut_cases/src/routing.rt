@@ -1,6 +1,6 @@
 //! The routes of targets.
 use desk_cases::Case;
-use http_cut::{Method, RouteMatch, Routes};
+use http_cut::{Method, Route, RouteMatch, Routes};
 use std::alloc::Global;
 use std::test::Fail;
 
@@ -24,7 +24,13 @@ fn shown(alloc: Global, found: &RouteMatch) -> Result<String, Fail> {
         Method::Post => "POST",
     };
     let limit = route.body_limit();
-    let mut line = format!(in alloc; "{route:?} {method} {limit}")?;
+    let mut line = match route {
+        Route::Steward(asked) => format!(in alloc; "{asked:?}")?,
+        Route::Clerk(asked) => format!(in alloc; "{asked:?}")?,
+        Route::Look(asked) => format!(in alloc; "{asked:?}")?,
+        Route::Desk(asked) => format!(in alloc; "{asked:?}")?,
+    };
+    line.push_str(format!(in alloc; " {method} {limit}")?.as_str())?;
     for name in NAMES {
         if let Some(text) = found.text(name) {
             line.push_str(format!(in alloc; " {name}={text}")?.as_str())?;
