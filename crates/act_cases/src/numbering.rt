@@ -14,7 +14,7 @@ pub fn tell_numbered(text: &mut String, request: &[u8], turn: u64) -> Result<(),
     Ok(())
 }
 
-/// What stands behind a mark: the number, and what follows its digits.
+/// What stands after a mark: the number, and what follows its digits.
 fn tell_piece(text: &mut String, piece: &str, turn: u64) -> Result<(), Fail> {
     let rest = piece.trim_start_matches(|letter: char| letter.is_ascii_digit());
     if let Some(digits) = piece.strip_suffix(rest) {

@@ -109,7 +109,7 @@ impl Script {
         }
     }
 
-    /// How many of the script's responses an output begins with, and what stands behind them.
+    /// How many of the script's responses an output begins with, and what stands after them.
     fn taken<'o>(&self, output: &'o [u8]) -> (usize, &'o [u8]) {
         let mut rest = output;
         for (count, exchange) in self.exchanges.iter().enumerate() {

@@ -22,7 +22,7 @@ fn add_schema(schema: &Schema, answer: &mut Answer) -> Result<(), Fail> {
     answer.text("wanted", lines.as_str())
 }
 
-/// Adds texts, and a line end behind each.
+/// Adds texts, and a line end after each.
 pub fn add_lines(lines: &mut String, texts: &[Text]) -> Result<(), AllocError> {
     for text in texts {
         add_line(lines, text)?;

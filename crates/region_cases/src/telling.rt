@@ -166,7 +166,7 @@ fn word(attributes: &[Text], attribute: u16) -> &str {
     }
 }
 
-/// Adds the word of an attribute behind a space.
+/// Adds the word of an attribute after a space.
 pub fn add_word(line: &mut String, attributes: &[Text], attribute: u16) -> Result<(), AllocError> {
     line.push_str(" ")?;
     line.push_str(word(attributes, attribute))

@@ -51,7 +51,7 @@ row_session edition width batch columns cells =
 abbrev pub placed : ℕ → List SessionRow → List (ℕ × SessionRow)
 placed count sessions = zip (range_with_len count (length sessions)) sessions
 
--- the deed of a batch: its sessions behind the others, and the batch of so many
+-- the deed of a batch: its sessions after the others, and the batch of so many
 abbrev pub batch_deed : Own → ℕ → ℕ → List SessionRow → Deed
 batch_deed own edition count sessions = record {
   sessions = placed (length own.sessions) sessions;

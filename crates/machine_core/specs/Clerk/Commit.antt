@@ -62,7 +62,7 @@ commit_rows published own number accept = do
   within which.Bytes (text_bytes own.sessions own.records + bytes_in row.texts)
   done (record session { stage = Committed }, row)
 
--- the deed of a commit: the session of this number is put, and its record comes behind the others
+-- the deed of a commit: the session of this number is put, and its record comes after the others
 abbrev pub commit_deed : Own → ℕ → SessionRow × RecordRow → Deed
 commit_deed own number both = record {
   sessions = (number - 1, both.0) ∷ [];
