@@ -1,6 +1,8 @@
 -- How a refusal is printed (docs/api.md, Refusals): the key `error`, and what it carries.
 use Rattle.std.specs.Prelude.{ℕ, List, [], ◌∷◌, codes}
 use Rattle.serde_json.specs.Data.{Data, string}
+use Rattle.desk_words.specs.declared.limit.Which.{Which}
+use Rattle.desk_words.specs.declared.refusal.Reader.{Reader}
 use Rattle.desk_words.specs.declared.refusal.Refusal.{Refusal}
 use Rattle.desk_words.specs.declared.refusal.Refusal.TheVariants.{NoClerk, Stale, Gap, Reused, NoSuch, Closed}
 use Rattle.desk_words.specs.declared.refusal.Refusal.TheVariants.{UnknownAttr, ValueLong, NotCertain, InConflict}
@@ -38,6 +40,20 @@ names word name = tells word (codes "name") (string name)
 abbrev pub numbers : List ℕ → ℕ → Data
 numbers word last = tells word (codes "last") (whole last)
 
+-- what a limit counts, and how much of it there may be
+abbrev pub limit : Which → ℕ → Data
+limit which most = object_of (
+    error (codes "limit") ∷ (codes "most", whole most) ∷ (codes "which", string (limit_word which)) ∷ [])
+
+-- which reader refuses a text, with what and where
+abbrev pub bad_text : Reader → ℕ → ℕ → ℕ → Data
+bad_text reader code first second = object_of (
+    (codes "at", list_of (whole first ∷ whole second ∷ []))
+    ∷ (codes "code", whole code)
+    ∷ error (codes "bad_text")
+    ∷ (codes "reader", string (reader_word reader))
+    ∷ [])
+
 -- a refusal
 abbrev pub refusal_shown : Refusal → Data
 refusal_shown NoClerk = plain (codes "no_clerk")
@@ -51,14 +67,8 @@ refusal_shown (ValueLong name) = names (codes "value_long") name
 refusal_shown (NotCertain uncovered) = tells (codes "not_certain") (codes "open") (whole uncovered)
 refusal_shown InConflict = plain (codes "in_conflict")
 refusal_shown (NotConfirmed name) = names (codes "not_confirmed") name
-refusal_shown (Limit which most) = object_of (error (codes "limit") ∷ (codes "most", whole most)
-    ∷ (codes "which", string (limit_word which)) ∷ [])
-refusal_shown (BadText reader code first second) = object_of (
-    (codes "at", list_of (whole first ∷ whole second ∷ []))
-    ∷ (codes "code", whole code)
-    ∷ error (codes "bad_text")
-    ∷ (codes "reader", string (reader_word reader))
-    ∷ [])
+refusal_shown (Limit which most) = limit which most
+refusal_shown (BadText reader code first second) = bad_text reader code first second
 refusal_shown Unavailable = plain unavailable
 refusal_shown NoMemory = plain no_memory
 refusal_shown (Twice name) = names (codes "twice") name

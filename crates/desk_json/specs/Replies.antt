@@ -4,6 +4,8 @@ use Rattle.serde_json.specs.Data.{Data, boolean, string}
 use Rattle.desk_words.specs.declared.made.Batched.{Batched}
 use Rattle.desk_words.specs.declared.made.Made.{Made}
 use Rattle.desk_words.specs.declared.made.Made.TheVariants.{Clerk, Schema, Master, Rulebook, Edition, Region}
+use Rattle.desk_words.specs.declared.refusal.Kind.{Kind}
+use Rattle.desk_words.specs.declared.refusal.Kind.TheVariants as kinds
 use Rattle.desk_words.specs.declared.reply.Explained.{Explained}
 use Rattle.desk_words.specs.declared.reply.Reply.{Reply}
 use Rattle.desk_words.specs.declared.reply.Reply.TheVariants as replies
@@ -12,15 +14,16 @@ use Rattle.desk_json.specs.Carried.{carried_shown}
 use Rattle.desk_json.specs.Refusals.{refusal_shown}
 use Rattle.json_parts.specs.Shapes.{list_of, object_of, whole}
 use Rattle.desk_json.specs.Viewed.{run_shown, view_shown}
+use Rattle.desk_json.specs.Words.{kind_word}
 
--- what was made, with its name
-abbrev pub name_shown : List ℕ → List ℕ → Data
-name_shown made name = object_of ((codes "made", string made) ∷ (codes "name", string name) ∷ [])
+-- a clerk
+abbrev pub clerk_shown : List ℕ → Data
+clerk_shown name = object_of ((codes "made", string (codes "clerk")) ∷ (codes "name", string name) ∷ [])
 
--- what was made, with its name and version
-abbrev pub version_shown : List ℕ → List ℕ → ℕ → Data
+-- what was published, with its name and version
+abbrev pub version_shown : Kind → List ℕ → ℕ → Data
 version_shown made name version = object_of (
-    (codes "made", string made) ∷ (codes "name", string name) ∷ (codes "version", whole version) ∷ [])
+    (codes "made", string (kind_word made)) ∷ (codes "name", string name) ∷ (codes "version", whole version) ∷ [])
 
 -- a region, with the number of its rows of each verdict
 abbrev pub region_shown : ℕ → ℕ → ℕ → ℕ → Data
@@ -34,11 +37,11 @@ region_shown region certain partial conflict = object_of (
 
 -- what the steward made
 abbrev pub made_shown : Made → Data
-made_shown (Clerk name) = name_shown (codes "clerk") name
-made_shown (Schema name version) = version_shown (codes "schema") name version
-made_shown (Master name version) = version_shown (codes "master") name version
-made_shown (Rulebook name version) = version_shown (codes "rulebook") name version
-made_shown (Edition name version) = version_shown (codes "edition") name version
+made_shown (Clerk name) = clerk_shown name
+made_shown (Schema name version) = version_shown kinds.Schema name version
+made_shown (Master name version) = version_shown kinds.Master name version
+made_shown (Rulebook name version) = version_shown kinds.Rulebook name version
+made_shown (Edition name version) = version_shown kinds.Edition name version
 made_shown (Region region certain partial conflict) = region_shown region certain partial conflict
 
 -- a record that was kept
@@ -65,25 +68,21 @@ offer_shown offer = list_of (whole offer.0 ∷ whole offer.1 ∷ [])
 abbrev pub gain_shown : List ℕ × ℕ → Data
 gain_shown gain = list_of (string gain.0 ∷ whole gain.1 ∷ [])
 
--- a suggestion, from its lists of gains, of what is needed and of offered regions
-abbrev pub lists_shown : Data → Data → Data → Data
-lists_shown gains need regions =
-    object_of ((codes "gains", gains) ∷ (codes "need", need) ∷ (codes "regions", regions) ∷ [])
-
 -- a suggestion
 abbrev pub suggested_shown : Suggested → Data
-suggested_shown suggested = lists_shown (list_of (map gain_shown suggested.gains))
-    (list_of (map string suggested.need)) (list_of (map offer_shown suggested.regions))
-
--- why an attribute is fixed, from its lists of steps and of what these use
-abbrev pub reason_shown : List ℕ → Data → Data → Data
-reason_shown attribute steps uses =
-    object_of ((codes "attribute", string attribute) ∷ (codes "steps", steps) ∷ (codes "uses", uses) ∷ [])
+suggested_shown suggested = object_of (
+    (codes "gains", list_of (map gain_shown suggested.gains))
+    ∷ (codes "need", list_of (map string suggested.need))
+    ∷ (codes "regions", list_of (map offer_shown suggested.regions))
+    ∷ [])
 
 -- why an attribute is fixed
 abbrev pub explained_shown : Explained → Data
-explained_shown explained =
-    reason_shown explained.attribute (run_shown explained.steps) (list_of (map string explained.uses))
+explained_shown explained = object_of (
+    (codes "attribute", string explained.attribute)
+    ∷ (codes "steps", run_shown explained.steps)
+    ∷ (codes "uses", list_of (map string explained.uses))
+    ∷ [])
 
 -- a reply; a report, records and derived rows are no JSON
 abbrev pub reply_shown : Reply → Option Data

@@ -1,88 +1,73 @@
 //! How it is shown what carrying a session to a newer version of its edition would change.
-ghost use Rattle.std.specs.Prelude.{◌≡◌, map, IfOk};
-ghost use Rattle.serde_json.specs.View.{view};
-ghost use Rattle.desk_json.specs.Carried.{answer_word, carried_shown, carry_shown, cell_at_shown, change_shown};
+ghost use Rattle.std.specs.Prelude.{◌≡◌, OnOk};
+ghost use Rattle.json_parts.specs.Writing.{with_value};
+ghost use Rattle.desk_json.specs.Carried.{answer_word, carried_shown, cell_at_shown, change_shown, changes_shown};
 ghost use Rattle.desk_json.specs.Carried.{is_certain};
 
-use crate::shown::{Show, list};
-use desk_words::{Carried, Outcome, View, ViewCell};
-use serde_json::{Value, json};
-use std::alloc::{AllocError, Global};
+use crate::shown::{Show, field};
+use desk_words::{Carried, Outcome, ViewCell};
+use json_parts::JsonText;
+use std::alloc::AllocError;
 
 /// What would change.
-pub fn carried_value(alloc: Global, carried: &Carried) -> Result<Value, AllocError>
-    ensures { IfOk result (λ value. view value ≡ carried_shown carried.now) }
-{
-    let added = list(alloc, carried.added.as_slice())?;
-    let changed = changes(
-        alloc,
-        carried.before.cells.as_slice(),
-        carried.after.cells.as_slice(),
-        carried.changed.as_slice(),
-    )?;
-    let dropped = list(alloc, carried.dropped.as_slice())?;
-    carry_value(alloc, &carried.after, added, Value::Array(changed), dropped)
+impl Show for Carried {
+    ghost shown = { carried_shown };
+
+    fn show(&self, out: &mut JsonText) -> Result<(), AllocError> {
+        let before = self.before.cells.as_slice();
+        let after = self.after.cells.as_slice();
+        out.begin_object()?;
+        field(out, "added", &self.added)?;
+        field(out, "answer", &answer_word(&self.after.outcome))?;
+        field(out, "certain", &is_certain(&self.after.outcome))?;
+        out.key("changed")?;
+        show_changes(out, before, after, self.changed.as_slice())?;
+        field(out, "dropped", &self.dropped)?;
+        field(out, "session", &self.after.session)?;
+        field(out, "version", &self.after.version)?;
+        out.end_object()
+    }
 }
 
 /// The cells that would change, each as it stands and as it would stand.
-fn changes(
-    alloc: Global,
+fn show_changes(
+    out: &mut JsonText,
     before: &[ViewCell],
     after: &[ViewCell],
     changed: &[(u16, u16)],
-) -> Result<Vec<Value>, AllocError>
-    ensures { IfOk result (λ made. map view made.items ≡ map (change_shown before.now after.now) changed.now) }
+) -> Result<(), AllocError>
+    ensures { OnOk result (out.new ≡ with_value out.old (changes_shown before.now after.now changed.now)) }
 {
-    let mut made = Vec::new(alloc);
+    out.begin_array()?;
     'changed: for places in changed {
-        made.push(change_value(alloc, before, after, *places)?)?;
+        show_change(out, before, after, *places)?;
     }
-    Ok(made)
+    out.end_array()
 }
 
 /// A cell as it stands and as it would stand, by its places.
-fn change_value(
-    alloc: Global,
+fn show_change(
+    out: &mut JsonText,
     before: &[ViewCell],
     after: &[ViewCell],
     places: (u16, u16),
-) -> Result<Value, AllocError>
-    ensures { IfOk result (λ value. view value ≡ change_shown before.now after.now places) }
+) -> Result<(), AllocError>
+    ensures { OnOk result (out.new ≡ with_value out.old (change_shown before.now after.now places)) }
 {
-    let old = cell_at_value(alloc, before, places.0)?;
-    let new = cell_at_value(alloc, after, places.1)?;
-    json!(in alloc; [old, new])
+    out.begin_array()?;
+    show_cell_at(out, before, places.0)?;
+    show_cell_at(out, after, places.1)?;
+    out.end_array()
 }
 
 /// The cell at a place, or null where none is there.
-fn cell_at_value(alloc: Global, cells: &[ViewCell], place: u16) -> Result<Value, AllocError>
-    ensures { IfOk result (λ value. view value ≡ cell_at_shown cells.now place) }
+fn show_cell_at(out: &mut JsonText, cells: &[ViewCell], place: u16) -> Result<(), AllocError>
+    ensures { OnOk result (out.new ≡ with_value out.old (cell_at_shown cells.now place)) }
 {
     match cells.get(usize::from(place)) {
-        None => Ok(Value::Null),
-        Some(cell) => cell.show(alloc),
+        None => out.null(),
+        Some(cell) => cell.show(out),
     }
-}
-
-/// What would change, from its three lists.
-fn carry_value(
-    alloc: Global,
-    after: &View,
-    added: Value,
-    changed: Value,
-    dropped: Value,
-) -> Result<Value, AllocError>
-    ensures { IfOk result (λ value. view value ≡ carry_shown after.now (view added) (view changed) (view dropped)) }
-{
-    json!(in alloc; {
-        "added": added,
-        "answer": answer_word(&after.outcome),
-        "certain": is_certain(&after.outcome),
-        "changed": changed,
-        "dropped": dropped,
-        "session": after.session,
-        "version": after.version
-    })
 }
 
 fn answer_word(outcome: &Outcome) -> &'static str

@@ -1,111 +1,111 @@
 //! How refusals, and the faults of bodies, are shown.
-ghost use Rattle.std.specs.Prelude.{◌≡◌, [], ◌∷◌, codes, IfOk};
-ghost use Rattle.serde_json.specs.Data.{string};
-ghost use Rattle.serde_json.specs.View.{view};
+ghost use Rattle.std.specs.Prelude.{◌≡◌, OnOk};
+ghost use Rattle.json_parts.specs.Writing.{with_value};
 ghost use Rattle.desk_json.specs.Faults.{fault_at, fault_shown};
-ghost use Rattle.desk_json.specs.Refusals.{error, names, numbers, plain, refusal_shown};
-ghost use Rattle.json_parts.specs.Shapes.{list_of, object_of, whole};
-ghost use Rattle.desk_json.specs.Words.{limit_word, reader_word};
+ghost use Rattle.desk_json.specs.Refusals.{bad_text, limit, plain, refusal_shown, tells};
 
 use crate::fault::JsonFault;
-use crate::words::{kind_word, limit_word, reader_word, stage_word};
+use crate::shown::{Show, field};
 use desk_words::{Reader, Refusal, Which};
-use serde_json::{Value, json};
-use std::alloc::{AllocError, Global};
+use json_parts::JsonText;
+use std::alloc::AllocError;
 
-/// A refusal.
-pub fn refusal_value(alloc: Global, refusal: &Refusal) -> Result<Value, AllocError>
-    ensures { IfOk result (λ made. view made ≡ refusal_shown refusal.now) }
-{
-    match refusal {
-        Refusal::NoClerk => plain(alloc, "no_clerk"),
-        Refusal::Stale(last) => numbered(alloc, "stale", *last),
-        Refusal::Gap(last) => numbered(alloc, "gap", *last),
-        Refusal::Reused(last) => numbered(alloc, "reused", *last),
-        Refusal::NoSuch(kind) => json!(in alloc; {"error": "no_such", "kind": kind_word(*kind)}),
-        Refusal::Closed(stage) => json!(in alloc; {"error": "closed", "stage": stage_word(*stage)}),
-        Refusal::UnknownAttr(name) => named(alloc, "unknown_attr", name.as_str()),
-        Refusal::ValueLong(name) => named(alloc, "value_long", name.as_str()),
-        Refusal::NotCertain(open) => json!(in alloc; {"error": "not_certain", "open": *open}),
-        Refusal::InConflict => plain(alloc, "in_conflict"),
-        Refusal::NotConfirmed(name) => named(alloc, "not_confirmed", name.as_str()),
-        Refusal::Limit(which, most) => limit(alloc, *which, *most),
-        Refusal::BadText(reader, code, first, second) => bad_text(
-            alloc, *reader, *code, *first, *second,
-        ),
-        Refusal::Unavailable => plain(alloc, "unavailable"),
-        Refusal::NoMemory => plain(alloc, "no_memory"),
-        Refusal::Twice(name) => named(alloc, "twice", name.as_str()),
-        Refusal::Taken(name) => named(alloc, "taken", name.as_str()),
-        Refusal::BadName(name) => named(alloc, "bad_name", name.as_str()),
-        Refusal::RowWidth(row) => json!(in alloc; {"error": "row_width", "row": *row}),
-        Refusal::NotFixed(name) => named(alloc, "not_fixed", name.as_str()),
-        Refusal::NoColumn(name) => named(alloc, "no_column", name.as_str()),
-        Refusal::NotNewer(version) => json!(in alloc; {"error": "not_newer", "version": *version}),
+impl Show for Refusal {
+    ghost shown = { refusal_shown };
+
+    fn show(&self, out: &mut JsonText) -> Result<(), AllocError> {
+        match self {
+            Refusal::NoClerk => plain(out, "no_clerk"),
+            Refusal::Stale(last) => tells(out, "stale", "last", last),
+            Refusal::Gap(last) => tells(out, "gap", "last", last),
+            Refusal::Reused(last) => tells(out, "reused", "last", last),
+            Refusal::NoSuch(kind) => tells(out, "no_such", "kind", kind),
+            Refusal::Closed(stage) => tells(out, "closed", "stage", stage),
+            Refusal::UnknownAttr(name) => tells(out, "unknown_attr", "name", name),
+            Refusal::ValueLong(name) => tells(out, "value_long", "name", name),
+            Refusal::NotCertain(open) => tells(out, "not_certain", "open", open),
+            Refusal::InConflict => plain(out, "in_conflict"),
+            Refusal::NotConfirmed(name) => tells(out, "not_confirmed", "name", name),
+            Refusal::Limit(which, most) => limit(out, *which, *most),
+            Refusal::BadText(reader, code, first, second) => {
+                bad_text(out, *reader, *code, (*first, *second))
+            }
+            Refusal::Unavailable => plain(out, "unavailable"),
+            Refusal::NoMemory => plain(out, "no_memory"),
+            Refusal::Twice(name) => tells(out, "twice", "name", name),
+            Refusal::Taken(name) => tells(out, "taken", "name", name),
+            Refusal::BadName(name) => tells(out, "bad_name", "name", name),
+            Refusal::RowWidth(row) => tells(out, "row_width", "row", row),
+            Refusal::NotFixed(name) => tells(out, "not_fixed", "name", name),
+            Refusal::NoColumn(name) => tells(out, "no_column", "name", name),
+            Refusal::NotNewer(version) => tells(out, "not_newer", "version", version),
+        }
     }
 }
 
 /// An error of which nothing more is told.
-fn plain(alloc: Global, word: &str) -> Result<Value, AllocError>
-    ensures { IfOk result (λ made. view made ≡ plain word.now) }
+fn plain(out: &mut JsonText, word: &str) -> Result<(), AllocError>
+    ensures { OnOk result (out.new ≡ with_value out.old (plain word.now)) }
 {
-    json!(in alloc; {"error": word})
+    out.begin_object()?;
+    field(out, "error", &word)?;
+    out.end_object()
 }
 
-/// An error, and the number of the caller's last accepted request.
-fn numbered(alloc: Global, word: &str, last: u64) -> Result<Value, AllocError>
-    ensures { IfOk result (λ made. view made ≡ numbers word.now last) }
+/// An error, and one more thing that it tells.
+fn tells<T: Show>(out: &mut JsonText, word: &str, key: &str, value: &T) -> Result<(), AllocError>
+    ensures { OnOk result (out.new ≡ with_value out.old (tells word.now key.now (T.shown value.now))) }
 {
-    json!(in alloc; {"error": word, "last": last})
+    out.begin_object()?;
+    field(out, "error", &word)?;
+    field(out, key, value)?;
+    out.end_object()
 }
 
-/// An error, and the name that it is about.
-fn named(alloc: Global, word: &str, name: &str) -> Result<Value, AllocError>
-    ensures { IfOk result (λ made. view made ≡ names word.now name.now) }
+/// What a limit counts, and how much of it there may be.
+fn limit(out: &mut JsonText, which: Which, most: u64) -> Result<(), AllocError>
+    ensures { OnOk result (out.new ≡ with_value out.old (limit which most)) }
 {
-    json!(in alloc; {"error": word, "name": name})
+    out.begin_object()?;
+    field(out, "error", &"limit")?;
+    field(out, "most", &most)?;
+    field(out, "which", &which)?;
+    out.end_object()
 }
 
-fn limit(alloc: Global, which: Which, most: u64) -> Result<Value, AllocError>
-    ensures { IfOk result (λ made. view made ≡ object_of (error (codes "limit")
-        ∷ (codes "most", whole most) ∷ (codes "which", string (limit_word which)) ∷ [])) }
+/// Which reader refuses a text, with what and where.
+fn bad_text(out: &mut JsonText, reader: Reader, code: u64, at: (u64, u64)) -> Result<(), AllocError>
+    ensures { OnOk result (out.new ≡ with_value out.old (bad_text reader code at.0 at.1)) }
 {
-    json!(in alloc; {"error": "limit", "most": most, "which": limit_word(which)})
+    out.begin_object()?;
+    field(out, "at", &at)?;
+    field(out, "code", &code)?;
+    field(out, "error", &"bad_text")?;
+    field(out, "reader", &reader)?;
+    out.end_object()
 }
 
-fn bad_text(
-    alloc: Global,
-    reader: Reader,
-    code: u64,
-    first: u64,
-    second: u64,
-) -> Result<Value, AllocError>
-    ensures { IfOk result (λ made. view made ≡ object_of (
-        (codes "at", list_of (whole first ∷ whole second ∷ []))
-        ∷ (codes "code", whole code)
-        ∷ error (codes "bad_text")
-        ∷ (codes "reader", string (reader_word reader))
-        ∷ [])) }
-{
-    json!(in alloc; {"at": [first, second], "code": code, "error": "bad_text", "reader": reader_word(reader)})
-}
+impl Show for JsonFault {
+    ghost shown = { fault_shown };
 
-/// The fault of a body.
-pub fn fault_value(alloc: Global, fault: &JsonFault) -> Result<Value, AllocError>
-    ensures { IfOk result (λ made. view made ≡ fault_shown fault.now) }
-{
-    match fault {
-        JsonFault::NotJson => at_key(alloc, "not_json", ""),
-        JsonFault::Missing(key) => at_key(alloc, "missing", key.as_str()),
-        JsonFault::WrongKind(key) => at_key(alloc, "wrong_kind", key.as_str()),
-        JsonFault::Unknown(key) => at_key(alloc, "unknown", key.as_str()),
-        JsonFault::NoMemory => plain(alloc, "no_memory"),
+    fn show(&self, out: &mut JsonText) -> Result<(), AllocError> {
+        match self {
+            JsonFault::NotJson => at_key(out, "not_json", ""),
+            JsonFault::Missing(key) => at_key(out, "missing", key.as_str()),
+            JsonFault::WrongKind(key) => at_key(out, "wrong_kind", key.as_str()),
+            JsonFault::Unknown(key) => at_key(out, "unknown", key.as_str()),
+            JsonFault::NoMemory => plain(out, "no_memory"),
+        }
     }
 }
 
 /// A fault of this kind at this key.
-fn at_key(alloc: Global, kind: &str, key: &str) -> Result<Value, AllocError>
-    ensures { IfOk result (λ made. view made ≡ fault_at kind.now key.now) }
+fn at_key(out: &mut JsonText, kind: &str, key: &str) -> Result<(), AllocError>
+    ensures { OnOk result (out.new ≡ with_value out.old (fault_at kind.now key.now)) }
 {
-    json!(in alloc; {"error": "json", "fault": kind, "key": key})
+    out.begin_object()?;
+    field(out, "error", &"json")?;
+    field(out, "fault", &kind)?;
+    field(out, "key", &key)?;
+    out.end_object()
 }

@@ -1,19 +1,16 @@
 //! How a reply is shown, and the texts of replies and of the faults of bodies.
-ghost use Rattle.std.specs.Prelude.{◌≡◌, ◌≢◌, false, option_map, Some, None, IfOk};
-ghost use Rattle.serde_json.specs.View.{view};
-ghost use Rattle.serde_json.specs.Written.{compact_text, has_float};
+ghost use Rattle.std.specs.Prelude.{◌≡◌, ◌≢◌, option_map, None, Some, IfOk, OnOk};
+ghost use Rattle.serde_json.specs.Written.{compact_text};
+ghost use Rattle.json_parts.specs.Writing.{with_value};
 ghost use Rattle.desk_json.specs.Faults.{fault_shown};
-ghost use Rattle.desk_json.specs.Replies.{batched_shown, committed_shown, explained_shown, lists_shown, made_shown};
-ghost use Rattle.desk_json.specs.Replies.{reason_shown, region_shown, reply_shown, suggested_shown, version_shown};
+ghost use Rattle.desk_json.specs.Replies.{batched_shown, committed_shown, explained_shown, made_shown, clerk_shown};
+ghost use Rattle.desk_json.specs.Replies.{region_shown, reply_shown, suggested_shown, version_shown};
 
-use crate::carried::carried_value;
 use crate::fault::JsonFault;
-use crate::refusals::{fault_value, refusal_value};
-use crate::shown::list;
-use crate::viewed::view_value;
-use desk_base::{List, NoMemory};
-use desk_words::{Batched, Explained, Made, Reply, Suggested};
-use serde_json::{Value, json};
+use crate::shown::{Show, field, text};
+use desk_base::{List, NoMemory, Text};
+use desk_words::{Batched, Explained, Kind, Made, Reply, Suggested};
+use json_parts::JsonText;
 use std::alloc::{AllocError, Global};
 
 /// The JSON text of a reply that is no report, no records and no derived rows: compact, with its keys in byte order
@@ -22,158 +19,159 @@ pub fn text_of(alloc: Global, reply: &Reply) -> Result<List<u8>, NoMemory>
     requires json { reply_shown reply.now ≢ None }
     ensures { IfOk result (λ text. option_map compact_text (reply_shown reply.now) ≡ Some text) }
 {
-    let value = reply_value(alloc, reply)?.unwrap();
-    Ok(text(alloc, &value)?)
+    match reply {
+        Reply::Made(made) => text(alloc, made),
+        Reply::Opened(session) => text(alloc, session),
+        Reply::View(session) => text(alloc, session),
+        Reply::Committed {
+            number,
+            session,
+            certain,
+        } => {
+            text(
+                alloc,
+                &Kept {
+                    number: *number,
+                    session: *session,
+                    certain: *certain,
+                },
+            )
+        }
+        Reply::Batched(batch) => text(alloc, batch),
+        Reply::Suggested(suggested) => text(alloc, suggested),
+        Reply::Explained(explained) => text(alloc, explained),
+        Reply::Carried(carried) => text(alloc, carried),
+        Reply::Refused(refusal) => text(alloc, refusal),
+        Reply::Report(_) | Reply::Records(_) | Reply::Derived(_) => unreachable!(),
+    }
 }
 
 /// The JSON text of the fault of a body: compact, with its keys in byte order (docs/api.md).
 pub fn fault_text(alloc: Global, fault: &JsonFault) -> Result<List<u8>, NoMemory>
     ensures { IfOk result (λ text. text ≡ compact_text (fault_shown fault.now)) }
 {
-    let value = fault_value(alloc, fault)?;
-    Ok(text(alloc, &value)?)
-}
-
-/// The compact text of a value.
-fn text(alloc: Global, value: &Value) -> Result<List<u8>, AllocError>
-    requires { has_float (view value.now) ≡ false }
-    ensures { IfOk result (λ text. text ≡ compact_text (view value.now)) }
-{
-    Ok(List::from_vec(value.to_vec(alloc)?))
-}
-
-/// The value that a reply is shown as, or none for a report, for records and for derived rows.
-fn reply_value(alloc: Global, reply: &Reply) -> Result<Option<Value>, AllocError>
-    ensures { IfOk result (λ made. option_map view made ≡ reply_shown reply.now) }
-{
-    match reply {
-        Reply::Made(made) => Ok(Some(made_value(alloc, made)?)),
-        Reply::Opened(session) => Ok(Some(view_value(alloc, session)?)),
-        Reply::View(session) => Ok(Some(view_value(alloc, session)?)),
-        Reply::Committed {
-            number,
-            session,
-            certain,
-        } => { Ok(Some(committed_value(alloc, *number, *session, *certain)?)) }
-        Reply::Batched(batch) => Ok(Some(batched_value(alloc, *batch)?)),
-        Reply::Suggested(suggested) => Ok(Some(suggested_value(alloc, suggested)?)),
-        Reply::Report(_) | Reply::Records(_) | Reply::Derived(_) => Ok(None),
-        Reply::Explained(explained) => Ok(Some(explained_value(alloc, explained)?)),
-        Reply::Carried(carried) => Ok(Some(carried_value(alloc, carried)?)),
-        Reply::Refused(refusal) => Ok(Some(refusal_value(alloc, refusal)?)),
-    }
+    text(alloc, fault)
 }
 
 /// What the steward made.
-fn made_value(alloc: Global, made: &Made) -> Result<Value, AllocError>
-    ensures { IfOk result (λ value. view value ≡ made_shown made.now) }
-{
-    match made {
-        Made::Clerk(name) => json!(in alloc; {"made": "clerk", "name": name.as_str()}),
-        Made::Schema(name, version) => version_value(alloc, "schema", name.as_str(), *version),
-        Made::Master(name, version) => version_value(alloc, "master", name.as_str(), *version),
-        Made::Rulebook(name, version) => version_value(alloc, "rulebook", name.as_str(), *version),
-        Made::Edition(name, version) => version_value(alloc, "edition", name.as_str(), *version),
-        Made::Region {
-            region,
-            certain,
-            partial,
-            conflict,
-        } => { region_value(alloc, *region, *certain, *partial, *conflict) }
+impl Show for Made {
+    ghost shown = { made_shown };
+
+    fn show(&self, out: &mut JsonText) -> Result<(), AllocError> {
+        match self {
+            Made::Clerk(name) => show_clerk(out, name),
+            Made::Schema(name, version) => show_version(out, Kind::Schema, name, *version),
+            Made::Master(name, version) => show_version(out, Kind::Master, name, *version),
+            Made::Rulebook(name, version) => show_version(out, Kind::Rulebook, name, *version),
+            Made::Edition(name, version) => show_version(out, Kind::Edition, name, *version),
+            Made::Region {
+                region,
+                certain,
+                partial,
+                conflict,
+            } => { show_region(out, *region, *certain, *partial, *conflict) }
+        }
     }
 }
 
-/// What was made, with its name and version.
-fn version_value(alloc: Global, made: &str, name: &str, version: u32) -> Result<Value, AllocError>
-    ensures { IfOk result (λ value. view value ≡ version_shown made.now name.now version) }
+/// A clerk.
+fn show_clerk(out: &mut JsonText, name: &Text) -> Result<(), AllocError>
+    ensures { OnOk result (out.new ≡ with_value out.old (clerk_shown name.now)) }
 {
-    json!(in alloc; {"made": made, "name": name, "version": version})
+    out.begin_object()?;
+    field(out, "made", &"clerk")?;
+    field(out, "name", name)?;
+    out.end_object()
+}
+
+/// What was published, with its name and version.
+fn show_version(out: &mut JsonText, made: Kind, name: &Text, version: u32) -> Result<(), AllocError>
+    ensures { OnOk result (out.new ≡ with_value out.old (version_shown made name.now version)) }
+{
+    out.begin_object()?;
+    field(out, "made", &made)?;
+    field(out, "name", name)?;
+    field(out, "version", &version)?;
+    out.end_object()
 }
 
 /// A region, with the number of its rows of each verdict.
-fn region_value(
-    alloc: Global,
+fn show_region(
+    out: &mut JsonText,
     region: u32,
     certain: u32,
     partial: u32,
     conflict: u32,
-) -> Result<Value, AllocError>
-    ensures { IfOk result (λ value. view value ≡ region_shown region certain partial conflict) }
+) -> Result<(), AllocError>
+    ensures { OnOk result (out.new ≡ with_value out.old (region_shown region certain partial conflict)) }
 {
-    json!(in alloc; {
-        "certain": certain,
-        "conflict": conflict,
-        "made": "region",
-        "partial": partial,
-        "region": region
-    })
-}
-
-/// A record that was kept.
-fn committed_value(
-    alloc: Global,
-    number: u32,
-    session: u32,
-    certain: bool,
-) -> Result<Value, AllocError>
-    ensures { IfOk result (λ value. view value ≡ committed_shown number session certain) }
-{
-    json!(in alloc; {"certain": certain, "record": number, "session": session})
+    out.begin_object()?;
+    field(out, "certain", &certain)?;
+    field(out, "conflict", &conflict)?;
+    field(out, "made", &"region")?;
+    field(out, "partial", &partial)?;
+    field(out, "region", &region)?;
+    out.end_object()
 }
 
 /// A batch.
-fn batched_value(alloc: Global, batch: Batched) -> Result<Value, AllocError>
-    ensures { IfOk result (λ value. view value ≡ batched_shown batch) }
-{
-    json!(in alloc; {
-        "batch": batch.batch,
-        "certain": batch.certain,
-        "conflict": batch.conflict,
-        "first": batch.first,
-        "partial": batch.partial,
-        "rows": batch.rows
-    })
+impl Show for Batched {
+    ghost shown = { batched_shown };
+
+    fn show(&self, out: &mut JsonText) -> Result<(), AllocError> {
+        out.begin_object()?;
+        field(out, "batch", &self.batch)?;
+        field(out, "certain", &self.certain)?;
+        field(out, "conflict", &self.conflict)?;
+        field(out, "first", &self.first)?;
+        field(out, "partial", &self.partial)?;
+        field(out, "rows", &self.rows)?;
+        out.end_object()
+    }
 }
 
 /// A suggestion.
-fn suggested_value(alloc: Global, suggested: &Suggested) -> Result<Value, AllocError>
-    ensures { IfOk result (λ value. view value ≡ suggested_shown suggested.now) }
-{
-    let gains = list(alloc, suggested.gains.as_slice())?;
-    let need = list(alloc, suggested.need.as_slice())?;
-    let regions = list(alloc, suggested.regions.as_slice())?;
-    suggested_parts(alloc, gains, need, regions)
-}
+impl Show for Suggested {
+    ghost shown = { suggested_shown };
 
-/// A suggestion, from its three lists.
-fn suggested_parts(
-    alloc: Global,
-    gains: Value,
-    need: Value,
-    regions: Value,
-) -> Result<Value, AllocError>
-    ensures { IfOk result (λ value. view value ≡ lists_shown (view gains) (view need) (view regions)) }
-{
-    json!(in alloc; {"gains": gains, "need": need, "regions": regions})
+    fn show(&self, out: &mut JsonText) -> Result<(), AllocError> {
+        out.begin_object()?;
+        field(out, "gains", &self.gains)?;
+        field(out, "need", &self.need)?;
+        field(out, "regions", &self.regions)?;
+        out.end_object()
+    }
 }
 
 /// Why an attribute is fixed.
-fn explained_value(alloc: Global, explained: &Explained) -> Result<Value, AllocError>
-    ensures { IfOk result (λ value. view value ≡ explained_shown explained.now) }
-{
-    let steps = list(alloc, explained.steps.as_slice())?;
-    let uses = list(alloc, explained.uses.as_slice())?;
-    reason_value(alloc, explained.attribute.as_str(), steps, uses)
+impl Show for Explained {
+    ghost shown = { explained_shown };
+
+    fn show(&self, out: &mut JsonText) -> Result<(), AllocError> {
+        out.begin_object()?;
+        field(out, "attribute", &self.attribute)?;
+        field(out, "steps", &self.steps)?;
+        field(out, "uses", &self.uses)?;
+        out.end_object()
+    }
 }
 
-/// Why an attribute is fixed, from its two lists.
-fn reason_value(
-    alloc: Global,
-    attribute: &str,
-    steps: Value,
-    uses: Value,
-) -> Result<Value, AllocError>
-    ensures { IfOk result (λ value. view value ≡ reason_shown attribute.now (view steps) (view uses)) }
-{
-    json!(in alloc; {"attribute": attribute, "steps": steps, "uses": uses})
+/// A record that was kept.
+#[derive(Clone, Copy)]
+struct Kept {
+    number: u32,
+    session: u32,
+    certain: bool,
+}
+
+impl Show for Kept {
+    ghost shown = { λ kept. committed_shown kept.number kept.session kept.certain };
+
+    fn show(&self, out: &mut JsonText) -> Result<(), AllocError> {
+        out.begin_object()?;
+        field(out, "certain", &self.certain)?;
+        field(out, "record", &self.number)?;
+        field(out, "session", &self.session)?;
+        out.end_object()
+    }
 }

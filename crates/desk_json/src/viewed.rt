@@ -1,109 +1,109 @@
 //! How a session is shown.
-ghost use Rattle.std.specs.Prelude.{◌≡◌, IfOk};
-ghost use Rattle.serde_json.specs.View.{view};
-ghost use Rattle.desk_json.specs.Viewed.{cell_shown, dissent_shown, fix_shown, conflict_shown};
+ghost use Rattle.std.specs.Prelude.{◌≡◌, OnOk};
+ghost use Rattle.json_parts.specs.Writing.{with_value};
+ghost use Rattle.desk_json.specs.Viewed.{conflict_shown, fix_shown, fixed_shown, plain_shown};
 ghost use Rattle.desk_json.specs.Viewed.{view_cell_shown, view_shown};
 
-use crate::shown::{Show, list};
-use crate::words::stage_word;
-use desk_base::Text;
+use crate::shown::{Show, field};
+use desk_base::{List, Text};
 use desk_words::{Outcome, Shown, View, ViewCell};
-use serde_json::{Value, json};
-use std::alloc::{AllocError, Global};
+use json_parts::JsonText;
+use std::alloc::AllocError;
 
+/// An attribute with its value, and how it came to it.
 impl Show for ViewCell {
     ghost shown = { view_cell_shown };
 
-    fn show(&self, alloc: Global) -> Result<Value, AllocError> {
-        cell_value(alloc, self.name.as_str(), self.value.as_str(), &self.shown)
+    fn show(&self, out: &mut JsonText) -> Result<(), AllocError> {
+        match &self.shown {
+            Shown::Uncovered => show_plain(out, self, "open"),
+            Shown::Confirmed => show_plain(out, self, "confirmed"),
+            Shown::Fixed { rule, master, row } => show_fixed(out, self, rule, master, *row),
+        }
     }
 }
 
-/// An attribute with its value, and how it came to it.
-fn cell_value(alloc: Global, name: &str, value: &str, shown: &Shown) -> Result<Value, AllocError>
-    ensures { IfOk result (λ made. view made ≡ cell_shown name.now value.now shown.now) }
+/// A cell that no rule fixes.
+fn show_plain(out: &mut JsonText, cell: &ViewCell, word: &str) -> Result<(), AllocError>
+    ensures { OnOk result (out.new ≡ with_value out.old (plain_shown cell.now word.now)) }
 {
-    match shown {
-        Shown::Uncovered => json!(in alloc; [name, value, "open"]),
-        Shown::Confirmed => json!(in alloc; [name, value, "confirmed"]),
-        Shown::Fixed { rule, master, row } => {
-            json!(in alloc; [name, value, "fixed", rule.as_str(), master.as_str(), *row])
-        }
-    }
+    out.begin_array()?;
+    cell.name.show(out)?;
+    cell.value.show(out)?;
+    word.show(out)?;
+    out.end_array()
+}
+
+/// A cell that is fixed by this rule with this row of this master.
+fn show_fixed(
+    out: &mut JsonText,
+    cell: &ViewCell,
+    rule: &Text,
+    master: &Text,
+    row: u32,
+) -> Result<(), AllocError>
+    ensures { OnOk result (out.new ≡ with_value out.old (fixed_shown cell.now rule.now master.now row)) }
+{
+    out.begin_array()?;
+    cell.name.show(out)?;
+    cell.value.show(out)?;
+    out.string("fixed")?;
+    rule.show(out)?;
+    master.show(out)?;
+    row.show(out)?;
+    out.end_array()
 }
 
 /// A session as it stands.
-pub fn view_value(alloc: Global, session: &View) -> Result<Value, AllocError>
-    ensures { IfOk result (λ made. view made ≡ view_shown session.now) }
-{
-    let cells = list(alloc, session.cells.as_slice())?;
-    let first = list(alloc, session.first.as_slice())?;
-    match &session.outcome {
-        Outcome::Fix { certain, dissent } => {
-            let dissent = dissent_value(alloc, dissent)?;
-            fix_value(alloc, session, cells, *certain, dissent, first)
-        }
-        Outcome::Conflict { second } => {
-            let second = list(alloc, second.as_slice())?;
-            conflict_value(alloc, session, cells, first, second)
-        }
-    }
-}
+impl Show for View {
+    ghost shown = { view_shown };
 
-/// The step, or null where there is none.
-fn dissent_value(alloc: Global, dissent: &Option<(Text, u32)>) -> Result<Value, AllocError>
-    ensures { IfOk result (λ made. view made ≡ dissent_shown dissent.now) }
-{
-    match dissent {
-        None => Ok(Value::Null),
-        Some(step) => step.show(alloc),
+    fn show(&self, out: &mut JsonText) -> Result<(), AllocError> {
+        match &self.outcome {
+            Outcome::Fix { certain, dissent } => show_fix(out, self, *certain, dissent),
+            Outcome::Conflict { second } => show_conflict(out, self, second),
+        }
     }
 }
 
 /// A session whose fix is unique.
-fn fix_value(
-    alloc: Global,
+fn show_fix(
+    out: &mut JsonText,
     session: &View,
-    cells: Value,
     certain: bool,
-    dissent: Value,
-    first: Value,
-) -> Result<Value, AllocError>
-    ensures { IfOk result (λ made.
-        view made ≡ fix_shown session.now (view cells) certain (view dissent) (view first)) }
+    dissent: &Option<(Text, u32)>,
+) -> Result<(), AllocError>
+    ensures { OnOk result (out.new ≡ with_value out.old (fix_shown session.now certain dissent.now)) }
 {
-    json!(in alloc; {
-        "answer": "fix",
-        "cells": cells,
-        "certain": certain,
-        "dissent": dissent,
-        "edition": session.edition.as_str(),
-        "first": first,
-        "session": session.session,
-        "stage": stage_word(session.stage),
-        "version": session.version
-    })
+    out.begin_object()?;
+    field(out, "answer", &"fix")?;
+    field(out, "cells", &session.cells)?;
+    field(out, "certain", &certain)?;
+    field(out, "dissent", dissent)?;
+    field(out, "edition", &session.edition)?;
+    field(out, "first", &session.first)?;
+    field(out, "session", &session.session)?;
+    field(out, "stage", &session.stage)?;
+    field(out, "version", &session.version)?;
+    out.end_object()
 }
 
 /// A session with a conflict.
-fn conflict_value(
-    alloc: Global,
+fn show_conflict(
+    out: &mut JsonText,
     session: &View,
-    cells: Value,
-    first: Value,
-    second: Value,
-) -> Result<Value, AllocError>
-    ensures { IfOk result (λ made.
-        view made ≡ conflict_shown session.now (view cells) (view first) (view second)) }
+    second: &List<(Text, u32)>,
+) -> Result<(), AllocError>
+    ensures { OnOk result (out.new ≡ with_value out.old (conflict_shown session.now second.now)) }
 {
-    json!(in alloc; {
-        "answer": "conflict",
-        "cells": cells,
-        "edition": session.edition.as_str(),
-        "first": first,
-        "second": second,
-        "session": session.session,
-        "stage": stage_word(session.stage),
-        "version": session.version
-    })
+    out.begin_object()?;
+    field(out, "answer", &"conflict")?;
+    field(out, "cells", &session.cells)?;
+    field(out, "edition", &session.edition)?;
+    field(out, "first", &session.first)?;
+    field(out, "second", second)?;
+    field(out, "session", &session.session)?;
+    field(out, "stage", &session.stage)?;
+    field(out, "version", &session.version)?;
+    out.end_object()
 }

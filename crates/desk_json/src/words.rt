@@ -1,10 +1,46 @@
 //! The words that replies and refusals have for stages, kinds, limits and readers.
 ghost use Rattle.std.specs.Prelude.{◌≡◌};
+ghost use Rattle.serde_json.specs.Data.{string};
 ghost use Rattle.desk_json.specs.Words.{kind_word, limit_word, reader_word, stage_word};
 
+use crate::shown::Show;
 use desk_words::{Kind, Reader, Stage, Which};
+use json_parts::JsonText;
+use std::alloc::AllocError;
 
-pub fn stage_word(stage: Stage) -> &'static str
+impl Show for Stage {
+    ghost shown = { λ stage. string (stage_word stage) };
+
+    fn show(&self, out: &mut JsonText) -> Result<(), AllocError> {
+        out.string(stage_word(*self))
+    }
+}
+
+impl Show for Kind {
+    ghost shown = { λ kind. string (kind_word kind) };
+
+    fn show(&self, out: &mut JsonText) -> Result<(), AllocError> {
+        out.string(kind_word(*self))
+    }
+}
+
+impl Show for Which {
+    ghost shown = { λ which. string (limit_word which) };
+
+    fn show(&self, out: &mut JsonText) -> Result<(), AllocError> {
+        out.string(limit_word(*self))
+    }
+}
+
+impl Show for Reader {
+    ghost shown = { λ reader. string (reader_word reader) };
+
+    fn show(&self, out: &mut JsonText) -> Result<(), AllocError> {
+        out.string(reader_word(*self))
+    }
+}
+
+fn stage_word(stage: Stage) -> &'static str
     ensures { result.now ≡ stage_word stage }
 {
     match stage {
@@ -14,7 +50,7 @@ pub fn stage_word(stage: Stage) -> &'static str
     }
 }
 
-pub fn kind_word(kind: Kind) -> &'static str
+fn kind_word(kind: Kind) -> &'static str
     ensures { result.now ≡ kind_word kind }
 {
     match kind {
@@ -26,7 +62,7 @@ pub fn kind_word(kind: Kind) -> &'static str
     }
 }
 
-pub fn limit_word(which: Which) -> &'static str
+fn limit_word(which: Which) -> &'static str
     ensures { result.now ≡ limit_word which }
 {
     match which {
@@ -47,7 +83,7 @@ pub fn limit_word(which: Which) -> &'static str
     }
 }
 
-pub fn reader_word(reader: Reader) -> &'static str
+fn reader_word(reader: Reader) -> &'static str
     ensures { result.now ≡ reader_word reader }
 {
     match reader {

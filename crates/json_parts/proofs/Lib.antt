@@ -2,3 +2,4 @@ pub mod Floats
 pub mod Keys
 pub mod Reading
 pub mod Values
+pub mod Written

@@ -1,6 +1,6 @@
 -- The shapes of the JSON values that are printed.
-use Rattle.std.specs.Prelude.{ℕ, List, [], ◌∷◌}
-use Rattle.serde_json.specs.Data.{Data, Members, member, no_members, array, number, object, unsigned}
+use Rattle.std.specs.Prelude.{ℕ, List, [], ◌∷◌, Option, Some, None}
+use Rattle.serde_json.specs.Data.{Data, Members, member, no_members, array, null, number, object, unsigned}
 use Rattle.serde_json.specs.View.{items_of}
 pub use Rattle.desk_base.specs.Texts.{line}
 
@@ -20,3 +20,8 @@ object_of pairs = object (members_from pairs)
 -- a whole number
 abbrev pub whole : ℕ → Data
 whole n = number (unsigned n)
+
+-- the value of what may be missing: null where it is
+abbrev pub or_null : {A : Type 0} → (A → Data) → Option A → Data
+or_null shown None = null
+or_null shown (Some thing) = shown thing
