@@ -1,3 +1,1 @@
-pub mod Floats
 pub mod Reading
-pub mod Showing

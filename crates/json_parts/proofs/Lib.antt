@@ -1,4 +1,3 @@
-pub mod Floats
 pub mod Keys
 pub mod Reading
 pub mod Values

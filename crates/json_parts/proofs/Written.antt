@@ -1,10 +1,12 @@
 -- The tokens that are written of a value.
-use Rattle.std.proofs.Common.{◌≡◌, List, [], ◌∷◌, ◌++◌, refl, ap, ◌∙◌, append_assoc}
+use Rattle.std.proofs.Common.{◌≡◌, ℕ, suc, ◌+◌, ◌-◌, ◌<◌, List, [], ◌∷◌, ◌++◌, map, refl, ap, ◌∙◌, append_assoc, arith}
+use Rattle.std.specs.List.{range_with_len}
 use Rattle.json.specs.Print.{print}
 use Rattle.json.specs.Token.{Token, key}
 use Rattle.json.specs.Tree.{json_tokens, items_tokens, members_tokens}
 use Rattle.serde_json.specs.Data.{Data, null, boolean, number, string, array, object}
 use Rattle.serde_json.specs.Data.{Items, no_items, item, Members, no_members, member}
+use Rattle.serde_json.specs.View.{items_of}
 use Rattle.serde_json.specs.Written.{compact_text, outline, items_outline, members_outline}
 use Rattle.serde_json.proofs.Texts.{print-outline}
 use Rattle.json_parts.specs.Writing.{with_token, with_value, with_items, with_members}
@@ -44,3 +46,11 @@ mutual
 -- the text of the tokens of one value is its compact text
 pub print-with_value : (value : Data) → print (with_value [] value) ≡ compact_text value
 print-with_value value = ap print (with_value-json_tokens [] value) ∙ print-outline value
+
+-- the next of the numbered values that are left is written
+pub with_items-next : (tokens : List Token) (shown : ℕ → Data) (place count : ℕ) → place < count
+    → with_items (with_value tokens (shown place))
+    (items_of (map shown (range_with_len (place + 1) (count - (place + 1)))))
+    ≡ with_items tokens (items_of (map shown (range_with_len place (count - place))))
+with_items-next tokens shown place count within =
+    let left : count - place ≡ suc (count - (place + 1)) = omega arith in rw left refl

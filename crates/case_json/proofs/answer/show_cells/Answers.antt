@@ -1,22 +1,22 @@
-use Rattle.std.proofs.Common.{◌≡◌, ◌<◌, [], length, get_or, arith}
+use Rattle.std.proofs.Common.{◌≡◌, ◌<◌, ◌∙◌, [], length, get_or, arith}
 use Rattle.std.proofs.lemmas.List.{get_or_read}
-use Rattle.serde_json.specs.View.{view}
+use Rattle.json_parts.specs.Writing.{with_value}
+use Rattle.json_parts.proofs.Written.{with_items-next}
 use Rattle.case_json.specs.Answer.{attribute_shown}
-use Rattle.case_json.proofs.Showing.{map-view-next}
-use Rattle.case_json.proofs.answer.cell_values.Goals as goal
+use Rattle.case_json.proofs.answer.show_cells.Goals as goal
 
 pub attributes-preserved : goal.attributes-preserved
 attributes-preserved g c =
+    let kit = g.B.Book.kit c.args.book.now in
     let names = c.args.attributes.now in
     let attribute = c.attributes.attribute in
     let place = c.from-place.result in
-    let shown = attribute_shown names (g.B.Book.kit c.args.book.now) c.args.state.now in
     let within : place < length names = omega (arith, c.from-place.ensures, c.requires.wide, c.requires.named) in
     let name : c.index-attributes-place.result ≡ get_or names place [] =
     get_or_read names place _ within c.index-attributes-place.is [] in
-    let shows : view c.in_ok-cell_value.field-0 ≡ shown attribute =
+    let shows : c.show_cell.new.out ≡ with_value c.attributes.out (attribute_shown names kit c.args.state.now attribute) =
     rw (
-      c.in_ok-cell_value.ensures,
+      c.in_ok-show_cell.ensures,
       c.as_slice.ensures,
       c.as_str-name.ensures.text,
       name,
@@ -24,4 +24,6 @@ attributes-preserved g c =
       c.value.ensures,
       c.from-place.ensures,
     ) in
-    rw c.in_ok-push.ensures.items (map-view-next shown _ _ attribute c.attributes.invariant shows)
+    let rest = with_items-next c.attributes.out (attribute_shown names kit c.args.state.now) attribute kit.width
+    (omega (arith, c.requires.wide)) in
+    rw shows (rest ∙ c.attributes.invariant)
