@@ -36,12 +36,16 @@ fn run_words(rt: &HostRuntime, words: &[String]) -> u8 {
         sink: StdSink::new(rt.stdout()),
     };
     match keeper(rt.alloc()) {
-        Ok(mut keeper) => run::<Desk, _, _, _>(rt.alloc(), words, &mut keeper, &mut link),
+        Ok(mut keeper) => {
+            let code = run::<Desk, _, _, _>(rt.alloc(), words, &mut keeper, &mut link);
+            drop(keeper);
+            code
+        }
         Err(NoMemory) => Status::NoMemory.code(),
     }
 }
 
-/// What keeps the tables while the program runs: none stand at its beginning, and none are left behind it.
+/// What keeps the tables while the program runs: none stand at its beginning, and none are left after it.
 fn keeper(alloc: Global) -> Result<MemKeeper, NoMemory> {
     Ok(MemKeeper::new(Tables::empty(alloc)?, List::new(alloc)))
 }
