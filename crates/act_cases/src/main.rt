@@ -20,7 +20,6 @@ use desk_cases::{Answer, Case, Part, Subject, try_files};
 use desk_trials::KeptDesk;
 use http_cut::Routes;
 use machine_core::StartFail;
-use std::alloc::Global;
 use std::test::Fail;
 
 /// The table of routes, and the desks from which cases begin.
@@ -77,13 +76,11 @@ impl Subject for Desks {
         is_step(part) || matches!(part.name.as_str(), "from" | "named" | "fails")
     }
 
-    fn answer(&mut self, alloc: Global, kind: &str, case: &Case) -> Result<Vec<Part>, Fail> {
-        if kind != "desk" {
-            return Err(Fail::new("a file of cases has an unknown kind"));
+    fn answer(&mut self, kind: &str, case: &Case, answer: &mut Answer) -> Result<(), Fail> {
+        match kind {
+            "desk" => self.add_answer(case, answer),
+            _ => Err(Fail::new("a file of cases has an unknown kind")),
         }
-        let mut answer = Answer::new(alloc);
-        self.add_answer(case, &mut answer)?;
-        Ok(answer.into_parts())
     }
 }
 

@@ -11,9 +11,8 @@ mod responding;
 mod routing;
 mod streams;
 
-use desk_cases::{Case, Part, Subject, try_files};
+use desk_cases::{Answer, Case, Part, Subject, try_files};
 use http_cut::Routes;
-use std::alloc::Global;
 use std::test::Fail;
 
 /// The table of routes, by which bodies have their limits.
@@ -27,20 +26,18 @@ impl Subject for Cutting {
         part.name.as_str() != "wanted"
     }
 
-    fn answer(&mut self, alloc: Global, kind: &str, case: &Case) -> Result<Vec<Part>, Fail> {
-        let wanted = match kind {
-            "stream" => streams::cut(alloc, &self.routes, case)?,
-            "early" => early::cut(alloc, &self.routes, case)?,
-            "route" => routing::route(alloc, &self.routes, case)?,
-            "response" => responding::responded(alloc, case)?,
-            "refusal" => responding::refused(alloc, case)?,
-            "draws" => making::draws(alloc, case)?,
-            "made" => making::request(alloc, &self.routes, case)?,
-            _ => return Err(Fail::new("a file of cases has an unknown kind")),
-        };
-        let mut answer = Vec::new(alloc);
-        answer.push(Part::new(alloc, "wanted", wanted.as_str().as_bytes())?)?;
-        Ok(answer)
+    fn answer(&mut self, kind: &str, case: &Case, answer: &mut Answer) -> Result<(), Fail> {
+        let routes = &self.routes;
+        match kind {
+            "stream" => streams::told(routes, case, answer),
+            "early" => early::told(routes, case, answer),
+            "route" => routing::told(routes, case, answer),
+            "response" => responding::responded(case, answer),
+            "refusal" => responding::refused(case, answer),
+            "draws" => making::draws(case, answer),
+            "made" => making::request(routes, case, answer),
+            _ => Err(Fail::new("a file of cases has an unknown kind")),
+        }
     }
 }
 

@@ -3,35 +3,52 @@ ghost use Rattle.std.specs.Prelude.{◌^◌, ◌<◌, IfOk};
 ghost use Rattle.http_cut.specs.declared.step.Step.TheVariants as steps;
 ghost use Rattle.http_cut.specs.Looks.{IsStep};
 
-use desk_cases::Case;
+use crate::streams::text_of;
+use desk_cases::{Answer, Case};
 use desk_made::{Draws, made};
 use http_cut::{Request, Routes, Step, first_step};
-use std::alloc::Global;
+use std::alloc::AllocError;
 use std::test::Fail;
 
 /// So many draws from a start.
-pub fn draws(alloc: Global, case: &Case) -> Result<String, Fail> {
-    let mut draws = Draws::new(start(case)?);
-    let mut line = String::new(alloc);
-    for place in 0..case.number("count").unwrap_or(0) {
+pub fn draws(case: &Case, answer: &mut Answer) -> Result<(), Fail> {
+    let mut line = String::new(answer.alloc());
+    tell_draws(&mut line, start(case)?, case.number("count").unwrap_or(0))?;
+    answer.text("wanted", line.as_str())
+}
+
+fn tell_draws(line: &mut String, start: u32, count: u64) -> Result<(), AllocError>
+    requires { start < 2 ^ 31 }
+{
+    let mut draws = Draws::new(start);
+    for place in 0..count {
         let draw = draws.draw();
         let between = if place > 0 { " " } else { "" };
-        line.push_str(format!(in alloc; "{between}{draw}")?.as_str())?;
+        write!(line, "{between}{draw}")?;
     }
-    Ok(line)
+    Ok(())
 }
 
 /// The request at a place of the stream, counted from 1: its head, and its body, or the lines of it that are listed.
 /// Or `clean`, where the stream has ended.
-pub fn request(alloc: Global, routes: &Routes, case: &Case) -> Result<String, Fail> {
-    let bytes = made(alloc, count(case)?, start(case)?)?;
-    let mut rest = bytes.as_slice();
+pub fn request(routes: &Routes, case: &Case, answer: &mut Answer) -> Result<(), Fail> {
+    let bytes = made(answer.alloc(), count(case)?, start(case)?)?;
+    add_request(routes, bytes.as_slice(), case, answer)
+}
+
+fn add_request(
+    routes: &Routes,
+    bytes: &[u8],
+    case: &Case,
+    answer: &mut Answer,
+) -> Result<(), Fail> {
+    let mut rest = bytes;
     for _ in 1..case.number("place").unwrap_or(1) {
         rest = behind(routes, rest)?;
     }
     match first_step(routes, rest) {
-        Step::Whole(request) => shown(alloc, rest, &request, case),
-        Step::NeedMore(_) if rest.is_empty() => Ok(String::from_str(alloc, "clean")?),
+        Step::Whole(request) => add_whole(rest, &request, case, answer),
+        Step::NeedMore(_) if rest.is_empty() => answer.text("wanted", "clean"),
         _ => Err(Fail::new("a stream is not cut into requests")),
     }
 }
@@ -44,7 +61,7 @@ fn count(case: &Case) -> Result<u32, Fail> {
     }
 }
 
-/// The number behind which draws begin.
+/// The number after which draws begin.
 fn start(case: &Case) -> Result<u32, Fail>
     ensures { IfOk result (λ start. start < 2 ^ 31) }
 {
@@ -54,7 +71,7 @@ fn start(case: &Case) -> Result<u32, Fail>
     }
 }
 
-/// What stands behind the first request.
+/// What stands after the first request.
 fn behind<'a>(routes: &Routes, bytes: &'a [u8]) -> Result<&'a [u8], Fail> {
     match first_step(routes, bytes) {
         Step::Whole(request) => Ok(&bytes[request.body.end..]),
@@ -62,27 +79,30 @@ fn behind<'a>(routes: &Routes, bytes: &'a [u8]) -> Result<&'a [u8], Fail> {
     }
 }
 
-fn shown(alloc: Global, bytes: &[u8], request: &Request, case: &Case) -> Result<String, Fail>
+fn add_whole(bytes: &[u8], request: &Request, case: &Case, answer: &mut Answer) -> Result<(), Fail>
     requires { IsStep bytes.now (steps.Whole request.now) }
 {
-    let mut text = String::from_str(alloc, text_of(&bytes[..request.body.start])?)?;
+    let head = text_of(&bytes[..request.body.start])?;
     let body = text_of(request.body.of(bytes))?;
-    if case.part("lines").is_none() {
-        text.push_str(body)?;
-        return Ok(text);
-    }
-    let listed = case.numbers(alloc, "lines")?;
+    let listed = case.numbers(answer.alloc(), "lines")?;
+    let is_all = case.part("lines").is_none();
+    let mut text = String::new(answer.alloc());
+    text.push_str(head)?;
+    tell_lines(&mut text, body, is_all, listed.as_slice())?;
+    answer.text("wanted", text.as_str())
+}
+
+/// All lines of a body, or those that are listed.
+fn tell_lines(
+    text: &mut String,
+    body: &str,
+    is_all: bool,
+    listed: &[u64],
+) -> Result<(), AllocError> {
     for (place, line) in body.split_inclusive('\n').enumerate() {
-        if listed.contains(&(place as u64).saturating_add(1)) {
+        if is_all || listed.contains(&(place as u64).saturating_add(1)) {
             text.push_str(line)?;
         }
     }
-    Ok(text)
-}
-
-fn text_of(bytes: &[u8]) -> Result<&str, Fail> {
-    match std::str::from_utf8(bytes) {
-        Ok(text) => Ok(text),
-        Err(_) => Err(Fail::new("a part of a request is no text")),
-    }
+    Ok(())
 }

@@ -1,24 +1,21 @@
 //! The bytes of responses.
-use desk_cases::Case;
+use desk_cases::{Answer, Case};
 use http_desk::{ContentType, Refused, Status, response};
-use std::alloc::Global;
 use std::test::Fail;
 
 /// The response with a status, a type and a body, closing or not, to HEAD or not.
-pub fn responded(alloc: Global, case: &Case) -> Result<String, Fail> {
+pub fn responded(case: &Case, answer: &mut Answer) -> Result<(), Fail> {
     let status = status(case.number("status"))?;
     let kind = kind(case.text("type"))?;
     let closing = case.part("closing").is_some();
     let asks_head = case.part("head").is_some();
-    let bytes = response(alloc, status, kind, case.bytes("body")?, closing, asks_head)?;
-    match String::from_utf8(bytes) {
-        Ok(text) => Ok(text),
-        Err(_) => Err(Fail::new("a response that is not UTF-8")),
-    }
+    let body = case.bytes("body")?;
+    let bytes = response(answer.alloc(), status, kind, body, closing, asks_head)?;
+    answer.bytes("wanted", bytes.as_slice())
 }
 
 /// The response of a refusal before the machine.
-pub fn refused(alloc: Global, case: &Case) -> Result<String, Fail> {
+pub fn refused(case: &Case, answer: &mut Answer) -> Result<(), Fail> {
     let refusal = match case.text("refusal") {
         Some("NoRoute") => Refused::NoRoute,
         Some("OtherMethod") => Refused::OtherMethod,
@@ -32,7 +29,7 @@ pub fn refused(alloc: Global, case: &Case) -> Result<String, Fail> {
     };
     let closing = case.part("closing").is_some();
     let asks_head = case.part("head").is_some();
-    Ok(String::from_str(alloc, refusal.text(closing, asks_head))?)
+    answer.text("wanted", refusal.text(closing, asks_head))
 }
 
 fn status(code: Option<u64>) -> Result<Status, Fail> {

@@ -1,7 +1,7 @@
 //! The routes of targets.
-use desk_cases::Case;
+use desk_cases::{Answer, Case};
 use http_cut::{Method, Route, RouteMatch, Routes};
-use std::alloc::Global;
+use std::alloc::AllocError;
 use std::test::Fail;
 
 /// The names that parameters have.
@@ -10,31 +10,37 @@ const NAMES: [&str; 7] = [
 ];
 
 /// The route of a target, its method, the limit of its body, and its parameters; or `none`.
-pub fn route(alloc: Global, routes: &Routes, case: &Case) -> Result<String, Fail> {
+pub fn told(routes: &Routes, case: &Case, answer: &mut Answer) -> Result<(), Fail> {
     match routes.find(case.bytes("target")?) {
-        Some(found) => shown(alloc, &found),
-        None => Ok(String::from_str(alloc, "none")?),
+        Some(found) => add_route(&found, answer),
+        None => answer.text("wanted", "none"),
     }
 }
 
-fn shown(alloc: Global, found: &RouteMatch) -> Result<String, Fail> {
+fn add_route(found: &RouteMatch<'_, '_>, answer: &mut Answer) -> Result<(), Fail> {
+    let mut line = String::new(answer.alloc());
+    tell(&mut line, found)?;
+    answer.text("wanted", line.as_str())
+}
+
+fn tell(line: &mut String, found: &RouteMatch<'_, '_>) -> Result<(), AllocError> {
     let route = found.route();
     let method = match route.method() {
         Method::Get => "GET",
         Method::Post => "POST",
     };
     let limit = route.body_limit();
-    let mut line = match route {
-        Route::Steward(asked) => format!(in alloc; "{asked:?}")?,
-        Route::Clerk(asked) => format!(in alloc; "{asked:?}")?,
-        Route::Look(asked) => format!(in alloc; "{asked:?}")?,
-        Route::Desk(asked) => format!(in alloc; "{asked:?}")?,
-    };
-    line.push_str(format!(in alloc; " {method} {limit}")?.as_str())?;
+    match route {
+        Route::Steward(asked) => write!(line, "{asked:?}")?,
+        Route::Clerk(asked) => write!(line, "{asked:?}")?,
+        Route::Look(asked) => write!(line, "{asked:?}")?,
+        Route::Desk(asked) => write!(line, "{asked:?}")?,
+    }
+    write!(line, " {method} {limit}")?;
     for name in NAMES {
         if let Some(text) = found.text(name) {
-            line.push_str(format!(in alloc; " {name}={text}")?.as_str())?;
+            write!(line, " {name}={text}")?;
         }
     }
-    Ok(line)
+    Ok(())
 }

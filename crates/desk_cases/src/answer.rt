@@ -1,5 +1,5 @@
 //! The answer to a case, made part by part.
-use crate::case::{Part, add_once};
+use crate::case::Part;
 use std::alloc::Global;
 use std::fmt::Debug;
 use std::test::Fail;
@@ -14,7 +14,7 @@ pub struct Answer {
 
 impl Answer {
     /// No part yet.
-    pub fn new(alloc: Global) -> Answer {
+    pub(crate) fn new(alloc: Global) -> Answer {
         Answer {
             alloc,
             parts: Vec::new(alloc),
@@ -55,8 +55,10 @@ impl Answer {
 
     /// Adds a part with these bytes, unless it is there: what is answered alike many times is told once.
     pub fn bytes_once(&mut self, name: &str, content: &[u8]) -> Result<(), Fail> {
-        let part = Part::new(self.alloc, name, content)?;
-        Ok(add_once(&mut self.parts, part)?)
+        if self.has(name, content) {
+            return Ok(());
+        }
+        self.bytes(name, content)
     }
 
     /// Adds a part that is a number, unless it is there.
@@ -65,8 +67,18 @@ impl Answer {
         self.bytes_once(name, text.as_bytes())
     }
 
+    /// Whether a part of this name and content is there.
+    fn has(&self, name: &str, content: &[u8]) -> bool {
+        for part in &self.parts {
+            if part.name.as_str() == name && part.content.as_slice() == content {
+                return true;
+            }
+        }
+        false
+    }
+
     /// The parts.
-    pub fn into_parts(self) -> Vec<Part> {
+    pub(crate) fn into_parts(self) -> Vec<Part> {
         self.parts
     }
 }

@@ -12,21 +12,10 @@ pub struct Part {
 
 impl Part {
     /// A part of this name, with this content.
-    pub fn new(alloc: Global, name: &str, content: &[u8]) -> Result<Part, NoMemory> {
+    pub(crate) fn new(alloc: Global, name: &str, content: &[u8]) -> Result<Part, NoMemory> {
         let name = String::from_str(alloc, name)?;
         let content = Vec::from_slice(alloc, content)?;
         Ok(Part { name, content })
-    }
-
-    /// A part that says `yes` or `no`.
-    pub fn truth(alloc: Global, name: &str, holds: bool) -> Result<Part, NoMemory> {
-        Part::new(alloc, name, if holds { b"yes" } else { b"no" })
-    }
-
-    /// A part that is a number.
-    pub fn number(alloc: Global, name: &str, number: u64) -> Result<Part, Fail> {
-        let number = format!(in alloc; "{number}")?;
-        Ok(Part::new(alloc, name, number.as_str().as_bytes())?)
     }
 
     /// Whether a part that is text has this word.
@@ -36,20 +25,6 @@ impl Part {
             Err(_) => false,
         }
     }
-}
-
-/// Adds a part to an answer, unless a part of this name and content is there: what is answered alike many times is told
-/// once.
-pub fn add_once(answer: &mut Vec<Part>, part: Part) -> Result<(), NoMemory> {
-    for other in answer.as_slice() {
-        if other.name.as_str() == part.name.as_str()
-            && other.content.as_slice() == part.content.as_slice()
-        {
-            return Ok(());
-        }
-    }
-    answer.push(part)?;
-    Ok(())
 }
 
 /// A case.

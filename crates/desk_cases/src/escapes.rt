@@ -12,13 +12,13 @@ const MAX_TIMES: usize = 1_000_000;
 enum Expected {
     /// A byte that stands for itself, or a backslash.
     Any,
-    /// What stands behind a backslash.
+    /// What stands after a backslash.
     Escape,
     /// The first hexadecimal digit of a byte.
     High,
-    /// The second one, behind this value of the first.
+    /// The second one, after this value of the first.
     Low(u8),
-    /// A digit of a number of copies that begins so, or the colon behind it.
+    /// A digit of a number of copies that begins so, or the colon after it.
     Times(usize),
 }
 

@@ -13,7 +13,7 @@ mod reading;
 mod trying;
 
 pub use answer::Answer;
-pub use case::{Case, Part, add_once};
+pub use case::{Case, Part};
 pub use fault::CaseFault;
 pub use judging::{Difference, differences};
 pub use reading::cases;

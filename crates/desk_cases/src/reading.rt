@@ -47,7 +47,7 @@ struct OpenPart {
 /// What is read of a part's content so far.
 #[derive(Drop)]
 enum Content {
-    /// Lines that stand for themselves, and how many blank lines were passed over behind them.
+    /// Lines that stand for themselves, and how many blank lines were passed over after them.
     Plain(Vec<u8>, usize),
     Escaped(Unescaped),
 }
@@ -170,7 +170,7 @@ impl Draft {
 }
 
 impl Content {
-    /// Takes a text, behind the blank lines that were passed over.
+    /// Takes a text, after the blank lines that were passed over.
     fn take(&mut self, text: &[u8], bad_line: CaseFault) -> Result<(), CaseFault> {
         match self {
             Content::Plain(content, blanks) => {

@@ -1,6 +1,7 @@
 //! Trying the cases of files, and telling which differ.
 ghost use Rattle.std.specs.Prelude.{◌≡◌, ◌+◌, ◌^◌, ◌-◌, min, if◌then◌else◌};
 
+use crate::answer::Answer;
 use crate::case::{Case, Part};
 use crate::judging::{Difference, differences};
 use crate::reading::cases;
@@ -15,8 +16,8 @@ pub trait Subject {
     /// Whether a part of a case is read as input. Every other part is wanted.
     fn reads(&self, kind: &str, case: &Case, part: &Part) -> bool;
 
-    /// The answer to a case, as the parts that are wanted of it.
-    fn answer(&mut self, alloc: Global, kind: &str, case: &Case) -> Result<Vec<Part>, Fail>;
+    /// Adds the parts that answer a case: those that are wanted of it.
+    fn answer(&mut self, kind: &str, case: &Case, answer: &mut Answer) -> Result<(), Fail>;
 }
 
 /// How many cases were tried, and how many of them differ.
@@ -88,13 +89,25 @@ fn try_case<R: Print + AllocGlobal, S: Subject>(
     case: &Case,
 ) -> Result<bool, Fail> {
     let kind = kind_of(file);
-    let answer = subject.answer(rt.alloc(), kind, case)?;
+    let answer = answer_to(rt.alloc(), subject, kind, case)?;
     let wanted = wanted_of(rt.alloc(), subject, kind, case)?;
     let found = differences(rt.alloc(), wanted.as_slice(), answer)?;
     for difference in &found {
         tell(rt, file, case, difference)?;
     }
     Ok(found.is_empty())
+}
+
+/// The parts that a case is answered by.
+fn answer_to<S: Subject>(
+    alloc: Global,
+    subject: &mut S,
+    kind: &str,
+    case: &Case,
+) -> Result<Vec<Part>, Fail> {
+    let mut answer = Answer::new(alloc);
+    subject.answer(kind, case, &mut answer)?;
+    Ok(answer.into_parts())
 }
 
 /// The parts of a case that are wanted: those that are not read.
@@ -113,7 +126,7 @@ fn wanted_of<'c, S: Subject>(
     Ok(wanted)
 }
 
-/// The name of a file, behind its folders, up to its first `-` or `.`.
+/// The name of a file, after its folders, up to its first `-` or `.`.
 fn kind_of(file: &str) -> &str {
     let name = file.rsplit('/').next().unwrap_or(file);
     name.split(['-', '.']).next().unwrap_or(name)
@@ -131,7 +144,7 @@ fn tell<R: Print + AllocGlobal>(
     tell_side(rt, "got   ", difference.got.as_ref())
 }
 
-/// Tells the content of a part behind a word, or that there is no such part.
+/// Tells the content of a part after a word, or that there is no such part.
 fn tell_side<R: Print + AllocGlobal>(rt: &R, word: &str, part: Option<&Part>) -> Result<(), Fail> {
     match part {
         Some(part) => {

@@ -41,7 +41,7 @@ fn rename(alloc: Global, keeper: &mut MemKeeper, name: &str) -> Result<(), Fail>
     }
 }
 
-/// What a keeper's tables show: each row in a line, and an empty line behind each list.
+/// What a keeper's tables show: each row in a line, and an empty line after each list.
 pub fn shown<K: Keeper>(alloc: Global, keeper: &mut K) -> Result<String, Fail> {
     let Ok(tables) = keeper.load() else {
         return Err(Fail::new("a keeper did not load its tables"));

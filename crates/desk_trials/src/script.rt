@@ -96,7 +96,7 @@ impl Script {
         self.taken(output).0
     }
 
-    /// How many of the script's responses an output begins with, and how many bytes of the next one it has behind them;
+    /// How many of the script's responses an output begins with, and how many bytes of the next one it has after them;
     /// nothing where something else stands there.
     pub fn progress(&self, output: &[u8]) -> Option<(usize, usize)> {
         let (count, rest) = self.taken(output);
@@ -148,7 +148,7 @@ impl Script {
     }
 }
 
-/// What stands behind the front of these bytes, where that is their front.
+/// What stands after the front of these bytes, where that is their front.
 fn behind<'b>(bytes: &'b [u8], front: &[u8]) -> Option<&'b [u8]> {
     if bytes.starts_with(front) {
         bytes.get(front.len()..)

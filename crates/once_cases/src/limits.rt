@@ -1,6 +1,6 @@
 //! The limit of an index.
 use desk_base::{Duplicate, Grid, List, Text};
-use desk_cases::{Case, Part};
+use desk_cases::{Answer, Case};
 use fix_model::{Kit, Rule};
 use master_index::{BuildFault, MapBook, SortedBook};
 use std::alloc::Global;
@@ -11,11 +11,20 @@ const ROWS: u32 = 20_000;
 
 /// `built`, or why there is no index over 20,000 rows of five columns and rules of so many triples, one of which two
 /// rules have. Both indexes have to tell the same.
-pub fn told(alloc: Global, case: &Case) -> Result<Vec<Part>, Fail> {
+pub fn told(case: &Case, answer: &mut Answer) -> Result<(), Fail> {
     let Some(triples) = case.number("triples") else {
         return Err(Fail::new("a case has no number of triples"));
     };
-    let kit = kit(alloc, u16::try_from(triples).unwrap_or(u16::MAX))?;
+    let kit = kit(answer.alloc(), u16::try_from(triples).unwrap_or(u16::MAX))?;
+    match built(answer.alloc(), kit)? {
+        None => answer.text("wanted", "built"),
+        Some(BuildFault::NoMemory) => Err(Fail::new("there was no memory")),
+        Some(fault) => answer.shown("wanted", &fault),
+    }
+}
+
+/// Why there is no index over a kit, if there is none.
+fn built(alloc: Global, kit: Kit) -> Result<Option<BuildFault>, Fail> {
     if !kit.valid() {
         return Err(Fail::new("so many triples make no valid kit"));
     }
@@ -23,32 +32,34 @@ pub fn told(alloc: Global, case: &Case) -> Result<Vec<Part>, Fail> {
     if SortedBook::build(alloc, kit).err() != fault {
         return Err(Fail::new("the indexes have other limits"));
     }
-    let mut answer = Vec::new(alloc);
-    match fault {
-        None => answer.push(Part::new(alloc, "wanted", b"built")?)?,
-        Some(BuildFault::NoMemory) => return Err(Fail::new("there was no memory")),
-        Some(fault) => {
-            let fault = format!(in alloc; "{fault:?}")?;
-            answer.push(Part::new(alloc, "wanted", fault.as_str().as_bytes())?)?;
-        }
-    }
-    Ok(answer)
+    Ok(fault)
 }
 
 fn kit(alloc: Global, triples: u16) -> Result<Kit, Fail> {
+    let masters = masters(alloc)?;
+    let rules = rules(alloc, triples)?;
+    let folded = List::from_vec(vec![in alloc; false, false, false, false]?);
+    Ok(Kit {
+        width: 4,
+        rules,
+        masters,
+        folded,
+    })
+}
+
+fn masters(alloc: Global) -> Result<List<Grid>, Fail> {
     let mut masters = List::new(alloc);
     masters.push(grid(alloc)?)?;
+    Ok(masters)
+}
+
+fn rules(alloc: Global, triples: u16) -> Result<List<Rule>, Fail> {
     let mut rules = List::new(alloc);
     rules.push(rule(alloc, 0, 3)?)?;
     for triple in 0..triples {
         rules.push(rule(alloc, triple, 2)?)?;
     }
-    Ok(Kit {
-        width: 4,
-        rules,
-        masters,
-        folded: List::from_vec(vec![in alloc; false, false, false, false]?),
-    })
+    Ok(rules)
 }
 
 /// A rule of a triple, with this head.

@@ -1,91 +1,128 @@
 //! Looks for a rule over all three books.
-ghost use Rattle.std.specs.Prelude.{◌<◌, length};
 ghost use Rattle.fix_model.specs.States.{Fits};
 ghost use Rattle.fix_model.specs.Valid.{IsValid};
 
 use case_json::case_of;
 use desk_base::{Duplicate, Steps};
-use desk_cases::{Case, Part};
+use desk_cases::{Answer, Case};
 use fix_model::{Book, Hit, Kit, ListBook, State, enabled};
 use master_index::{MapBook, SortedBook};
-use std::alloc::Global;
+use std::alloc::{AllocError, Global};
 use std::test::Fail;
 
-/// What a look for a rule finds, and whether some row agrees at its covered keys.
-type Look = (Option<Hit>, bool);
+/// What a look for the first rule finds, if the rule is enabled, and how many comparisons it takes; and whether some row
+/// agrees at the rule's covered keys.
+#[derive(Clone, Copy)]
+pub struct Look {
+    pub found: Option<Hit>,
+    pub compares: u64,
+    pub agrees: bool,
+}
 
-/// What a look for the first rule finds, if the rule is enabled, and whether some row agrees at its covered keys. The
-/// plain book and both indexes have to tell the same.
-pub fn told(alloc: Global, case: &Case) -> Result<Vec<Part>, Fail> {
-    let record = case_of(alloc, case.bytes("input")?)?;
-    if record.kit.rules.is_empty() {
-        return Err(Fail::new("a case of looks has no rule"));
+impl Look {
+    /// Whether another look tells the same rows.
+    fn has_rows_of(self, other: Look) -> bool {
+        self.found == other.found && self.agrees == other.agrees
     }
-    let (found, agrees) = looked(alloc, record.kit, &record.state)?;
-    let found = shown(alloc, found)?;
-    let mut answer = Vec::new(alloc);
-    answer.push(Part::new(alloc, "found", found.as_str().as_bytes())?)?;
-    answer.push(Part::truth(alloc, "agrees", agrees)?)?;
-    Ok(answer)
+}
+
+/// What a look for the first rule finds, and whether some row agrees at its covered keys. The plain book and both
+/// indexes have to tell the same.
+pub fn told(case: &Case, answer: &mut Answer) -> Result<(), Fail> {
+    let look = looked(answer.alloc(), case.bytes("input")?)?;
+    add_found(look.found, answer)?;
+    answer.truth("agrees", look.agrees)
+}
+
+fn looked(alloc: Global, input: &[u8]) -> Result<Look, Fail> {
+    let record = case_of(alloc, input)?;
+    let look = over_all(alloc, &record.kit, &record.state);
+    drop(record);
+    look
 }
 
 /// What the three books tell, which has to be the same.
-fn looked(alloc: Global, kit: Kit, state: &State) -> Result<Look, Fail>
-    requires valid { IsValid kit }
-    requires some { 0 < length kit.rules }
-    requires fits { Fits kit state.now }
+fn over_all(alloc: Global, kit: &Kit, state: &State) -> Result<Look, Fail>
+    requires valid { IsValid kit.now }
+    requires fits { Fits kit.now state.now }
 {
-    let sorted = over_sorted(alloc, kit.copy()?, state)?;
-    let map = over_map(alloc, kit.copy()?, state)?;
-    let plain = look(&ListBook::new(kit), state);
-    if sorted != plain || map != plain {
-        return Err(Fail::new("the books tell other rows"));
+    let plain = over_list(kit, state)?;
+    let map = over_map(alloc, kit, state)?;
+    let sorted = over_sorted(alloc, kit, state)?;
+    if plain.has_rows_of(map) && plain.has_rows_of(sorted) {
+        return Ok(plain);
     }
-    Ok(plain)
+    Err(Fail::new("the books tell other rows"))
 }
 
-fn over_sorted(alloc: Global, kit: Kit, state: &State) -> Result<Look, Fail>
-    requires valid { IsValid kit }
-    requires some { 0 < length kit.rules }
-    requires fits { Fits kit state.now }
+fn over_list(kit: &Kit, state: &State) -> Result<Look, Fail>
+    requires valid { IsValid kit.now }
+    requires fits { Fits kit.now state.now }
 {
-    let book = SortedBook::build(alloc, kit)?;
-    Ok(look(&book, state))
+    let book = ListBook::new(kit.copy()?);
+    let look = look_into(&book, state);
+    drop(book);
+    look
 }
 
-fn over_map(alloc: Global, kit: Kit, state: &State) -> Result<Look, Fail>
-    requires valid { IsValid kit }
-    requires some { 0 < length kit.rules }
-    requires fits { Fits kit state.now }
+fn over_map(alloc: Global, kit: &Kit, state: &State) -> Result<Look, Fail>
+    requires valid { IsValid kit.now }
+    requires fits { Fits kit.now state.now }
 {
-    let book = MapBook::build(alloc, kit)?;
-    Ok(look(&book, state))
+    let book = MapBook::build(alloc, kit.copy()?)?;
+    let look = look_into(&book, state);
+    drop(book);
+    look
 }
 
-fn look<B: Book<()>>(book: &B, state: &State) -> Look
-    requires some { 0 < length (B.kit book.now).rules }
-    requires fits { Fits (B.kit book.now) state.now }
+/// What a sorted index of this kit tells.
+pub fn over_sorted(alloc: Global, kit: &Kit, state: &State) -> Result<Look, Fail>
+    requires valid { IsValid kit.now }
+    requires fits { Fits kit.now state.now }
 {
+    let book = SortedBook::build(alloc, kit.copy()?)?;
+    let look = look_into(&book, state);
+    drop(book);
+    look
+}
+
+fn look_into<B: Book<()>>(book: &B, state: &State) -> Result<Look, Fail>
+    requires { Fits (B.kit book.now) state.now }
+{
+    if book.rules().is_empty() {
+        return Err(Fail::new("a case of looks has no rule"));
+    }
+    let agrees = book.agrees(0, state, &mut Steps::new(()));
     let mut counts = Steps::new(());
-    let agrees = book.agrees(0, state, &mut counts);
-    if enabled::<(), B>(book, state, &book.rules()[0]) {
-        (book.find(0, state, &mut counts), agrees)
+    let found = if enabled::<(), B>(book, state, &book.rules()[0]) {
+        book.find(0, state, &mut counts)
     } else {
-        (None, agrees)
-    }
+        None
+    };
+    let compares = counts.compares();
+    Ok(Look {
+        found,
+        compares,
+        agrees,
+    })
 }
 
-/// The first row and the other one, counted from 1.
-pub fn shown(alloc: Global, found: Option<Hit>) -> Result<String, Fail> {
+/// Adds the first row and the other one, counted from 1.
+pub fn add_found(found: Option<Hit>, answer: &mut Answer) -> Result<(), Fail> {
+    let mut text = String::new(answer.alloc());
+    tell(&mut text, found)?;
+    answer.text("found", text.as_str())
+}
+
+fn tell(text: &mut String, found: Option<Hit>) -> Result<(), AllocError> {
     let Some(hit) = found else {
-        return Ok(String::from_str(alloc, "none")?);
+        return text.push_str("none");
     };
     let first = u64::from(hit.first).saturating_add(1);
-    match hit.other {
-        Some(other) => {
-            let other = u64::from(other).saturating_add(1);
-            Ok(format!(in alloc; "row {first}, and row {other} gives another text")?)
-        }
-        None => Ok(format!(in alloc; "row {first}")?),
+    write!(text, "row {first}")?;
+    if let Some(other) = hit.other {
+        let other = u64::from(other).saturating_add(1);
+        write!(text, ", and row {other} gives another text")?;
     }
+    Ok(())
 }

@@ -13,8 +13,7 @@ mod looks;
 mod shelves;
 mod sweeps;
 
-use desk_cases::{Case, Part, Subject, try_files};
-use std::alloc::Global;
+use desk_cases::{Answer, Case, Part, Subject, try_files};
 use std::test::Fail;
 
 /// What runs the command `once` and words that are no command, and builds indexes.
@@ -29,15 +28,15 @@ impl Subject for Runs {
         )
     }
 
-    fn answer(&mut self, alloc: Global, kind: &str, case: &Case) -> Result<Vec<Part>, Fail> {
+    fn answer(&mut self, kind: &str, case: &Case, answer: &mut Answer) -> Result<(), Fail> {
         match kind {
-            "find" => finds::told(alloc, case),
-            "index" => limits::told(alloc, case),
-            "look" => looks::told(alloc, case),
-            "once" => calls::answer(alloc, case),
-            "shelf" => shelves::told(alloc, case),
-            "reads" => sweeps::each_read_fails(alloc, case),
-            "writes" => sweeps::each_write_fails(alloc, case),
+            "find" => finds::told(case, answer),
+            "index" => limits::told(case, answer),
+            "look" => looks::told(case, answer),
+            "once" => calls::told(case, answer),
+            "shelf" => shelves::told(case, answer),
+            "reads" => sweeps::each_read_fails(case, answer),
+            "writes" => sweeps::each_write_fails(case, answer),
             _ => Err(Fail::new("a file of cases has an unknown kind")),
         }
     }

@@ -1,6 +1,6 @@
 //! Files of cases, and their judge.
 use desk_cases::{Answer, Case, CaseFault, Difference, Part, cases, differences};
-use std::alloc::{AllocError, Global};
+use std::alloc::AllocError;
 use std::test::Fail;
 
 /// The title of each case of a file, behind `== `, and its parts, each as its name, `=` and its content; or why the

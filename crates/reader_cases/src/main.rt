@@ -12,7 +12,6 @@ mod schemas;
 mod sheets;
 
 use desk_cases::{Answer, Case, Part, Subject, try_files};
-use std::alloc::Global;
 use std::test::Fail;
 
 /// What reads and prints.
@@ -28,31 +27,24 @@ impl Subject for Readers {
         }
     }
 
-    fn answer(&mut self, alloc: Global, kind: &str, case: &Case) -> Result<Vec<Part>, Fail> {
-        let mut answer = Answer::new(alloc);
-        add_answer(kind, case, &mut answer)?;
-        Ok(answer.into_parts())
-    }
-}
-
-/// Adds the answer to a case of this kind.
-fn add_answer(kind: &str, case: &Case, answer: &mut Answer) -> Result<(), Fail> {
-    match kind {
-        "adapter" => lists::adapter(case, answer),
-        "file" => files::file(case, answer),
-        "grid" => lists::grid(case, answer),
-        "judge" => files::judge(case, answer),
-        "list" => lists::list(case, answer),
-        "places" => lists::places(case, answer),
-        "text" => base::text(case, answer),
-        "word" => base::word(case, answer),
-        "source" => base::source(case, answer),
-        "sink" => base::sink(case, answer),
-        "schema" => schemas::schema(case, answer),
-        "sheet" => sheets::sheet(case, answer),
-        "sheet_size" => sheets::sheet_size(case, answer),
-        "sheet_cells" => sheets::sheet_cells(case, answer),
-        _ => Err(Fail::new("a file of cases has an unknown kind")),
+    fn answer(&mut self, kind: &str, case: &Case, answer: &mut Answer) -> Result<(), Fail> {
+        match kind {
+            "adapter" => lists::adapter(case, answer),
+            "file" => files::file(case, answer),
+            "grid" => lists::grid(case, answer),
+            "judge" => files::judge(case, answer),
+            "list" => lists::list(case, answer),
+            "places" => lists::places(case, answer),
+            "text" => base::text(case, answer),
+            "word" => base::word(case, answer),
+            "source" => base::source(case, answer),
+            "sink" => base::sink(case, answer),
+            "schema" => schemas::schema(case, answer),
+            "sheet" => sheets::sheet(case, answer),
+            "sheet_size" => sheets::sheet_size(case, answer),
+            "sheet_cells" => sheets::sheet_cells(case, answer),
+            _ => Err(Fail::new("a file of cases has an unknown kind")),
+        }
     }
 }
 

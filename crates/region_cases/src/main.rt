@@ -13,7 +13,6 @@ mod steps;
 mod telling;
 
 use desk_cases::{Answer, Case, Part, Subject, try_files};
-use std::alloc::Global;
 use std::test::Fail;
 
 /// What makes steps and runs, checks regions and suggests.
@@ -28,21 +27,14 @@ impl Subject for Suggester {
         )
     }
 
-    fn answer(&mut self, alloc: Global, kind: &str, case: &Case) -> Result<Vec<Part>, Fail> {
-        let mut answer = Answer::new(alloc);
-        add_answer(kind, case, &mut answer)?;
-        Ok(answer.into_parts())
-    }
-}
-
-/// Adds the answer to a case of this kind.
-fn add_answer(kind: &str, case: &Case, answer: &mut Answer) -> Result<(), Fail> {
-    match kind {
-        "reason" => reasons::told(case, answer),
-        "region" => telling::told(case, answer),
-        "run" => runs::told(case, answer),
-        "step" => steps::told(case, answer),
-        _ => Err(Fail::new("a file of cases has an unknown kind")),
+    fn answer(&mut self, kind: &str, case: &Case, answer: &mut Answer) -> Result<(), Fail> {
+        match kind {
+            "reason" => reasons::told(case, answer),
+            "region" => telling::told(case, answer),
+            "run" => runs::told(case, answer),
+            "step" => steps::told(case, answer),
+            _ => Err(Fail::new("a file of cases has an unknown kind")),
+        }
     }
 }
 

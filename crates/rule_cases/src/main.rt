@@ -8,7 +8,6 @@ mod binding;
 mod texts;
 
 use desk_cases::{Answer, Case, Part, Subject, try_files};
-use std::alloc::Global;
 use std::test::Fail;
 
 /// What reads, prints and binds.
@@ -20,19 +19,12 @@ impl Subject for Rules {
         matches!(part.name.as_str(), "attributes" | "text")
     }
 
-    fn answer(&mut self, alloc: Global, kind: &str, case: &Case) -> Result<Vec<Part>, Fail> {
-        let mut answer = Answer::new(alloc);
-        add_answer(kind, case, &mut answer)?;
-        Ok(answer.into_parts())
-    }
-}
-
-/// Adds the answer to a case of this kind.
-fn add_answer(kind: &str, case: &Case, answer: &mut Answer) -> Result<(), Fail> {
-    match kind {
-        "read" => texts::told(case, answer),
-        "bind" => binding::told(case, answer),
-        _ => Err(Fail::new("a file of cases has an unknown kind")),
+    fn answer(&mut self, kind: &str, case: &Case, answer: &mut Answer) -> Result<(), Fail> {
+        match kind {
+            "read" => texts::told(case, answer),
+            "bind" => binding::told(case, answer),
+            _ => Err(Fail::new("a file of cases has an unknown kind")),
+        }
     }
 }
 

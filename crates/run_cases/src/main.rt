@@ -5,14 +5,12 @@
 //! `docs/cases.md` says how a case is written, and the README which parts these have.
 #![tactic(auto)]
 
-mod calls;
 mod making;
 mod streams;
 mod sweeps;
 
-use desk_cases::{Case, Part, Subject, try_files};
+use desk_cases::{Answer, Case, Part, Subject, try_files};
 use desk_trials::Script;
-use std::alloc::Global;
 use std::test::Fail;
 
 /// What calls `run`, with the script as far as it was read.
@@ -33,19 +31,19 @@ impl Subject for Runs {
         }
     }
 
-    fn answer(&mut self, alloc: Global, kind: &str, case: &Case) -> Result<Vec<Part>, Fail> {
+    fn answer(&mut self, kind: &str, case: &Case, answer: &mut Answer) -> Result<(), Fail> {
+        let script = &self.script;
         match kind {
             "desk" => {
-                let answer = streams::next(alloc, &self.script, case)?;
-                self.script.add(alloc, case)?;
-                Ok(answer)
+                streams::next(script, case, answer)?;
+                self.script.add(answer.alloc(), case)
             }
-            "stream" => streams::told(alloc, &self.script, case),
-            "each" => streams::each(alloc, case),
-            "made" => making::told(alloc, case),
-            "early" => sweeps::each_end(alloc, &self.script, case),
-            "reads" => sweeps::each_read_fails(alloc, &self.script, case),
-            "writes" => sweeps::each_write_fails(alloc, &self.script, case),
+            "stream" => streams::told(script, case, answer),
+            "each" => streams::each(case, answer),
+            "made" => making::told(case, answer),
+            "early" => sweeps::each_end(script, case, answer),
+            "reads" => sweeps::each_read_fails(script, case, answer),
+            "writes" => sweeps::each_write_fails(script, case, answer),
             _ => Err(Fail::new("a file of cases has an unknown kind")),
         }
     }

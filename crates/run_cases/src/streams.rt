@@ -1,10 +1,9 @@
 //! Calls of `run` as cases state them, in turn over one keeper.
 ghost use Rattle.std.specs.Prelude.{◌≡◌, length};
 
-use crate::calls::{Call, Told, USUAL_CUT, serve};
-use desk_base::{MemSource, Source};
-use desk_cases::{Case, Part, add_once};
-use desk_trials::{Script, fresh, keeper_of, shown, words_of};
+use desk_base::{MemLink, MemSource, Source};
+use desk_cases::{Answer, Case, Part};
+use desk_trials::{Call, Script, Told, cut_of, fresh, keeper_of, serve, shown, words_of};
 use keeper_core::MemKeeper;
 use std::alloc::Global;
 use std::test::Fail;
@@ -43,6 +42,9 @@ const CALLS: [Names; 3] = [
     },
 ];
 
+/// How many bytes are read at once of what a call has left.
+const PIECE: usize = 65_536;
+
 /// The parts whose words name other parts.
 const NAMING: [&str; 7] = [
     "sent",
@@ -64,110 +66,105 @@ pub fn reads(case: &Case, name: &str) -> bool {
 }
 
 /// What the request of a case is answered in a stream of its own, over the tables that the script left so far.
-pub fn next(alloc: Global, script: &Script, case: &Case) -> Result<Vec<Part>, Fail> {
-    let mut keeper = fresh(alloc)?;
-    let _before = serve(alloc, &mut keeper, script.first(alloc, script.len())?)?;
-    next_over(alloc, case, &mut keeper)
+pub fn next(script: &Script, case: &Case, answer: &mut Answer) -> Result<(), Fail> {
+    let mut keeper = fresh(answer.alloc())?;
+    let told = next_over(script, case, &mut keeper, answer);
+    drop(keeper);
+    told
 }
 
-/// What the request of a case is answered in a stream of its own over a keeper.
-fn next_over(alloc: Global, case: &Case, keeper: &mut MemKeeper) -> Result<Vec<Part>, Fail> {
-    let request = Vec::from_slice(alloc, case.bytes("request")?)?;
-    answer_parts(alloc, &serve(alloc, keeper, request)?)
+/// The same over a keeper.
+fn next_over(
+    script: &Script,
+    case: &Case,
+    keeper: &mut MemKeeper,
+    answer: &mut Answer,
+) -> Result<(), Fail> {
+    send(answer.alloc(), script, keeper)?;
+    let told = serve(answer.alloc(), keeper, case.bytes("request")?)?;
+    told.add_response(answer)
 }
 
-/// The parts that tell a response, and a status that is not 0.
-fn answer_parts(alloc: Global, told: &Told) -> Result<Vec<Part>, Fail> {
-    let mut answer = Vec::new(alloc);
-    if told.status != 0 {
-        answer.push(Part::number(alloc, "status", u64::from(told.status))?)?;
-    }
-    answer.push(Part::new(alloc, "response", told.output.as_slice())?)?;
-    Ok(answer)
+/// Sends the requests of the script to a keeper.
+fn send(alloc: Global, script: &Script, keeper: &mut MemKeeper) -> Result<(), Fail> {
+    let requests = script.first(alloc, script.len())?;
+    let _told = serve(alloc, keeper, requests.as_slice())?;
+    Ok(())
 }
 
 /// What each part `request` of a case is answered in a stream of its own by an empty desk, and what the words of each
 /// part `words` are, told once where it is the same. What is not answered as is wanted is a part besides.
-pub fn each(alloc: Global, case: &Case) -> Result<Vec<Part>, Fail> {
-    let mut answer = Vec::new(alloc);
+pub fn each(case: &Case, answer: &mut Answer) -> Result<(), Fail> {
     for part in &case.parts {
-        if let Some(call) = one(alloc, part)? {
-            add_one(alloc, &mut answer, case, part, &call)?;
+        match part.name.as_str() {
+            "request" => add_one(case, part, b"pipe", part.content.as_slice(), answer)?,
+            "words" => add_one(case, part, part.content.as_slice(), &[], answer)?,
+            _ => {}
         }
     }
-    Ok(answer)
-}
-
-/// The call that a part alone is.
-fn one(alloc: Global, part: &Part) -> Result<Option<Call>, Fail> {
-    let bytes = part.content.as_slice();
-    match part.name.as_str() {
-        "request" => Ok(Some(Call::pipe(alloc, Vec::from_slice(alloc, bytes)?)?)),
-        "words" => Ok(Some(Call::of_words(alloc, bytes)?)),
-        _ => Ok(None),
-    }
-}
-
-/// What a call over an empty desk told.
-pub fn alone(alloc: Global, call: &Call) -> Result<Told, Fail> {
-    let mut keeper = fresh(alloc)?;
-    call.make(alloc, &mut keeper)
-}
-
-/// Adds what a call was answered, unless another was answered so before it, and the part where it is answered otherwise
-/// than is wanted.
-fn add_one(
-    alloc: Global,
-    answer: &mut Vec<Part>,
-    case: &Case,
-    part: &Part,
-    call: &Call,
-) -> Result<(), Fail> {
-    let told = alone(alloc, call)?;
-    let output = told.output.as_slice();
-    if case.part("response") != Some(output) {
-        answer.push(Part::new(alloc, "answered otherwise", part.content.as_slice())?)?;
-    }
-    add_once(
-        answer,
-        Part::number(alloc, "status", u64::from(told.status))?,
-    )?;
-    add_once(answer, Part::new(alloc, "response", output)?)?;
     Ok(())
 }
 
+/// Adds what the words of a part are answered, or what is answered to the bytes that it sends.
+fn add_one(
+    case: &Case,
+    part: &Part,
+    words: &[u8],
+    input: &[u8],
+    answer: &mut Answer,
+) -> Result<(), Fail> {
+    let told = alone(answer.alloc(), words, input)?;
+    add_told(case, part, &told, answer)
+}
+
+/// What these words over this input are told by an empty desk.
+pub fn alone(alloc: Global, words: &[u8], input: &[u8]) -> Result<Told, Fail> {
+    let words = words_of(alloc, words)?;
+    Call::new(words.as_slice(), input).make_alone(alloc)
+}
+
+/// Adds what was told, unless another part was answered so before, and the part where it is answered otherwise than is
+/// wanted.
+fn add_told(case: &Case, part: &Part, told: &Told, answer: &mut Answer) -> Result<(), Fail> {
+    let output = told.output.as_slice();
+    if case.part("response") != Some(output) {
+        answer.bytes("answered otherwise", part.content.as_slice())?;
+    }
+    answer.number_once("status", u64::from(told.status))?;
+    answer.bytes_once("response", output)
+}
+
 /// What the calls of a case were answered, and whether its keeper is left with the tables that are wanted.
-pub fn told(alloc: Global, script: &Script, case: &Case) -> Result<Vec<Part>, Fail> {
-    let mut keeper = keeper_of(alloc, case)?;
-    told_over(alloc, script, case, &mut keeper)
+pub fn told(script: &Script, case: &Case, answer: &mut Answer) -> Result<(), Fail> {
+    let mut keeper = keeper_of(answer.alloc(), case)?;
+    let told = told_over(script, case, &mut keeper, answer);
+    drop(keeper);
+    told
 }
 
 /// The same over the keeper of the case.
 fn told_over(
-    alloc: Global,
     script: &Script,
     case: &Case,
     keeper: &mut MemKeeper,
-) -> Result<Vec<Part>, Fail> {
-    let mut answer = Vec::new(alloc);
+    answer: &mut Answer,
+) -> Result<(), Fail> {
     for names in &CALLS {
         if is_made(case, names) {
-            add_call(alloc, &mut answer, script, case, keeper, names)?;
+            add_call(script, case, keeper, names, answer)?;
         }
     }
-    if let Some(words) = case.text("tables") {
-        answer.push(tables_part(alloc, script, case, words, keeper)?)?;
-    }
+    script.add_tables(case, keeper, answer)?;
     if case.part("rows").is_some() {
-        answer.push(rows_part(alloc, keeper)?)?;
+        add_rows(keeper, answer)?;
     }
-    Ok(answer)
+    Ok(())
 }
 
 /// What the tables show, row by row.
-fn rows_part(alloc: Global, keeper: &mut MemKeeper) -> Result<Part, Fail> {
-    let found = shown(alloc, keeper)?;
-    Ok(Part::new(alloc, "rows", found.as_str().as_bytes())?)
+fn add_rows(keeper: &mut MemKeeper, answer: &mut Answer) -> Result<(), Fail> {
+    let found = shown(answer.alloc(), keeper)?;
+    answer.text("rows", found.as_str())
 }
 
 /// Whether a case has a call: it says its words, what is sent or what is wanted.
@@ -179,85 +176,65 @@ fn is_made(case: &Case, names: &Names) -> bool {
 
 /// Makes a call, and adds what it was answered.
 fn add_call(
-    alloc: Global,
-    answer: &mut Vec<Part>,
     script: &Script,
     case: &Case,
     keeper: &mut MemKeeper,
     names: &Names,
+    answer: &mut Answer,
 ) -> Result<(), Fail> {
-    let mut told = call_of(alloc, script, case, names)?.make(alloc, keeper)?;
-    answer.push(Part::number(alloc, names.status, u64::from(told.status))?)?;
-    answer.push(answered_part(alloc, script, case, names, &told)?)?;
+    let words = words_of(answer.alloc(), case.part(names.words).unwrap_or(b"pipe"))?;
+    let sent = case.text(names.sent).unwrap_or("");
+    let sent = script.named(answer.alloc(), case, sent)?;
+    let mut call = Call::new(words.as_slice(), sent.as_slice());
+    call.cut = cut_of(case);
+    make_call(script, case, keeper, names, &call, answer)
+}
+
+fn make_call(
+    script: &Script,
+    case: &Case,
+    keeper: &mut MemKeeper,
+    names: &Names,
+    call: &Call<'_>,
+    answer: &mut Answer,
+) -> Result<(), Fail> {
+    let mut link = call.link(answer.alloc())?;
+    let status = call.make_over(answer.alloc(), keeper, &mut link);
+    tell_call(script, case, names, status, &mut link, answer)
+}
+
+fn tell_call(
+    script: &Script,
+    case: &Case,
+    names: &Names,
+    status: u8,
+    link: &mut MemLink,
+    answer: &mut Answer,
+) -> Result<(), Fail> {
+    answer.number(names.status, u64::from(status))?;
+    add_answered(script, case, names, link.sink.bytes(), answer)?;
     if case.part(names.left).is_some() {
-        let left = left(alloc, &mut told.source)? as u64;
-        answer.push(Part::number(alloc, names.left, left)?)?;
+        let left = left(answer.alloc(), &mut link.source)? as u64;
+        answer.number(names.left, left)?;
     }
     Ok(())
 }
 
-/// The call of a case whose parts have these names.
-fn call_of(alloc: Global, script: &Script, case: &Case, names: &Names) -> Result<Call, Fail> {
-    let sent = case.text(names.sent).unwrap_or("");
-    let mut call = Call::pipe(alloc, script.named(alloc, case, sent)?)?;
-    if let Some(text) = case.part(names.words) {
-        call.words = words_of(alloc, text)?;
-    }
-    call.cut = cut(case);
-    Ok(call)
-}
-
-/// How many bytes a call of an end of the link moves at most.
-pub fn cut(case: &Case) -> usize {
-    match case.number("cut") {
-        Some(cut) => usize::try_from(cut).unwrap_or(usize::MAX),
-        None => USUAL_CUT,
-    }
-}
-
-fn answered_part(
-    alloc: Global,
+fn add_answered(
     script: &Script,
     case: &Case,
     names: &Names,
-    told: &Told,
-) -> Result<Part, Fail> {
+    output: &[u8],
+    answer: &mut Answer,
+) -> Result<(), Fail> {
     let words = case.text(names.answered).unwrap_or("");
-    let answered = script.answered(alloc, case, words, told.output.as_slice())?;
-    Ok(Part::new(alloc, names.answered, answered.as_slice())?)
-}
-
-/// The words, where the keeper has the tables that the requests leave which they name; else what the tables show.
-fn tables_part(
-    alloc: Global,
-    script: &Script,
-    case: &Case,
-    words: &str,
-    keeper: &mut MemKeeper,
-) -> Result<Part, Fail> {
-    let input = script.named(alloc, case, words)?;
-    let found = shown(alloc, keeper)?;
-    if leave(alloc, input, found.as_str())? {
-        Ok(Part::new(alloc, "tables", words.as_bytes())?)
-    } else {
-        Ok(Part::new(alloc, "tables", found.as_str().as_bytes())?)
-    }
-}
-
-/// Whether requests to an empty desk leave tables that show this.
-pub fn leave(alloc: Global, requests: Vec<u8>, wanted: &str) -> Result<bool, Fail> {
-    let mut keeper = fresh(alloc)?;
-    let _told = serve(alloc, &mut keeper, requests)?;
-    shows(alloc, &mut keeper, wanted)
-}
-
-fn shows(alloc: Global, keeper: &mut MemKeeper, wanted: &str) -> Result<bool, Fail> {
-    Ok(shown(alloc, keeper)?.as_str() == wanted)
+    let answered = script.answered(answer.alloc(), case, words, output)?;
+    answer.bytes(names.answered, answered.as_slice())
 }
 
 /// How many bytes a source has left.
 fn left(alloc: Global, source: &mut MemSource) -> Result<usize, Fail> {
-    let mut piece = vec![in alloc; 0u8; USUAL_CUT]?;
+    let mut piece = vec![in alloc; 0u8; PIECE]?;
     count_left(source, piece.as_mut_slice())
 }
 

@@ -1,8 +1,7 @@
 //! The script, cut off after each of its first bytes, and over links of which each call fails in turn.
-use crate::calls::{Call, Told, serve};
-use crate::streams::{alone, cut, leave};
-use desk_cases::{Case, Part};
-use desk_trials::{Script, Table, fresh, shown};
+use crate::streams::alone;
+use desk_cases::{Answer, Case};
+use desk_trials::{Call, End, Script, Table, Told, cut_of, fresh, leave, serve, shown, words_of};
 use keeper_core::MemKeeper;
 use std::alloc::Global;
 use std::test::Fail;
@@ -11,71 +10,110 @@ use std::test::Fail;
 const MOST: usize = 10_000;
 
 /// What the script is answered that ends after each of its first bytes: the status, and how many responses are written.
-pub fn each_end(alloc: Global, script: &Script, case: &Case) -> Result<Vec<Part>, Fail> {
-    let bytes = script.first(alloc, script.len())?;
-    let most = count(case, "bytes")?.min(bytes.len());
-    let mut table = Table::new(alloc);
-    for taken in 0..=most {
-        let front = bytes.as_slice().get(..taken).unwrap_or(&[]);
+pub fn each_end(script: &Script, case: &Case, answer: &mut Answer) -> Result<(), Fail> {
+    let most = count(case, "bytes")?;
+    let bytes = script.first(answer.alloc(), script.len())?;
+    let mut table = Table::new(answer.alloc());
+    tell_ends(answer.alloc(), script, bytes.as_slice(), most, &mut table)?;
+    add_table(table, answer)
+}
+
+fn tell_ends(
+    alloc: Global,
+    script: &Script,
+    bytes: &[u8],
+    most: usize,
+    table: &mut Table,
+) -> Result<(), Fail> {
+    for taken in 0..=most.min(bytes.len()) {
+        let front = bytes.get(..taken).unwrap_or(&[]);
         table.add(alloc, taken, answered(alloc, script, front)?)?;
     }
-    wanted_part(alloc, table)
+    Ok(())
 }
 
 /// What these bytes are answered by an empty desk.
 fn answered(alloc: Global, script: &Script, bytes: &[u8]) -> Result<String, Fail> {
-    let call = Call::pipe(alloc, Vec::from_slice(alloc, bytes)?)?;
-    ended(alloc, script, &alone(alloc, &call)?)
+    let told = alone(alloc, b"pipe", bytes)?;
+    ended(alloc, script, &told)
 }
 
 /// What the script is answered where one read fails: the first, the second, and so on to the first that is not made.
-pub fn each_read_fails(alloc: Global, script: &Script, case: &Case) -> Result<Vec<Part>, Fail> {
-    let mut call = Call::pipe(alloc, script.first(alloc, script.len())?)?;
-    call.cut = cut(case);
-    let mut table = Table::new(alloc);
-    for read in 1..MOST {
-        call.read_fails = Some(read as u64);
-        let (line, is_last) = read_line(alloc, script, &call)?;
-        table.add(alloc, read, line)?;
-        if is_last {
-            return wanted_part(alloc, table);
-        }
-    }
-    Err(Fail::new("each read of many fails"))
-}
-
-/// What is told of a call in which a read fails, and whether none failed.
-fn read_line(alloc: Global, script: &Script, call: &Call) -> Result<(String, bool), Fail> {
-    let mut keeper = fresh(alloc)?;
-    let told = call.make(alloc, &mut keeper)?;
-    Ok((taken(alloc, script, &mut keeper, &told)?, told.status == 0))
-}
-
-/// What is told of a call in which a write fails, and whether none failed.
-fn write_line(alloc: Global, script: &Script, call: &Call) -> Result<(String, bool), Fail> {
-    let mut keeper = fresh(alloc)?;
-    let told = call.make(alloc, &mut keeper)?;
-    Ok((
-        written(alloc, script, &mut keeper, &told)?,
-        told.status == 0,
-    ))
+pub fn each_read_fails(script: &Script, case: &Case, answer: &mut Answer) -> Result<(), Fail> {
+    each_fails(End::Source, script.len(), script, case, answer)
 }
 
 /// What the script's first requests are answered where one write fails: the first, the second, and so on to the first
 /// that is not made.
-pub fn each_write_fails(alloc: Global, script: &Script, case: &Case) -> Result<Vec<Part>, Fail> {
-    let mut call = Call::pipe(alloc, script.first(alloc, count(case, "requests")?)?)?;
-    call.cut = cut(case);
-    let mut table = Table::new(alloc);
-    for write in 1..MOST {
-        call.write_fails = Some(write as u64);
-        let (line, is_last) = write_line(alloc, script, &call)?;
-        table.add(alloc, write, line)?;
+pub fn each_write_fails(script: &Script, case: &Case, answer: &mut Answer) -> Result<(), Fail> {
+    each_fails(End::Sink, count(case, "requests")?, script, case, answer)
+}
+
+/// What the script's first so many requests are answered where one call of an end of the link fails.
+fn each_fails(
+    end: End,
+    requests: usize,
+    script: &Script,
+    case: &Case,
+    answer: &mut Answer,
+) -> Result<(), Fail> {
+    let words = words_of(answer.alloc(), b"pipe")?;
+    let requests = script.first(answer.alloc(), requests)?;
+    let mut call = Call::new(words.as_slice(), requests.as_slice());
+    call.cut = cut_of(case);
+    add_lines(end, script, &mut call, answer)
+}
+
+fn add_lines(
+    end: End,
+    script: &Script,
+    call: &mut Call<'_>,
+    answer: &mut Answer,
+) -> Result<(), Fail> {
+    let mut table = Table::new(answer.alloc());
+    tell_lines(answer.alloc(), end, script, call, &mut table)?;
+    add_table(table, answer)
+}
+
+fn tell_lines(
+    alloc: Global,
+    end: End,
+    script: &Script,
+    call: &mut Call<'_>,
+    table: &mut Table,
+) -> Result<(), Fail> {
+    for number in 1..MOST {
+        call.fails = Some((end, number as u64));
+        let (line, is_last) = line(alloc, end, script, call)?;
+        table.add(alloc, number, line)?;
         if is_last {
-            return wanted_part(alloc, table);
+            return Ok(());
         }
     }
-    Err(Fail::new("each write of many fails"))
+    Err(Fail::new("each call of many fails"))
+}
+
+/// What is told of a call in which a call of this end fails, and whether none failed.
+fn line(alloc: Global, end: End, script: &Script, call: &Call<'_>) -> Result<(String, bool), Fail> {
+    let mut keeper = fresh(alloc)?;
+    let line = line_over(alloc, end, script, call, &mut keeper);
+    drop(keeper);
+    line
+}
+
+fn line_over(
+    alloc: Global,
+    end: End,
+    script: &Script,
+    call: &Call<'_>,
+    keeper: &mut MemKeeper,
+) -> Result<(String, bool), Fail> {
+    let told = call.make(alloc, keeper)?;
+    let line = match end {
+        End::Source => taken(alloc, script, keeper, &told),
+        End::Sink => written(alloc, script, keeper, &told),
+    };
+    Ok((line?, told.status == 0))
 }
 
 /// The status, and how many responses were written, where nothing else was.
@@ -94,15 +132,26 @@ fn taken(
     keeper: &mut MemKeeper,
     told: &Told,
 ) -> Result<String, Fail> {
-    let ended = ended(alloc, script, told)?;
     let whole = match script.progress(told.output.as_slice()) {
         Some((whole, _)) => whole,
         None => 0,
     };
+    let same = yes_or_no(is_left(alloc, script, keeper, whole)?);
+    let mut line = ended(alloc, script, told)?;
+    write!(line, " {same}")?;
+    Ok(line)
+}
+
+/// Whether the tables are those that so many requests leave.
+fn is_left(
+    alloc: Global,
+    script: &Script,
+    keeper: &mut MemKeeper,
+    whole: usize,
+) -> Result<bool, Fail> {
     let found = shown(alloc, keeper)?;
     let requests = script.first(alloc, whole)?;
-    let same = yes_or_no(leave(alloc, requests, found.as_str())?);
-    Ok(format!(in alloc; "{ended} {same}")?)
+    leave(alloc, requests.as_slice(), found.as_str())
 }
 
 /// The status, how many responses were written in full, and how many bytes of the next. Where a write failed, also
@@ -134,7 +183,7 @@ fn is_answered_again(
     let Some((request, response)) = script.at(place) else {
         return Ok(false);
     };
-    let told = serve(alloc, keeper, Vec::from_slice(alloc, request)?)?;
+    let told = serve(alloc, keeper, request)?;
     Ok(told.status == 0 && told.output.as_slice() == response)
 }
 
@@ -150,9 +199,7 @@ fn count(case: &Case, name: &str) -> Result<usize, Fail> {
     }
 }
 
-fn wanted_part(alloc: Global, table: Table) -> Result<Vec<Part>, Fail> {
-    let lines = table.finish(alloc)?;
-    let mut answer = Vec::new(alloc);
-    answer.push(Part::new(alloc, "wanted", lines.as_str().as_bytes())?)?;
-    Ok(answer)
+fn add_table(table: Table, answer: &mut Answer) -> Result<(), Fail> {
+    let lines = table.finish(answer.alloc())?;
+    answer.text("wanted", lines.as_str())
 }

@@ -1,49 +1,32 @@
 //! What calls left, as parts of an answer.
-use crate::calls::Served;
 use desk_base::MemLink;
-use desk_cases::{Case, Part, add_once};
+use desk_cases::{Answer, Case};
 use desk_trials::add_word;
-use std::alloc::Global;
 use std::test::Fail;
 
-/// Adds the status, what was said and how many links were handed out, each unless it was told so before.
-pub fn add_end(alloc: Global, answer: &mut Vec<Part>, served: &Served) -> Result<(), Fail> {
-    add_once(
-        answer,
-        Part::number(alloc, "status", u64::from(served.status))?,
-    )?;
-    add_once(answer, Part::new(alloc, "said", served.out.bytes())?)?;
-    add_once(answer, accepted_part(alloc, served.door.accepted())?)?;
-    Ok(())
-}
-
-/// How many links were handed out, or `none` where the door was not bound.
-fn accepted_part(alloc: Global, accepted: Option<u32>) -> Result<Part, Fail> {
+/// Adds the status, what was said and how many links were handed out, `none` where the door was not bound, each unless
+/// it was told so before.
+pub fn add_end(
+    status: u8,
+    said: &[u8],
+    accepted: Option<u32>,
+    answer: &mut Answer,
+) -> Result<(), Fail> {
+    answer.number_once("status", u64::from(status))?;
+    answer.bytes_once("said", said)?;
     match accepted {
-        Some(count) => Part::number(alloc, "accepted", u64::from(count)),
-        None => Ok(Part::new(alloc, "accepted", b"none")?),
+        Some(count) => answer.number_once("accepted", u64::from(count)),
+        None => answer.bytes_once("accepted", b"none"),
     }
 }
 
-/// Adds what each closed link was written.
-pub fn add_answers(
-    alloc: Global,
-    answer: &mut Vec<Part>,
-    case: &Case,
-    closed: &[MemLink],
-) -> Result<(), Fail> {
-    let names = names_of(alloc, case, closed)?;
-    answer.push(Part::new(alloc, "answers", names.as_slice())?)?;
-    Ok(())
-}
-
-/// For each closed link the name of the part that it was written, or else the bytes themselves.
-fn names_of(alloc: Global, case: &Case, closed: &[MemLink]) -> Result<Vec<u8>, Fail> {
-    let mut names = Vec::new(alloc);
+/// Adds for each closed link the name of the part that it was written, or else the bytes themselves.
+pub fn add_answers(case: &Case, closed: &[MemLink], answer: &mut Answer) -> Result<(), Fail> {
+    let mut names = Vec::new(answer.alloc());
     for link in closed {
         add_word(&mut names, name_of(case, link.sink.bytes()))?;
     }
-    Ok(names)
+    answer.bytes("answers", names.as_slice())
 }
 
 /// The name of the first part of a case with these bytes, and `nothing` for none; else the bytes.

@@ -8,11 +8,9 @@
 mod answers;
 mod calls;
 mod doors;
-mod tables;
 mod visits;
 
-use desk_cases::{Case, Part, Subject, try_files};
-use std::alloc::Global;
+use desk_cases::{Answer, Case, Part, Subject, try_files};
 use std::test::Fail;
 
 /// The parts whose words name other parts.
@@ -31,10 +29,10 @@ impl Subject for Serves {
         }
     }
 
-    fn answer(&mut self, alloc: Global, kind: &str, case: &Case) -> Result<Vec<Part>, Fail> {
+    fn answer(&mut self, kind: &str, case: &Case, answer: &mut Answer) -> Result<(), Fail> {
         match kind {
-            "serve" => visits::told(alloc, case),
-            "words" => visits::each(alloc, case),
+            "serve" => visits::told(case, answer),
+            "words" => visits::each(case, answer),
             _ => Err(Fail::new("a file of cases has an unknown kind")),
         }
     }

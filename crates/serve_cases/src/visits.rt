@@ -1,62 +1,82 @@
 //! Calls of `serve` as cases state them.
 use crate::answers::{add_answers, add_end};
 use crate::calls::{Served, call};
-use crate::tables::add_tables;
-use desk_cases::{Case, Part};
-use desk_trials::{fresh, keeper_of};
+use desk_base::MemLink;
+use desk_cases::{Answer, Case, Part};
+use desk_trials::{Script, fresh, keeper_of};
 use keeper_core::MemKeeper;
 use std::alloc::Global;
 use std::test::Fail;
 
 /// What the call of a case was answered, and what is left of its door and of its keeper's tables.
-pub fn told(alloc: Global, case: &Case) -> Result<Vec<Part>, Fail> {
-    let mut keeper = keeper_of(alloc, case)?;
-    told_over(alloc, case, &mut keeper)
+pub fn told(case: &Case, answer: &mut Answer) -> Result<(), Fail> {
+    let mut keeper = keeper_of(answer.alloc(), case)?;
+    let told = told_over(case, &mut keeper, answer);
+    drop(keeper);
+    told
 }
 
-/// The same over the keeper of the case.
-fn told_over(alloc: Global, case: &Case, keeper: &mut MemKeeper) -> Result<Vec<Part>, Fail> {
-    let mut answer = Vec::new(alloc);
-    add_call(alloc, &mut answer, case, keeper)?;
-    add_tables(alloc, &mut answer, case, keeper)?;
-    Ok(answer)
+/// The same over the keeper of the case. Its words name parts of the case alone, as over a script without requests.
+fn told_over(case: &Case, keeper: &mut MemKeeper, answer: &mut Answer) -> Result<(), Fail> {
+    add_call(case, keeper, answer)?;
+    Script::new(answer.alloc()).add_tables(case, keeper, answer)
 }
 
 /// Makes the call of a case, and adds what it left of the output and of the door.
-fn add_call(
-    alloc: Global,
-    answer: &mut Vec<Part>,
+fn add_call(case: &Case, keeper: &mut MemKeeper, answer: &mut Answer) -> Result<(), Fail> {
+    let Served { status, out, door } = call(answer.alloc(), case, case.bytes("words")?, keeper)?;
+    let accepted = door.accepted();
+    let closed = door.into_closed();
+    tell_call(
+        case,
+        status,
+        out.bytes(),
+        accepted,
+        closed.as_slice(),
+        answer,
+    )
+}
+
+fn tell_call(
     case: &Case,
-    keeper: &mut MemKeeper,
+    status: u8,
+    said: &[u8],
+    accepted: Option<u32>,
+    closed: &[MemLink],
+    answer: &mut Answer,
 ) -> Result<(), Fail> {
-    let served = call(alloc, case, case.bytes("words")?, keeper)?;
-    add_end(alloc, answer, &served)?;
-    let closed = served.door.into_closed();
-    add_answers(alloc, answer, case, closed.as_slice())
+    add_end(status, said, accepted, answer)?;
+    add_answers(case, closed, answer)
 }
 
 /// What the words of each part `words` of a case are answered, over a door without links.
-pub fn each(alloc: Global, case: &Case) -> Result<Vec<Part>, Fail> {
-    let mut answer = Vec::new(alloc);
+pub fn each(case: &Case, answer: &mut Answer) -> Result<(), Fail> {
     for part in &case.parts {
         if part.name.as_str() == "words" {
-            add_one(alloc, &mut answer, case, part)?;
+            add_one(case, part, answer)?;
         }
     }
-    Ok(answer)
+    Ok(())
 }
 
 /// Adds what the call with these words left, and the words where another thing was said than is wanted.
-fn add_one(alloc: Global, answer: &mut Vec<Part>, case: &Case, words: &Part) -> Result<(), Fail> {
-    let served = alone(alloc, case, words.content.as_slice())?;
-    if case.part("said") != Some(served.out.bytes()) {
-        answer.push(Part::new(alloc, "answered otherwise", words.content.as_slice())?)?;
+fn add_one(case: &Case, words: &Part, answer: &mut Answer) -> Result<(), Fail> {
+    let served = alone(answer.alloc(), case, words.content.as_slice())?;
+    tell_one(case, words, &served, answer)
+}
+
+fn tell_one(case: &Case, words: &Part, served: &Served, answer: &mut Answer) -> Result<(), Fail> {
+    let said = served.out.bytes();
+    if case.part("said") != Some(said) {
+        answer.bytes("answered otherwise", words.content.as_slice())?;
     }
-    add_end(alloc, answer, &served)
+    add_end(served.status, said, served.door.accepted(), answer)
 }
 
 /// Makes a call with these words over an empty desk.
 fn alone(alloc: Global, case: &Case, words: &[u8]) -> Result<Served, Fail> {
     let mut keeper = fresh(alloc)?;
-    call(alloc, case, words, &mut keeper)
+    let served = call(alloc, case, words, &mut keeper);
+    drop(keeper);
+    served
 }

@@ -8,9 +8,8 @@ mod door;
 mod peers;
 mod visits;
 
-use desk_cases::{Case, Part, Subject, try_files};
+use desk_cases::{Answer, Case, Part, Subject, try_files};
 use peers::is_sent;
-use std::alloc::Global;
 use std::test::Fail;
 
 /// What opens sockets.
@@ -24,9 +23,9 @@ impl Subject for Sockets<'_> {
         is_sent(part)
     }
 
-    fn answer(&mut self, alloc: Global, kind: &str, case: &Case) -> Result<Vec<Part>, Fail> {
+    fn answer(&mut self, kind: &str, case: &Case, answer: &mut Answer) -> Result<(), Fail> {
         match kind {
-            "socket" => visits::told(alloc, self.rt, case),
+            "socket" => visits::told(self.rt, case, answer),
             _ => Err(Fail::new("a file of cases has an unknown kind")),
         }
     }

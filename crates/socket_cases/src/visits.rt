@@ -4,7 +4,7 @@ ghost use Rattle.std.specs.Prelude.{◌≡◌};
 use crate::door::PeerDoor;
 use crate::peers::{Peers, count_of};
 use desk_base::{List, MemSink};
-use desk_cases::{Case, Part};
+use desk_cases::{Answer, Case};
 use desk_trials::{fresh, words_of};
 use fixdesk_run::serve;
 use keeper_core::MemKeeper;
@@ -30,11 +30,11 @@ struct Served {
 }
 
 /// The status of `serve` and what it said, over the first port that is free, and what each peer was sent.
-pub fn told(alloc: Global, rt: &HostRuntime, case: &Case) -> Result<Vec<Part>, Fail> {
+pub fn told(rt: &HostRuntime, case: &Case, answer: &mut Answer) -> Result<(), Fail> {
     for port in FIRST_PORT..FIRST_PORT + 100 {
-        let served = serve_at(alloc, rt, case, port)?;
-        if served.status != DOOR_FAILED {
-            return parts(alloc, served);
+        let Served { status, out, peers } = serve_at(answer.alloc(), rt, case, port)?;
+        if status != DOOR_FAILED {
+            return add_served(status, out.bytes(), peers, answer);
         }
     }
     Err(Fail::new("the door failed at each port"))
@@ -45,8 +45,20 @@ fn serve_at(alloc: Global, rt: &HostRuntime, case: &Case, port: u16) -> Result<S
     let count = count_of(case);
     let words = format!(in alloc; "{port} {count}")?;
     let words = words_of(alloc, words.as_bytes())?;
+    serve_with(alloc, rt, case, words.as_slice())
+}
+
+/// Serves with these words.
+fn serve_with(
+    alloc: Global,
+    rt: &HostRuntime,
+    case: &Case,
+    words: &[String],
+) -> Result<Served, Fail> {
     let mut keeper = fresh(alloc)?;
-    serve_over(alloc, rt, case, words.as_slice(), &mut keeper)
+    let served = serve_over(alloc, rt, case, words, &mut keeper);
+    drop(keeper);
+    served
 }
 
 /// Serves over this keeper.
@@ -64,18 +76,17 @@ fn serve_over(
     Ok(Served { status, out, peers })
 }
 
-fn parts(alloc: Global, served: Served) -> Result<Vec<Part>, Fail> {
-    let mut answer = Vec::new(alloc);
-    answer.push(Part::number(alloc, "status", u64::from(served.status))?)?;
-    answer.push(Part::new(alloc, "said", served.out.bytes())?)?;
-    add_read(alloc, &mut answer, served.peers)?;
-    Ok(answer)
+fn add_served(status: u8, said: &[u8], peers: Peers, answer: &mut Answer) -> Result<(), Fail> {
+    let read = peers.read_all(answer.alloc())?;
+    answer.number("status", u64::from(status))?;
+    answer.bytes("said", said)?;
+    add_read(read.as_slice(), answer)
 }
 
 /// Adds what each peer was sent.
-fn add_read(alloc: Global, answer: &mut Vec<Part>, peers: Peers) -> Result<(), Fail> {
-    for bytes in &peers.read_all(alloc)? {
-        answer.push(Part::new(alloc, "read", bytes.as_slice())?)?;
+fn add_read(read: &[Vec<u8>], answer: &mut Answer) -> Result<(), Fail> {
+    for bytes in read {
+        answer.bytes("read", bytes.as_slice())?;
     }
     Ok(())
 }

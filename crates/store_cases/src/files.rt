@@ -1,8 +1,8 @@
 //! The script over a file at a path, which is opened anew for each stream.
-use crate::script::Script;
-use crate::sent::{IN_TURN, Stream, add_stream, tables_part};
+use crate::sent::{IN_TURN, Stream};
 use desk_base::Str;
-use desk_cases::{Case, Part};
+use desk_cases::{Answer, Case};
+use desk_trials::{Script, serve};
 use keeper_core::Keeper;
 use keeper_sqlite::FileKeeper;
 use sqlite::{FileFrom, FileStore, Start, Unknown};
@@ -17,7 +17,12 @@ type Keeping<'r, S> = FileKeeper<'r, S, FileStore<FileFrom<S>>>;
 /// without its log, whether that file has the tables that are wanted then, and what stands at its name and at that of
 /// its log. Nothing stands there before but what the case lays there, or a copy of the file that it begins from, and
 /// nothing is left.
-pub fn told(rt: &HostRuntime, script: &Script, case: &Case) -> Result<Vec<Part>, Fail> {
+pub fn told(
+    rt: &HostRuntime,
+    script: &Script,
+    case: &Case,
+    answer: &mut Answer,
+) -> Result<(), Fail> {
     let Some(path) = case.text("file") else {
         return Err(Fail::new("a case does not name its file"));
     };
@@ -29,9 +34,8 @@ pub fn told(rt: &HostRuntime, script: &Script, case: &Case) -> Result<Vec<Part>,
         case,
         path,
     };
-    let answer = trial.told()?;
-    remove(rt, path)?;
-    Ok(answer)
+    trial.tell(answer)?;
+    remove(rt, path)
 }
 
 /// What is tried: the streams of a case over the file at a path.
@@ -44,22 +48,25 @@ struct Trial<'t> {
 }
 
 impl<'t> Trial<'t> {
-    fn told(&self) -> Result<Vec<Part>, Fail> {
+    fn tell(&self, answer: &mut Answer) -> Result<(), Fail> {
         let log = log_of(self.rt, self.path)?;
+        self.tell_with(log.as_str(), answer)
+    }
+
+    /// The same, where the log has this name.
+    fn tell_with(&self, log: &str, answer: &mut Answer) -> Result<(), Fail> {
         self.lay("stands", self.path)?;
-        self.lay("log stands", log.as_str())?;
-        let mut answer = Vec::new(self.rt.alloc());
+        self.lay("log stands", log)?;
         for stream in IN_TURN {
             if stream.is_in(self.case) {
-                self.add_stream(&mut answer, stream, Unknown)?;
+                self.add_stream(stream, Unknown, answer)?;
             }
         }
-        if let Some(words) = self.case.text("tables") {
-            answer.push(self.tables(words, Unknown)?)?;
+        if self.case.part("tables").is_some() {
+            self.add_tables(Unknown, answer)?;
         }
-        self.add_left(&mut answer, "left", self.path)?;
-        self.add_left(&mut answer, "log left", log.as_str())?;
-        Ok(answer)
+        self.add_left("left", self.path, answer)?;
+        self.add_left("log left", log, answer)
     }
 
     /// Writes what stands in a part to a file, where the case has that part.
@@ -75,27 +82,23 @@ impl<'t> Trial<'t> {
 
     /// Adds what stands in a file, where the case asks for it: `as before` where it has the bytes of the file that the
     /// case begins from, `none` where there is none.
-    fn add_left(&self, answer: &mut Vec<Part>, part: &'static str, path: &str) -> Result<(), Fail> {
+    fn add_left(&self, part: &'static str, path: &str, answer: &mut Answer) -> Result<(), Fail> {
         if self.case.part(part).is_none() {
             return Ok(());
         }
-        let alloc = self.rt.alloc();
-        let left = match fs::read(self.rt, path) {
-            Ok(bytes) => self.left(part, bytes.as_slice())?,
-            Err(error) if error.kind() == ErrorKind::NotFound => Part::new(alloc, part, b"none")?,
-            Err(_) => return Err(Fail::new("a file of a case was not read")),
-        };
-        answer.push(left)?;
-        Ok(())
+        match fs::read(self.rt, path) {
+            Ok(bytes) => self.add_bytes(part, bytes.as_slice(), answer),
+            Err(error) if error.kind() == ErrorKind::NotFound => answer.text(part, "none"),
+            Err(_) => Err(Fail::new("a file of a case was not read")),
+        }
     }
 
-    /// These bytes of a file, or that they are as before.
-    fn left(&self, part: &'static str, bytes: &[u8]) -> Result<Part, Fail> {
-        let alloc = self.rt.alloc();
+    /// Adds these bytes of a file, or that they are as before.
+    fn add_bytes(&self, part: &'static str, bytes: &[u8], answer: &mut Answer) -> Result<(), Fail> {
         if self.is_as_before(bytes)? {
-            Ok(Part::new(alloc, part, b"as before")?)
+            answer.text(part, "as before")
         } else {
-            Ok(Part::new(alloc, part, bytes)?)
+            answer.bytes(part, bytes)
         }
     }
 
@@ -114,62 +117,87 @@ impl<'t> Trial<'t> {
     /// that is for a second keeper.
     fn add_stream<S: Start>(
         &self,
-        answer: &mut Vec<Part>,
         stream: Stream,
         start: S,
+        answer: &mut Answer,
     ) -> Result<(), Fail> {
         let mut keeper = self.keeper(start)?;
-        self.send(answer, stream, &mut keeper)?;
-        if stream == Stream::First && Stream::Beside.is_in(self.case) {
-            self.add_beside(answer, Unknown)?;
+        let sent = self.send_all(stream, &mut keeper, answer);
+        match sent {
+            Ok(()) => self.end(keeper),
+            Err(fail) => {
+                drop(keeper);
+                Err(fail)
+            }
         }
-        self.end(keeper)
+    }
+
+    /// Sends a stream to a keeper, and beside the first one that for a second keeper.
+    fn send_all<K: Keeper>(
+        &self,
+        stream: Stream,
+        keeper: &mut K,
+        answer: &mut Answer,
+    ) -> Result<(), Fail> {
+        self.send(stream, keeper, answer)?;
+        if stream == Stream::First && Stream::Beside.is_in(self.case) {
+            self.add_beside(Unknown, answer)?;
+        }
+        Ok(())
     }
 
     /// Ends a keeper, and removes the log of a file from which tables were loaded: nothing of it is needed.
     fn end<S: Start>(&self, keeper: Keeping<'t, S>) -> Result<(), Fail> {
-        match keeper.close() {
-            Ok(Some(_files)) => {
-                let log = log_of(self.rt, self.path)?;
-                remove_one(self.rt, log.as_str())
-            }
-            Ok(None) => Ok(()),
-            Err(_) => Err(Fail::new("the keeper of a case did not end")),
+        if !has_loaded(keeper)? {
+            return Ok(());
         }
+        let log = log_of(self.rt, self.path)?;
+        remove_one(self.rt, log.as_str())
     }
 
     /// Sends the stream beside to a second keeper at the same path.
-    fn add_beside<S: Start>(&self, answer: &mut Vec<Part>, start: S) -> Result<(), Fail> {
+    fn add_beside<S: Start>(&self, start: S, answer: &mut Answer) -> Result<(), Fail> {
         let mut keeper = self.keeper(start)?;
-        self.send(answer, Stream::Beside, &mut keeper)
+        let sent = self.send(Stream::Beside, &mut keeper, answer);
+        drop(keeper);
+        sent
     }
 
     /// Sends a stream to a keeper.
     fn send<K: Keeper>(
         &self,
-        answer: &mut Vec<Part>,
         stream: Stream,
         keeper: &mut K,
+        answer: &mut Answer,
     ) -> Result<(), Fail> {
-        add_stream(
-            self.rt.alloc(),
-            answer,
-            self.script,
-            self.case,
-            keeper,
-            stream,
-        )
+        let requests = stream.requests(answer.alloc(), self.script, self.case)?;
+        let told = serve(answer.alloc(), keeper, requests.as_slice())?;
+        stream.add_told(self.script, self.case, &told, answer)
     }
 
-    /// Whether a keeper of its own loads the tables that the words name.
-    fn tables<S: Start>(&self, words: &str, start: S) -> Result<Part, Fail> {
+    /// Adds whether a keeper of its own loads the tables that the case wants.
+    fn add_tables<S: Start>(&self, start: S, answer: &mut Answer) -> Result<(), Fail> {
         let mut keeper = self.keeper(start)?;
-        tables_part(self.rt.alloc(), self.script, words, &mut keeper)
+        let added = self.script.add_tables(self.case, &mut keeper, answer);
+        drop(keeper);
+        added
     }
 
     fn keeper<S: Start>(&self, start: S) -> Result<Keeping<'t, S>, Fail> {
         let path = Str::new(self.rt.alloc(), self.path)?;
         Ok(FileKeeper::over(self.rt, path, start))
+    }
+}
+
+/// Ends a keeper, and says whether tables were loaded.
+fn has_loaded<S: Start>(keeper: Keeping<'_, S>) -> Result<bool, Fail> {
+    match keeper.close() {
+        Ok(files) => {
+            let has_loaded = files.is_some();
+            drop(files);
+            Ok(has_loaded)
+        }
+        Err(_) => Err(Fail::new("the keeper of a case did not end")),
     }
 }
 

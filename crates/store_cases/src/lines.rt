@@ -3,7 +3,7 @@ ghost use Rattle.std.specs.Prelude.{◌<◌, IfOk};
 
 use desk_base::List;
 use desk_packing::PackedRow;
-use std::alloc::Global;
+use std::alloc::{AllocError, Global};
 use std::test::Fail;
 
 /// The rows that the lines of a text are.
@@ -18,9 +18,7 @@ pub fn rows_in(alloc: Global, text: &str) -> Result<List<PackedRow>, Fail> {
 /// The lines that rows are.
 pub fn lines_of(alloc: Global, rows: &[PackedRow]) -> Result<String, Fail> {
     let mut lines = String::new(alloc);
-    for row in rows {
-        lines.push_str(line_of(alloc, row)?.as_str())?;
-    }
+    tell_rows(&mut lines, rows)?;
     Ok(lines)
 }
 
@@ -28,15 +26,17 @@ fn row_in(alloc: Global, line: &str) -> Result<PackedRow, Fail> {
     let (kind, rest) = field(line)?;
     let (owner, rest) = field(rest)?;
     let (place, digits) = field(rest)?;
+    let (kind, owner, place) = (number(kind)?, number(owner)?, number(place)?);
+    let body = bytes_in(alloc, digits)?;
     Ok(PackedRow {
-        kind: number(kind)?,
-        owner: number(owner)?,
-        place: number(place)?,
-        body: bytes_in(alloc, digits)?,
+        kind,
+        owner,
+        place,
+        body,
     })
 }
 
-/// The first field, and what stands behind it.
+/// The first field, and what stands after it.
 fn field(line: &str) -> Result<(&str, &str), Fail> {
     match line.split_once(" ") {
         Some(parts) => Ok(parts),
@@ -77,16 +77,14 @@ fn digit(byte: u8) -> Result<u8, Fail>
     }
 }
 
-fn line_of(alloc: Global, row: &PackedRow) -> Result<String, Fail> {
-    let (kind, owner, place) = (row.kind, row.owner, row.place);
-    let digits = digits_of(alloc, row.body.as_slice())?;
-    Ok(format!(in alloc; "{kind} {owner} {place} {digits}\n")?)
-}
-
-fn digits_of(alloc: Global, bytes: &[u8]) -> Result<String, Fail> {
-    let mut digits = String::new(alloc);
-    for byte in bytes {
-        digits.push_str(format!(in alloc; "{byte:02x}")?.as_str())?;
+fn tell_rows(lines: &mut String, rows: &[PackedRow]) -> Result<(), AllocError> {
+    for row in rows {
+        let (kind, owner, place) = (row.kind, row.owner, row.place);
+        write!(lines, "{kind} {owner} {place} ")?;
+        for byte in row.body.as_slice() {
+            write!(lines, "{byte:02x}")?;
+        }
+        lines.push_str("\n")?;
     }
-    Ok(digits)
+    Ok(())
 }

@@ -1,11 +1,6 @@
 //! Calls over databases in memory in which rows stand beforehand.
-use crate::calls::call;
-use crate::sent::status_part;
-use crate::stored::{in_memory, with_rows};
-use desk_cases::{Case, Part};
-use keeper_sqlite::SqlTables;
-use sqlite::MemStore;
-use std::alloc::Global;
+use crate::stored::Stored;
+use desk_cases::{Answer, Case};
 use std::test::Fail;
 
 /// The names of the parts of a call.
@@ -34,49 +29,48 @@ const CALLS: [Names; 2] = [
 
 /// What the calls of a case write, each by a keeper over the database that those before it left, and which rows stand
 /// then.
-pub fn told(alloc: Global, case: &Case) -> Result<Vec<Part>, Fail> {
-    let mut answer = Vec::new(alloc);
-    let mut keeper = in_memory(alloc, case.text("rows"))?;
+pub fn told(case: &Case, answer: &mut Answer) -> Result<(), Fail> {
+    let mut stored = Stored::holding(answer.alloc(), case.text("rows"))?;
+    let told = add_calls(case, &mut stored, answer);
+    drop(stored);
+    told
+}
+
+fn add_calls(case: &Case, stored: &mut Stored, answer: &mut Answer) -> Result<(), Fail> {
     for names in &CALLS {
         if case.part(names.status).is_some() {
-            keeper = add_call(alloc, &mut answer, case, keeper, names)?;
+            add_call(case, stored, names, answer)?;
         }
     }
-    Ok(answer)
+    Ok(())
 }
 
 /// Makes a call, and adds what it told and which rows stand then.
 fn add_call(
-    alloc: Global,
-    answer: &mut Vec<Part>,
     case: &Case,
-    keeper: SqlTables<MemStore>,
+    stored: &mut Stored,
     names: &Names,
-) -> Result<SqlTables<MemStore>, Fail> {
-    let (mut keeper, before) = with_rows(alloc, keeper)?;
-    add_told(alloc, answer, case, &mut keeper, names)?;
-    let (keeper, after) = with_rows(alloc, keeper)?;
-    answer.push(left_part(alloc, names, before.as_str(), after.as_str())?)?;
-    Ok(keeper)
-}
-
-/// Calls `run` over a keeper, and adds the status and what was written.
-fn add_told(
-    alloc: Global,
-    answer: &mut Vec<Part>,
-    case: &Case,
-    keeper: &mut SqlTables<MemStore>,
-    names: &Names,
+    answer: &mut Answer,
 ) -> Result<(), Fail> {
-    let words = case.text(names.words).unwrap_or("report");
-    let told = call(alloc, keeper, words, Vec::new(alloc))?;
-    answer.push(status_part(alloc, names.status, told.status)?)?;
-    answer.push(Part::new(alloc, names.written, told.output.as_slice())?)?;
-    Ok(())
+    let before = stored.renew(answer.alloc())?;
+    add_told(case, stored, names, answer)?;
+    let after = stored.renew(answer.alloc())?;
+    let is_same = before.as_str() == after.as_str();
+    answer.text(
+        names.left,
+        if is_same { "as before" } else { after.as_str() },
+    )
 }
 
-/// The rows that are left, or that they are those from before.
-fn left_part(alloc: Global, names: &Names, before: &str, after: &str) -> Result<Part, Fail> {
-    let left = if before == after { "as before" } else { after };
-    Ok(Part::new(alloc, names.left, left.as_bytes())?)
+/// Calls `run`, and adds the status and what was written.
+fn add_told(
+    case: &Case,
+    stored: &mut Stored,
+    names: &Names,
+    answer: &mut Answer,
+) -> Result<(), Fail> {
+    let words = case.part(names.words).unwrap_or(b"report");
+    let told = stored.call(answer.alloc(), words, &[])?;
+    answer.number(names.status, u64::from(told.status))?;
+    answer.bytes(names.written, told.output.as_slice())
 }

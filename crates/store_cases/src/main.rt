@@ -5,21 +5,16 @@
 //! `docs/cases.md` says how a case is written, and the README which parts these have.
 #![tactic(auto)]
 
-mod calls;
 mod disks;
 mod files;
-mod keeping;
 mod lines;
 mod loads;
-mod script;
 mod sent;
 mod stops;
 mod stored;
-mod table;
 
-use crate::script::Script;
-use desk_cases::{Case, Part, Subject, try_files};
-use std::alloc::Global;
+use desk_cases::{Answer, Case, Part, Subject, try_files};
+use desk_trials::Script;
 use std::test::Fail;
 
 /// What calls `run`, with the script as far as it was read, and with what opens files.
@@ -49,17 +44,16 @@ impl<'r> Subject for Runs<'r> {
         )
     }
 
-    fn answer(&mut self, alloc: Global, kind: &str, case: &Case) -> Result<Vec<Part>, Fail> {
+    fn answer(&mut self, kind: &str, case: &Case, answer: &mut Answer) -> Result<(), Fail> {
         match kind {
             "desk" => {
-                let answer = sent::next(alloc, &self.script, case)?;
-                self.script.add(alloc, case)?;
-                Ok(answer)
+                sent::next(&self.script, case, answer)?;
+                self.script.add(answer.alloc(), case)
             }
-            "script" => sent::told(alloc, &self.script, case),
-            "rows" => loads::told(alloc, case),
-            "file" => files::told(self.rt, &self.script, case),
-            "stop" => stops::told(alloc, &self.script, case),
+            "script" => sent::told(&self.script, case, answer),
+            "rows" => loads::told(case, answer),
+            "file" => files::told(self.rt, &self.script, case, answer),
+            "stop" => stops::told(&self.script, case, answer),
             _ => Err(Fail::new("a file of cases has an unknown kind")),
         }
     }

@@ -1,13 +1,9 @@
 //! The script over files that stop after so many calls: none, one, two, and so on to the first run that none of them
 //! stops.
-use crate::calls::{Told, serve};
-use crate::disks::{Kept, Stopping, closed, opened, opened_again, stopping, with_kept_rows};
-use crate::script::Script;
-use crate::stored::{in_memory, with_rows};
-use crate::table::Table;
-use desk_cases::{Case, Part};
-use keeper_sqlite::SqlTables;
-use sqlite::{Files, MemStore};
+use crate::disks::Disks;
+use crate::stored::Stored;
+use desk_cases::{Answer, Case};
+use desk_trials::{Script, Table, Told};
 use std::alloc::Global;
 use std::test::Fail;
 
@@ -18,8 +14,8 @@ const MOST: u64 = 10_000;
 const NOT_LOADED: u8 = 4;
 
 /// What is tried: the first requests of the script, over the rows of a case, and which rows stand before the keeper
-/// loads, when it has loaded, and behind each request, where nothing stops.
-#[derive(Debug, Drop)]
+/// loads, when it has loaded, and after each request, where nothing stops.
+#[derive(Drop)]
 struct Trial<'c> {
     script: &'c Script,
     rows: Option<&'c str>,
@@ -27,19 +23,12 @@ struct Trial<'c> {
     states: Vec<String>,
 }
 
-/// A run that stopped: in which step, 0 for the load and else the number of a request, and its files.
-#[derive(Drop)]
-struct Stop {
-    step: usize,
-    files: Files<Stopping>,
-}
-
 /// What the stops in one step left.
-#[derive(Clone, Copy, Debug, PartialEq, Eq)]
+#[derive(Clone, Copy, PartialEq, Eq)]
 enum Left {
     /// There was none.
     NoStop,
-    /// Each left the rows before the step, or those behind it, and the rest of the script is answered over them.
+    /// Each left the rows before the step, or those after it, and the rest of the script is answered over them.
     Whole,
     /// After so many calls other rows were left.
     Torn(u64),
@@ -48,18 +37,11 @@ enum Left {
 }
 
 /// What stops in each step leave.
-pub fn told(alloc: Global, script: &Script, case: &Case) -> Result<Vec<Part>, Fail> {
-    let trial = Trial::of(alloc, script, case)?;
-    let mut left = vec![in alloc; Left::NoStop; trial.count.saturating_add(1)]?;
-    for calls in 0..MOST {
-        let Some(stop) = trial.stop(alloc, calls)? else {
-            return wanted_part(alloc, left.as_slice());
-        };
-        let step = stop.step;
-        let found = trial.left(alloc, stop, calls)?;
-        note(left.as_mut_slice(), step, found);
-    }
-    Err(Fail::new("files stop after many calls"))
+pub fn told(script: &Script, case: &Case, answer: &mut Answer) -> Result<(), Fail> {
+    let trial = Trial::of(answer.alloc(), script, case)?;
+    let mut left = vec![in answer.alloc(); Left::NoStop; trial.count.saturating_add(1)]?;
+    trial.stop_each(answer.alloc(), left.as_mut_slice())?;
+    add_left(left.as_slice(), answer)
 }
 
 /// Notes what a stop in a step left, where no earlier one left what is wrong.
@@ -71,20 +53,14 @@ fn note(left: &mut [Left], step: usize, found: Left) {
     }
 }
 
-fn wanted_part(alloc: Global, left: &[Left]) -> Result<Vec<Part>, Fail> {
-    let lines = lines(alloc, left)?;
-    let mut answer = Vec::new(alloc);
-    answer.push(Part::new(alloc, "wanted", lines.as_str().as_bytes())?)?;
-    Ok(answer)
-}
-
-/// What the stops in each step left, in lines.
-fn lines(alloc: Global, left: &[Left]) -> Result<String, Fail> {
-    let mut table = Table::new(alloc);
+/// Adds what the stops in each step left, in lines.
+fn add_left(left: &[Left], answer: &mut Answer) -> Result<(), Fail> {
+    let mut table = Table::new(answer.alloc());
     for (step, left) in left.iter().enumerate() {
-        table.add(alloc, step, left.text(alloc)?)?;
+        table.add(answer.alloc(), step, left.text(answer.alloc())?)?;
     }
-    table.finish(alloc)
+    let lines = table.finish(answer.alloc())?;
+    answer.text("wanted", lines.as_str())
 }
 
 impl Left {
@@ -108,28 +84,55 @@ impl<'c> Trial<'c> {
                 .min(script.len()),
             None => return Err(Fail::new("a case does not say how many requests are sent")),
         };
+        let states = states(alloc, script, rows, count)?;
         Ok(Trial {
             script,
             rows,
             count,
-            states: states(alloc, script, rows, count)?,
+            states,
         })
     }
 
-    /// The run over files that stop after so many calls, where it stops.
-    fn stop(&self, alloc: Global, calls: u64) -> Result<Option<Stop>, Fail> {
-        match opened(alloc, stopping(alloc, self.rows, calls)?) {
-            Ok(keeper) => self.stop_in_run(alloc, keeper),
-            Err(files) => Ok(Some(Stop { step: 0, files })),
+    /// Has files stop after no call, one, two, and so on, and notes what each stop left.
+    fn stop_each(&self, alloc: Global, left: &mut [Left]) -> Result<(), Fail> {
+        for calls in 0..MOST {
+            match self.stop(alloc, calls)? {
+                Some((step, found)) => note(left, step, found),
+                None => return Ok(()),
+            }
+        }
+        Err(Fail::new("files stop after many calls"))
+    }
+
+    /// The step in which files stop after so many calls, 0 for the load and else the number of a request, and what that
+    /// stop left; none where they do not stop.
+    fn stop(&self, alloc: Global, calls: u64) -> Result<Option<(usize, Left)>, Fail> {
+        let mut disks = Disks::opened(alloc, self.rows, calls)?;
+        let stopped = self.stop_over(alloc, &mut disks, calls);
+        drop(disks);
+        stopped
+    }
+
+    fn stop_over(
+        &self,
+        alloc: Global,
+        disks: &mut Disks,
+        calls: u64,
+    ) -> Result<Option<(usize, Left)>, Fail> {
+        match self.step_of(alloc, disks)? {
+            Some(step) => Ok(Some((step, self.left(alloc, disks, step, calls)?))),
+            None => Ok(None),
         }
     }
 
-    /// The run over files that were opened, where it stops.
-    fn stop_in_run(&self, alloc: Global, mut keeper: Kept) -> Result<Option<Stop>, Fail> {
-        let requests = self.script.requests(alloc, 0, self.count)?;
-        let told = serve(alloc, &mut keeper, requests)?;
-        let files = closed(keeper);
-        Ok(self.stopped_in(&told).map(|step| Stop { step, files }))
+    /// The step in which files stop.
+    fn step_of(&self, alloc: Global, disks: &mut Disks) -> Result<Option<usize>, Fail> {
+        if !disks.are_open() {
+            return Ok(Some(0));
+        }
+        let requests = self.script.first(alloc, self.count)?;
+        let told = disks.serve(alloc, requests.as_slice())?;
+        Ok(self.stopped_in(&told))
     }
 
     /// The step in which the run stopped that told this.
@@ -144,20 +147,25 @@ impl<'c> Trial<'c> {
         }
     }
 
-    /// What a stop after so many calls left.
-    fn left(&self, alloc: Global, stop: Stop, calls: u64) -> Result<Left, Fail> {
-        let keeper = opened_again(alloc, stop.files)?;
-        let (keeper, found) = with_kept_rows(alloc, keeper)?;
-        if !self.stand_at(stop.step, found.as_str()) {
+    /// What a stop in a step, after so many calls, left.
+    fn left(
+        &self,
+        alloc: Global,
+        disks: &mut Disks,
+        step: usize,
+        calls: u64,
+    ) -> Result<Left, Fail> {
+        disks.crash(alloc)?;
+        if !self.stand_at(step, disks.renew(alloc)?.as_str()) {
             Ok(Left::Torn(calls))
-        } else if self.is_resumed(alloc, keeper, stop.step)? {
+        } else if self.is_resumed(alloc, disks, step)? {
             Ok(Left::Whole)
         } else {
             Ok(Left::NotResumed(calls))
         }
     }
 
-    /// Whether these rows stand before a step, or behind it.
+    /// Whether these rows stand before a step, or after it.
     fn stand_at(&self, step: usize, found: &str) -> bool {
         self.states
             .iter()
@@ -167,16 +175,21 @@ impl<'c> Trial<'c> {
     }
 
     /// Whether the requests from that of a step on are answered as in the script, and leave the rows that it leaves.
-    fn is_resumed(&self, alloc: Global, mut keeper: Kept, step: usize) -> Result<bool, Fail> {
-        let place = step.saturating_sub(1);
-        let requests = self.script.requests(alloc, place, self.count)?;
-        let told = serve(alloc, &mut keeper, requests)?;
-        let wanted = self.script.responses(alloc, place, self.count)?;
-        let (_keeper, rows) = with_kept_rows(alloc, keeper)?;
-        Ok(told.output.as_slice() == wanted.as_slice() && self.is_last(rows.as_str()))
+    fn is_resumed(&self, alloc: Global, disks: &mut Disks, step: usize) -> Result<bool, Fail> {
+        let is_answered = self.is_answered(alloc, disks, step.saturating_sub(1))?;
+        let rows = disks.renew(alloc)?;
+        Ok(is_answered && self.is_last(rows.as_str()))
     }
 
-    /// Whether these rows are those behind the last request.
+    /// Whether the requests from a place on, counted from 0, are answered as in the script.
+    fn is_answered(&self, alloc: Global, disks: &mut Disks, place: usize) -> Result<bool, Fail> {
+        let requests = self.script.requests(alloc, place, self.count)?;
+        let told = disks.serve(alloc, requests.as_slice())?;
+        let wanted = self.script.responses(alloc, place, self.count)?;
+        Ok(told.output.as_slice() == wanted.as_slice())
+    }
+
+    /// Whether these rows are those after the last request.
     fn is_last(&self, rows: &str) -> bool {
         match self.states.last() {
             Some(state) => state.as_str() == rows,
@@ -185,33 +198,53 @@ impl<'c> Trial<'c> {
     }
 }
 
-/// Which rows stand before the keeper loads, when it has loaded, and behind each of the first requests.
+/// Which rows stand before the keeper loads, when it has loaded, and after each of the first requests.
 fn states(
     alloc: Global,
     script: &Script,
     rows: Option<&str>,
     count: usize,
 ) -> Result<Vec<String>, Fail> {
+    let mut stored = Stored::holding(alloc, rows)?;
+    let states = states_of(alloc, script, &mut stored, count);
+    drop(stored);
+    states
+}
+
+fn states_of(
+    alloc: Global,
+    script: &Script,
+    stored: &mut Stored,
+    count: usize,
+) -> Result<Vec<String>, Fail> {
     let mut states = Vec::new(alloc);
-    let (mut keeper, before) = with_rows(alloc, in_memory(alloc, rows)?)?;
-    states.push(before)?;
-    keeper = add_state(alloc, &mut states, keeper, Vec::new(alloc))?;
-    for place in 0..count {
-        let request = script.requests(alloc, place, place.saturating_add(1))?;
-        keeper = add_state(alloc, &mut states, keeper, request)?;
-    }
+    add_states(alloc, &mut states, script, stored, count)?;
     Ok(states)
 }
 
-/// Adds the rows that stand behind these requests, in a stream of their own.
+fn add_states(
+    alloc: Global,
+    states: &mut Vec<String>,
+    script: &Script,
+    stored: &mut Stored,
+    count: usize,
+) -> Result<(), Fail> {
+    states.push(stored.renew(alloc)?)?;
+    add_state(alloc, states, stored, &[])?;
+    for place in 0..count {
+        let request = script.requests(alloc, place, place.saturating_add(1))?;
+        add_state(alloc, states, stored, request.as_slice())?;
+    }
+    Ok(())
+}
+
+/// Adds the rows that stand after these requests, in a stream of their own.
 fn add_state(
     alloc: Global,
     states: &mut Vec<String>,
-    mut keeper: SqlTables<MemStore>,
-    requests: Vec<u8>,
-) -> Result<SqlTables<MemStore>, Fail> {
-    let _told = serve(alloc, &mut keeper, requests)?;
-    let (keeper, rows) = with_rows(alloc, keeper)?;
-    states.push(rows)?;
-    Ok(keeper)
+    stored: &mut Stored,
+    requests: &[u8],
+) -> Result<(), Fail> {
+    let _told = stored.serve(alloc, requests)?;
+    Ok(states.push(stored.renew(alloc)?)?)
 }

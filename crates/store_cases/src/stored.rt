@@ -1,54 +1,92 @@
-//! The rows that stand in the database of a keeper.
+//! A keeper over a database in memory, and the rows that stand there.
 ghost use Rattle.std.specs.Prelude.{◌≡◌, false};
 
 use crate::lines::{lines_of, rows_in};
+use desk_cases::{Answer, Case};
 use desk_packing::PackedRow;
+use desk_trials::{Script, Told, call_words};
 use keeper_sqlite::SqlTables;
 use row_store::{Footing, all_rows, footing_of, make_table, put_rows};
 use sqlite::{Alter, Connection, MemStore};
 use std::alloc::Global;
+use std::mem;
 use std::test::Fail;
 
-/// A keeper over a database in memory in which these rows stand, or nothing where there is no text of rows.
-pub fn in_memory(alloc: Global, rows: Option<&str>) -> Result<SqlTables<MemStore>, Fail> {
-    let conn = Connection::open_in_memory(alloc)?;
-    match rows {
-        Some(rows) => standing(alloc, conn, rows),
-        None => Ok(SqlTables::over(conn)),
+/// A keeper over a database in memory. It has none only while it is renewed.
+#[derive(Drop)]
+pub struct Stored {
+    keeper: Option<SqlTables<MemStore>>,
+}
+
+impl Stored {
+    /// A keeper over a new database in which these rows stand, or nothing where there is no text of rows.
+    pub fn holding(alloc: Global, rows: Option<&str>) -> Result<Stored, Fail> {
+        let mut conn = Connection::open_in_memory(alloc)?;
+        match stand(alloc, &mut conn, rows) {
+            Ok(()) => Ok(Stored {
+                keeper: Some(SqlTables::over(conn)),
+            }),
+            Err(fail) => {
+                drop(conn);
+                Err(fail)
+            }
+        }
+    }
+
+    /// What the words of a text tell, where the link has this input.
+    pub fn call(&mut self, alloc: Global, words: &[u8], input: &[u8]) -> Result<Told, Fail> {
+        match &mut self.keeper {
+            Some(keeper) => call_words(alloc, keeper, words, input),
+            None => Err(no_keeper()),
+        }
+    }
+
+    /// What a stream of these bytes is answered.
+    pub fn serve(&mut self, alloc: Global, input: &[u8]) -> Result<Told, Fail> {
+        self.call(alloc, b"pipe", input)
+    }
+
+    /// Adds whether the tables are those that a case wants.
+    pub fn add_tables(
+        &mut self,
+        script: &Script,
+        case: &Case,
+        answer: &mut Answer,
+    ) -> Result<(), Fail> {
+        match &mut self.keeper {
+            Some(keeper) => script.add_tables(case, keeper, answer),
+            None => Err(no_keeper()),
+        }
+    }
+
+    /// Takes a new keeper over the same database, and tells the rows that stand there.
+    pub fn renew(&mut self, alloc: Global) -> Result<String, Fail> {
+        let Some(keeper) = self.keeper.take() else {
+            return Err(no_keeper());
+        };
+        let mut conn = keeper.into_connection();
+        let rows = rows_of(alloc, &mut conn);
+        drop(mem::replace(&mut self.keeper, Some(SqlTables::over(conn))));
+        rows
     }
 }
 
-fn standing(
+fn no_keeper() -> Fail {
+    Fail::new("a keeper is gone")
+}
+
+/// Makes the table in a database in which nothing stands, and puts the rows of a text; nothing where there is no text.
+pub fn stand<S: Alter>(
     alloc: Global,
-    mut conn: Connection<MemStore>,
-    rows: &str,
-) -> Result<SqlTables<MemStore>, Fail>
-    requires { conn.in_transaction ≡ false }
-{
-    stand(alloc, &mut conn, rows)?;
-    Ok(SqlTables::over(conn))
-}
-
-/// A new keeper over the database of another one.
-pub fn reopened(keeper: SqlTables<MemStore>) -> SqlTables<MemStore> {
-    SqlTables::over(keeper.into_connection())
-}
-
-/// A new keeper over the database of another one, and the rows that stand there.
-pub fn with_rows(
-    alloc: Global,
-    keeper: SqlTables<MemStore>,
-) -> Result<(SqlTables<MemStore>, String), Fail> {
-    let mut conn = keeper.into_connection();
-    let rows = rows_of(alloc, &mut conn)?;
-    Ok((SqlTables::over(conn), rows))
-}
-
-/// Makes the table in a database in which nothing stands, and puts the rows of a text.
-pub fn stand<S: Alter>(alloc: Global, conn: &mut Connection<S>, rows: &str) -> Result<(), Fail>
+    conn: &mut Connection<S>,
+    rows: Option<&str>,
+) -> Result<(), Fail>
     requires { conn.old.in_transaction ≡ false }
     ensures { conn.new.in_transaction ≡ false }
 {
+    let Some(rows) = rows else {
+        return Ok(());
+    };
     let rows = rows_in(alloc, rows)?;
     make(conn)?;
     put(conn, rows.as_slice())

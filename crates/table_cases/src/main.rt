@@ -12,7 +12,6 @@ mod own;
 mod rows;
 
 use desk_cases::{Answer, Case, Part, Subject, try_files};
-use std::alloc::Global;
 use std::test::Fail;
 
 /// What finds damage, copies, and calls keepers.
@@ -24,20 +23,13 @@ impl Subject for Desk {
         part.name.as_str() != "wanted"
     }
 
-    fn answer(&mut self, alloc: Global, kind: &str, case: &Case) -> Result<Vec<Part>, Fail> {
-        let mut answer = Answer::new(alloc);
-        add_answer(kind, case, &mut answer)?;
-        Ok(answer.into_parts())
-    }
-}
-
-/// Adds the answer to a case of this kind.
-fn add_answer(kind: &str, case: &Case, answer: &mut Answer) -> Result<(), Fail> {
-    match kind {
-        "tables" => judging::told(case, answer),
-        "copies" => copies::told(case, answer),
-        "keeper" => keeping::told(case, answer),
-        _ => Err(Fail::new("a file of cases has an unknown kind")),
+    fn answer(&mut self, kind: &str, case: &Case, answer: &mut Answer) -> Result<(), Fail> {
+        match kind {
+            "tables" => judging::told(case, answer),
+            "copies" => copies::told(case, answer),
+            "keeper" => keeping::told(case, answer),
+            _ => Err(Fail::new("a file of cases has an unknown kind")),
+        }
     }
 }
 
