@@ -34,15 +34,25 @@ pub fn kit_of<R: Eprint + CpuClock>(rt: &R, alloc: Global, sizes: Sizes) -> Resu
 {
     let schema = Schema::read(alloc, SCHEMA)?;
     let book = book_of(rt, alloc, &schema, sizes.rules)?;
-    let master = master_of(rt, alloc, sizes.rows)?;
+    bound(rt, alloc, &schema, &book, sizes.rows)
+}
+
+/// The kit of a rulebook over a master of so many rows.
+fn bound<R: Eprint + CpuClock>(
+    rt: &R,
+    alloc: Global,
+    schema: &Schema,
+    book: &Rulebook,
+    rows: u32,
+) -> Result<Kit, Fail>
+    requires schema { IsSchema schema.now }
+    requires rulebook { IsRulebook schema.now book.now }
+    ensures { IfOk result IsValid }
+{
+    let name = Text::new(alloc, b"m")?;
+    let masters = [(name, master_of(rt, alloc, rows)?)];
     let start = clock(rt)?;
-    let kit = bind(
-        alloc,
-        &book,
-        &schema,
-        &[(Text::new(alloc, b"m")?, master)],
-        &[],
-    )?;
+    let kit = bind(alloc, book, schema, &masters, &[])?;
     tell(rt, "binding them", start)?;
     Ok(kit)
 }

@@ -40,50 +40,70 @@ fn main(rt: HostRuntime) -> Result<(), Fail> {
 /// Makes the kit, looks into the three books over it, and enters the sessions.
 fn measure<R: Print + Eprint + CpuClock>(rt: &R, alloc: Global, sizes: Sizes) -> Result<(), Fail> {
     let kit = kit_of(rt, alloc, sizes)?;
-    look_into_plain(rt, alloc, kit.copy()?, sizes)?;
-    look_into_map(rt, alloc, kit.copy()?, sizes)?;
-    look_into_sorted(rt, alloc, kit, sizes)?;
+    let looked = look_into_all(rt, alloc, &kit, sizes);
+    drop(kit);
+    looked?;
     enter_sessions(rt, alloc, sizes)
+}
+
+/// Looks into the three books over a kit.
+fn look_into_all<R: Print + Eprint + CpuClock>(
+    rt: &R,
+    alloc: Global,
+    kit: &Kit,
+    sizes: Sizes,
+) -> Result<(), Fail>
+    requires { IsValid kit.now }
+{
+    look_into_plain(rt, alloc, kit, sizes)?;
+    look_into_map(rt, alloc, kit, sizes)?;
+    look_into_sorted(rt, alloc, kit, sizes)
 }
 
 /// Looks into the plain book.
 fn look_into_plain<R: Print + Eprint + CpuClock>(
     rt: &R,
     alloc: Global,
-    kit: Kit,
+    kit: &Kit,
     sizes: Sizes,
 ) -> Result<(), Fail>
-    requires { IsValid kit }
+    requires { IsValid kit.now }
 {
-    let book = ListBook::new(kit);
+    let book = ListBook::new(kit.copy()?);
     let few = sizes.records / PLAIN_SHARE;
-    look_up(rt, alloc, "plain", &book, sizes.rows, few)
+    let looked = look_up(rt, alloc, "plain", &book, sizes.rows, few);
+    drop(book);
+    looked
 }
 
 /// Looks into the book over maps.
 fn look_into_map<R: Print + Eprint + CpuClock>(
     rt: &R,
     alloc: Global,
-    kit: Kit,
+    kit: &Kit,
     sizes: Sizes,
 ) -> Result<(), Fail>
-    requires { IsValid kit }
+    requires { IsValid kit.now }
 {
-    let book = map_of(rt, alloc, kit)?;
-    look_up(rt, alloc, "map", &book, sizes.rows, sizes.records)
+    let book = map_of(rt, alloc, kit.copy()?)?;
+    let looked = look_up(rt, alloc, "map", &book, sizes.rows, sizes.records);
+    drop(book);
+    looked
 }
 
 /// Looks into the book over a sorted index.
 fn look_into_sorted<R: Print + Eprint + CpuClock>(
     rt: &R,
     alloc: Global,
-    kit: Kit,
+    kit: &Kit,
     sizes: Sizes,
 ) -> Result<(), Fail>
-    requires { IsValid kit }
+    requires { IsValid kit.now }
 {
-    let book = sorted_of(rt, alloc, kit)?;
-    look_up(rt, alloc, "sorted", &book, sizes.rows, sizes.records)
+    let book = sorted_of(rt, alloc, kit.copy()?)?;
+    let looked = look_up(rt, alloc, "sorted", &book, sizes.rows, sizes.records);
+    drop(book);
+    looked
 }
 
 /// The book over maps of the kit's masters.

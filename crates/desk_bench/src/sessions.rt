@@ -23,7 +23,9 @@ pub fn enter_sessions<R: Print + Eprint + CpuClock>(
     sizes: Sizes,
 ) -> Result<(), Fail> {
     let mut desk = KeptDesk::fresh(alloc)?;
-    publish_and_enter(rt, alloc, &mut desk, sizes)
+    let entered = publish_and_enter(rt, alloc, &mut desk, sizes);
+    drop(desk);
+    entered
 }
 
 /// Publishes the edition, and enters the sessions. The desk is lent, since a function with many ways out that lets it
@@ -76,10 +78,14 @@ fn tell_count<R: Print>(rt: &R, turn: u64) -> Result<(), Fail> {
 fn publish_edition(alloc: Global, desk: &mut KeptDesk, sizes: Sizes) -> Result<(), Fail> {
     let sheet = sheet_text(alloc, sizes.rows)?;
     let rules = rules_text(alloc, sizes.rules)?;
+    publish_all(alloc, desk, sheet.as_bytes(), rules.as_bytes())
+}
+
+fn publish_all(alloc: Global, desk: &mut KeptDesk, sheet: &[u8], rules: &[u8]) -> Result<(), Fail> {
     publish(desk, 1, clerk(alloc)?)?;
     publish(desk, 2, schema(alloc)?)?;
-    publish(desk, 3, master(alloc, sheet.as_bytes())?)?;
-    publish(desk, 4, rulebook(alloc, rules.as_bytes())?)?;
+    publish(desk, 3, master(alloc, sheet)?)?;
+    publish(desk, 4, rulebook(alloc, rules)?)?;
     publish(desk, 5, edition(alloc)?)
 }
 
@@ -112,21 +118,28 @@ fn rulebook(alloc: Global, rules: &[u8]) -> Result<StewardWork, NoMemory> {
 }
 
 fn edition(alloc: Global) -> Result<StewardWork, NoMemory> {
-    let mut masters = List::new(alloc);
-    masters.push((Str::new(alloc, "m")?, 1))?;
+    let name = Str::new(alloc, "desk")?;
+    let rules = Str::new(alloc, "rules")?;
+    let masters = masters(alloc)?;
     Ok(StewardWork::AddEdition {
-        name: Str::new(alloc, "desk")?,
-        rulebook: (Str::new(alloc, "rules")?, 1),
+        name,
+        rulebook: (rules, 1),
         masters,
         folded: List::new(alloc),
     })
+}
+
+fn masters(alloc: Global) -> Result<List<(Str, u32)>, NoMemory> {
+    let mut masters = List::new(alloc);
+    masters.push((Str::new(alloc, "m")?, 1))?;
+    Ok(masters)
 }
 
 fn list_of(alloc: Global, bytes: &[u8]) -> Result<List<u8>, NoMemory> {
     Ok(List::from_vec(Vec::from_slice(alloc, bytes)?))
 }
 
-/// Enters the sessions behind the first ones, up to so many.
+/// Enters the sessions after the first ones, up to so many.
 fn enter_all(
     alloc: Global,
     desk: &mut KeptDesk,
@@ -137,22 +150,38 @@ fn enter_all(
     for place in first..count {
         // The rows of one session and the next lie far apart.
         let row = u64::from(place) * 7_919 % u64::from(rows.max(1));
-        let work = enter(alloc, row)?;
-        write(desk, Str::new(alloc, "amy")?, u64::from(place) + 1, work)?;
+        let clerk = Str::new(alloc, "amy")?;
+        write(desk, clerk, u64::from(place) + 1, enter(alloc, row)?)?;
     }
     Ok(())
 }
 
 /// An enter of a session whose first attribute is that of a row, and confirmed.
 fn enter(alloc: Global, row: u64) -> Result<ClerkWork, NoMemory> {
-    let text = format!(in alloc; "a{row}")?;
-    let mut cells = List::new(alloc);
-    cells.push((Str::new(alloc, "a0")?, Str::new(alloc, text.as_str())?))?;
-    let mut confirmed = List::new(alloc);
-    confirmed.push(Str::new(alloc, "a0")?)?;
+    let edition = Str::new(alloc, "desk")?;
+    let confirmed = confirmed(alloc)?;
+    let cells = cells(alloc, row)?;
     Ok(ClerkWork::Enter {
-        edition: Str::new(alloc, "desk")?,
+        edition,
         cells,
         confirmed,
     })
+}
+
+fn confirmed(alloc: Global) -> Result<List<Str>, NoMemory> {
+    let mut confirmed = List::new(alloc);
+    confirmed.push(Str::new(alloc, "a0")?)?;
+    Ok(confirmed)
+}
+
+fn cells(alloc: Global, row: u64) -> Result<List<(Str, Str)>, NoMemory> {
+    let mut cells = List::new(alloc);
+    cells.push(cell(alloc, row)?)?;
+    Ok(cells)
+}
+
+fn cell(alloc: Global, row: u64) -> Result<(Str, Str), NoMemory> {
+    let text = format!(in alloc; "a{row}")?;
+    let typed = Str::new(alloc, text.as_str())?;
+    Ok((Str::new(alloc, "a0")?, typed))
 }

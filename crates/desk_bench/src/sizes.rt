@@ -2,7 +2,7 @@
 
 /// So many rules, 1 to 200, over a master of so many rows, 1 to 20,000, so many records, 1 to 1,000,000, and so many
 /// sessions, 1 to 5,000.
-#[derive(Clone, Copy, Debug)]
+#[derive(Clone, Copy)]
 pub struct Sizes {
     pub rules: u32,
     pub rows: u32,

@@ -12,8 +12,10 @@ const HEADER: &str = "c0,c1,c2,c3,c4,c5,c6,c7\n";
 pub fn sheet_text(alloc: Global, rows: u32) -> Result<String, AllocError> {
     let mut text = String::from_str(alloc, HEADER)?;
     for row in 0..rows {
-        let line = format!(in alloc; "a{row},b{row},c{row},d{row},e{row},f{row},g{row},h{row}\n")?;
-        text.push_str(line.as_str())?;
+        writeln!(
+            text,
+            "a{row},b{row},c{row},d{row},e{row},f{row},g{row},h{row}"
+        )?;
     }
     Ok(text)
 }
@@ -24,10 +26,10 @@ pub fn rules_text(alloc: Global, rules: u32) -> Result<String, AllocError> {
     for rule in 0..rules {
         let key = rule % 8;
         let head = (key + 1 + rule / 8 % 7) % 8;
-        let line = format!(in alloc;
-            "rule r{rule} from m: a{key} = c{key} -> a{head} = c{head};\n"
+        writeln!(
+            text,
+            "rule r{rule} from m: a{key} = c{key} -> a{head} = c{head};"
         )?;
-        text.push_str(line.as_str())?;
     }
     Ok(text)
 }
