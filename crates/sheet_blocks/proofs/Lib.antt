@@ -1,0 +1,4 @@
+pub mod Records
+pub mod Cuts
+pub mod Fronts
+pub mod Standings
