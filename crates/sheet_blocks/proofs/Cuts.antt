@@ -14,7 +14,8 @@ use Rattle.std.proofs.lemmas.List.{append-nil}
 use Rattle.sheet_blocks.specs.Places.{ends_line, next_place}
 use Rattle.sheet_blocks.specs.Sheets.{IsDelimiter}
 use Rattle.sheet_blocks.specs.Whole.{AreWhole, EndsNone, state_after}
-use Rattle.sheet_blocks.proofs.Records.{IsNeat-begun, IsNeat-read_on, IsReached, begun, plain, read_on-state, step-return}
+use Rattle.sheet_blocks.proofs.Records.{IsNeat-begun, IsNeat-read_on, IsReached}
+use Rattle.sheet_blocks.proofs.Records.{begun, plain, read_on-state, step-return}
 
 -- the state after two texts, one after the other
 pub state_after-append : (cfg : Config) (state : State) (text later : List ℕ)
@@ -69,44 +70,83 @@ record Agrees (delimiter : ℕ) (state : State) (byte : ℕ) : Type 0 where
   start : ends_line (place_of state) byte ≡ true → next_place delimiter (place_of state) byte ≡ Start
   goes : ends_line (place_of state) byte ≡ false → is_end (step (plain delimiter) state byte).1 ≡ false
 
--- a byte that ends no line
-agrees_within : (delimiter : ℕ) (byte : ℕ) (state : State) → (byte == 13) ≡ false → (byte == 10) ≡ false
+-- a byte that is no line end ends no line
+ends_line-no : (state : State) (byte : ℕ) → (byte == 13) ≡ false → (byte == 10) ≡ false
+    → ends_line (place_of state) byte ≡ false
+ends_line-no st.StartRecord byte no_return no_feed = rw (no_return, no_feed) refl
+ends_line-no st.StartField byte no_return no_feed = rw (no_return, no_feed) refl
+ends_line-no st.AfterCr byte no_return no_feed = rw (no_return, no_feed) refl
+ends_line-no st.InField byte no_return no_feed = rw (no_return, no_feed) refl
+ends_line-no st.AfterQuote byte no_return no_feed = rw (no_return, no_feed) refl
+ends_line-no st.InEscape byte no_return no_feed = rw (no_return, no_feed) refl
+ends_line-no st.InComment byte no_return no_feed = rw (no_return, no_feed) refl
+ends_line-no st.InQuoted byte no_return no_feed = refl
+
+-- what such a byte does, by its step
+agrees_by : (delimiter byte : ℕ) (state : State) → (byte == 13) ≡ false → (byte == 10) ≡ false
+    → next_place delimiter (place_of state) byte ≡ place_of (step (plain delimiter) state byte).0
+    → is_end (step (plain delimiter) state byte).1 ≡ false → Agrees delimiter state byte
+agrees_by delimiter byte state no_return no_feed place goes =
+    let none = ends_line-no state byte no_return no_feed in
+    record {
+      place = place;
+      ends = λ e. absurd (let f = sym none ∙ e in cc);
+      start = λ e. absurd (let f = sym none ∙ e in cc);
+      goes = λ _. goes;
+    }
+
+agrees_within : (delimiter byte : ℕ) (state : State) → (byte == 13) ≡ false → (byte == 10) ≡ false
     → IsReached state → Agrees delimiter state byte
 agrees_within delimiter byte st.StartRecord no_return no_feed reached = elim (cases_Bool (byte == 34)) [
-  | inl quote ↦ record { place = rw (no_return, no_feed, quote) refl; ends = λ e. absurd (let f = rw (no_return, no_feed) at e in cc); start = λ e. absurd (let f = rw (no_return, no_feed) at e in cc); goes = λ _. rw (no_return, no_feed, quote) refl }
-  | inr plain_byte ↦ elim (cases_Bool (byte == delimiter)) [
-    | inl parts ↦ record { place = rw (no_return, no_feed, plain_byte, parts) refl; ends = λ e. absurd (let f = rw (no_return, no_feed) at e in cc); start = λ e. absurd (let f = rw (no_return, no_feed) at e in cc); goes = λ _. rw (no_return, no_feed, plain_byte, parts) refl }
-    | inr other ↦ record { place = rw (no_return, no_feed, plain_byte, other) refl; ends = λ e. absurd (let f = rw (no_return, no_feed) at e in cc); start = λ e. absurd (let f = rw (no_return, no_feed) at e in cc); goes = λ _. rw (no_return, no_feed, plain_byte, other) refl }
+  | inl quote ↦
+      agrees_by delimiter byte st.StartRecord no_return no_feed (rw (no_return, no_feed, quote) refl)
+      (rw (no_return, no_feed, quote) refl)
+  | inr other ↦ elim (cases_Bool (byte == delimiter)) [
+    | inl parts ↦ agrees_by delimiter byte st.StartRecord no_return no_feed (rw (no_return, no_feed, other, parts) refl)
+        (rw (no_return, no_feed, other, parts) refl)
+    | inr copied ↦ agrees_by delimiter byte st.StartRecord no_return no_feed
+        (rw (no_return, no_feed, other, copied) refl) (rw (no_return, no_feed, other, copied) refl)
   ]
 ]
 agrees_within delimiter byte st.AfterCr no_return no_feed reached = elim (cases_Bool (byte == 34)) [
-  | inl quote ↦ record { place = rw (no_return, no_feed, quote) refl; ends = λ e. absurd (let f = rw (no_return, no_feed) at e in cc); start = λ e. absurd (let f = rw (no_return, no_feed) at e in cc); goes = λ _. rw (no_return, no_feed, quote) refl }
-  | inr plain_byte ↦ elim (cases_Bool (byte == delimiter)) [
-    | inl parts ↦ record { place = rw (no_return, no_feed, plain_byte, parts) refl; ends = λ e. absurd (let f = rw (no_return, no_feed) at e in cc); start = λ e. absurd (let f = rw (no_return, no_feed) at e in cc); goes = λ _. rw (no_return, no_feed, plain_byte, parts) refl }
-    | inr other ↦ record { place = rw (no_return, no_feed, plain_byte, other) refl; ends = λ e. absurd (let f = rw (no_return, no_feed) at e in cc); start = λ e. absurd (let f = rw (no_return, no_feed) at e in cc); goes = λ _. rw (no_return, no_feed, plain_byte, other) refl }
+  | inl quote ↦
+      agrees_by delimiter byte st.AfterCr no_return no_feed (rw (no_return, no_feed, quote) refl)
+      (rw (no_return, no_feed, quote) refl)
+  | inr other ↦ elim (cases_Bool (byte == delimiter)) [
+    | inl parts ↦ agrees_by delimiter byte st.AfterCr no_return no_feed (rw (no_return, no_feed, other, parts) refl)
+        (rw (no_return, no_feed, other, parts) refl)
+    | inr copied ↦ agrees_by delimiter byte st.AfterCr no_return no_feed
+        (rw (no_return, no_feed, other, copied) refl) (rw (no_return, no_feed, other, copied) refl)
   ]
 ]
 agrees_within delimiter byte st.StartField no_return no_feed reached = elim (cases_Bool (byte == 34)) [
-  | inl quote ↦ record { place = rw (quote) refl; ends = λ e. absurd (let f = rw (no_return, no_feed) at e in cc); start = λ e. absurd (let f = rw (no_return, no_feed) at e in cc); goes = λ _. rw (quote) refl }
-  | inr plain_byte ↦ elim (cases_Bool (byte == delimiter)) [
-    | inl parts ↦ record { place = rw (plain_byte, parts) refl; ends = λ e. absurd (let f = rw (no_return, no_feed) at e in cc); start = λ e. absurd (let f = rw (no_return, no_feed) at e in cc); goes = λ _. rw (plain_byte, parts) refl }
-    | inr other ↦ record { place = rw (no_return, no_feed, plain_byte, other) refl; ends = λ e. absurd (let f = rw (no_return, no_feed) at e in cc); start = λ e. absurd (let f = rw (no_return, no_feed) at e in cc); goes = λ _. rw (no_return, no_feed, plain_byte, other) refl }
+  | inl quote ↦
+      agrees_by delimiter byte st.StartField no_return no_feed (rw (quote) refl) (rw (quote) refl)
+  | inr other ↦ elim (cases_Bool (byte == delimiter)) [
+    | inl parts ↦ agrees_by delimiter byte st.StartField no_return no_feed (rw (other, parts) refl)
+        (rw (other, parts) refl)
+    | inr copied ↦ agrees_by delimiter byte st.StartField no_return no_feed
+        (rw (no_return, no_feed, other, copied) refl) (rw (no_return, no_feed, other, copied) refl)
   ]
 ]
 agrees_within delimiter byte st.AfterQuote no_return no_feed reached = elim (cases_Bool (byte == 34)) [
-  | inl quote ↦ record { place = rw (quote) refl; ends = λ e. absurd (let f = rw (no_return, no_feed) at e in cc); start = λ e. absurd (let f = rw (no_return, no_feed) at e in cc); goes = λ _. rw (quote) refl }
-  | inr plain_byte ↦ elim (cases_Bool (byte == delimiter)) [
-    | inl parts ↦ record { place = rw (plain_byte, parts) refl; ends = λ e. absurd (let f = rw (no_return, no_feed) at e in cc); start = λ e. absurd (let f = rw (no_return, no_feed) at e in cc); goes = λ _. rw (plain_byte, parts) refl }
-    | inr other ↦ record { place = rw (no_return, no_feed, plain_byte, other) refl; ends = λ e. absurd (let f = rw (no_return, no_feed) at e in cc); start = λ e. absurd (let f = rw (no_return, no_feed) at e in cc); goes = λ _. rw (no_return, no_feed, plain_byte, other) refl }
+  | inl quote ↦
+      agrees_by delimiter byte st.AfterQuote no_return no_feed (rw (quote) refl) (rw (quote) refl)
+  | inr other ↦ elim (cases_Bool (byte == delimiter)) [
+    | inl parts ↦ agrees_by delimiter byte st.AfterQuote no_return no_feed (rw (other, parts) refl)
+        (rw (other, parts) refl)
+    | inr copied ↦ agrees_by delimiter byte st.AfterQuote no_return no_feed
+        (rw (no_return, no_feed, other, copied) refl) (rw (no_return, no_feed, other, copied) refl)
   ]
 ]
 agrees_within delimiter byte st.InField no_return no_feed reached = elim (cases_Bool (byte == delimiter)) [
-  | inl parts ↦ record { place = rw (parts) refl; ends = λ e. absurd (let f = rw (no_return, no_feed) at e in cc); start = λ e. absurd (let f = rw (no_return, no_feed) at e in cc); goes = λ _. rw (parts) refl }
-  | inr other ↦ record { place = rw (no_return, no_feed, other) refl; ends = λ e. absurd (let f = rw (no_return, no_feed) at e in cc); start = λ e. absurd (let f = rw (no_return, no_feed) at e in cc); goes = λ _. rw (no_return, no_feed, other) refl }
+  | inl parts ↦ agrees_by delimiter byte st.InField no_return no_feed (rw parts refl) (rw parts refl)
+  | inr copied ↦ agrees_by delimiter byte st.InField no_return no_feed (rw (no_return, no_feed, copied) refl)
+      (rw (no_return, no_feed, copied) refl)
 ]
 agrees_within delimiter byte st.InQuoted no_return no_feed reached = elim (cases_Bool (byte == 34)) [
-  | inl quote ↦ record { place = rw quote refl; ends = λ e. absurd (let f = e in cc); start = λ e. absurd (let f = e in cc); goes = λ _. rw quote refl }
-  | inr plain_byte ↦ record { place = rw plain_byte refl; ends = λ e. absurd (let f = e in cc); start = λ e. absurd (let f = e in cc); goes = λ _. rw plain_byte refl }
+  | inl quote ↦ agrees_by delimiter byte st.InQuoted no_return no_feed (rw quote refl) (rw quote refl)
+  | inr other ↦ agrees_by delimiter byte st.InQuoted no_return no_feed (rw other refl) (rw other refl)
 ]
 agrees_within delimiter byte st.InEscape no_return no_feed reached = absurd reached
 agrees_within delimiter byte st.InComment no_return no_feed reached = absurd reached
@@ -114,36 +154,84 @@ agrees_within delimiter byte st.InComment no_return no_feed reached = absurd rea
 -- a CR, which is no delimiter
 agrees_return : (delimiter : ℕ) (state : State) → (13 == delimiter) ≡ false → IsReached state
     → Agrees delimiter state 13
-agrees_return delimiter st.StartRecord apart reached =
-    record { place = rw apart refl; ends = λ _. refl; start = λ _. rw apart refl; goes = λ e. absurd (let f = e in cc) }
-agrees_return delimiter st.AfterCr apart reached =
-    record { place = rw apart refl; ends = λ _. refl; start = λ _. rw apart refl; goes = λ e. absurd (let f = e in cc) }
-agrees_return delimiter st.StartField apart reached =
-    record { place = rw apart refl; ends = λ _. rw apart refl; start = λ _. rw apart refl; goes = λ e. absurd (let f = e in cc) }
-agrees_return delimiter st.InField apart reached =
-    record { place = rw apart refl; ends = λ _. rw apart refl; start = λ _. rw apart refl; goes = λ e. absurd (let f = e in cc) }
-agrees_return delimiter st.AfterQuote apart reached =
-    record { place = rw apart refl; ends = λ _. rw apart refl; start = λ _. rw apart refl; goes = λ e. absurd (let f = e in cc) }
-agrees_return delimiter st.InQuoted apart reached =
-    record { place = refl; ends = λ e. absurd (let f = e in cc); start = λ e. absurd (let f = e in cc); goes = λ _. refl }
+agrees_return delimiter st.StartRecord apart reached = record {
+  place = rw apart refl;
+  ends = λ _. refl;
+  start = λ _. rw apart refl;
+  goes = λ e. absurd (let f = e in cc);
+}
+agrees_return delimiter st.AfterCr apart reached = record {
+  place = rw apart refl;
+  ends = λ _. refl;
+  start = λ _. rw apart refl;
+  goes = λ e. absurd (let f = e in cc);
+}
+agrees_return delimiter st.StartField apart reached = record {
+  place = rw apart refl;
+  ends = λ _. rw apart refl;
+  start = λ _. rw apart refl;
+  goes = λ e. absurd (let f = e in cc);
+}
+agrees_return delimiter st.InField apart reached = record {
+  place = rw apart refl;
+  ends = λ _. rw apart refl;
+  start = λ _. rw apart refl;
+  goes = λ e. absurd (let f = e in cc);
+}
+agrees_return delimiter st.AfterQuote apart reached = record {
+  place = rw apart refl;
+  ends = λ _. rw apart refl;
+  start = λ _. rw apart refl;
+  goes = λ e. absurd (let f = e in cc);
+}
+agrees_return delimiter st.InQuoted apart reached = record {
+  place = refl;
+  ends = λ e. absurd (let f = e in cc);
+  start = λ e. absurd (let f = e in cc);
+  goes = λ _. refl;
+}
 agrees_return delimiter st.InEscape apart reached = absurd reached
 agrees_return delimiter st.InComment apart reached = absurd reached
 
 -- a LF, which is no delimiter
 agrees_feed : (delimiter : ℕ) (state : State) → (10 == delimiter) ≡ false → IsReached state
     → Agrees delimiter state 10
-agrees_feed delimiter st.StartRecord apart reached =
-    record { place = rw apart refl; ends = λ _. refl; start = λ _. rw apart refl; goes = λ e. absurd (let f = e in cc) }
-agrees_feed delimiter st.AfterCr apart reached =
-    record { place = rw apart refl; ends = λ _. refl; start = λ _. rw apart refl; goes = λ e. absurd (let f = e in cc) }
-agrees_feed delimiter st.StartField apart reached =
-    record { place = rw apart refl; ends = λ _. rw apart refl; start = λ _. rw apart refl; goes = λ e. absurd (let f = e in cc) }
-agrees_feed delimiter st.InField apart reached =
-    record { place = rw apart refl; ends = λ _. rw apart refl; start = λ _. rw apart refl; goes = λ e. absurd (let f = e in cc) }
-agrees_feed delimiter st.AfterQuote apart reached =
-    record { place = rw apart refl; ends = λ _. rw apart refl; start = λ _. rw apart refl; goes = λ e. absurd (let f = e in cc) }
-agrees_feed delimiter st.InQuoted apart reached =
-    record { place = refl; ends = λ e. absurd (let f = e in cc); start = λ e. absurd (let f = e in cc); goes = λ _. refl }
+agrees_feed delimiter st.StartRecord apart reached = record {
+  place = rw apart refl;
+  ends = λ _. refl;
+  start = λ _. rw apart refl;
+  goes = λ e. absurd (let f = e in cc);
+}
+agrees_feed delimiter st.AfterCr apart reached = record {
+  place = rw apart refl;
+  ends = λ _. refl;
+  start = λ _. rw apart refl;
+  goes = λ e. absurd (let f = e in cc);
+}
+agrees_feed delimiter st.StartField apart reached = record {
+  place = rw apart refl;
+  ends = λ _. rw apart refl;
+  start = λ _. rw apart refl;
+  goes = λ e. absurd (let f = e in cc);
+}
+agrees_feed delimiter st.InField apart reached = record {
+  place = rw apart refl;
+  ends = λ _. rw apart refl;
+  start = λ _. rw apart refl;
+  goes = λ e. absurd (let f = e in cc);
+}
+agrees_feed delimiter st.AfterQuote apart reached = record {
+  place = rw apart refl;
+  ends = λ _. rw apart refl;
+  start = λ _. rw apart refl;
+  goes = λ e. absurd (let f = e in cc);
+}
+agrees_feed delimiter st.InQuoted apart reached = record {
+  place = refl;
+  ends = λ e. absurd (let f = e in cc);
+  start = λ e. absurd (let f = e in cc);
+  goes = λ _. refl;
+}
 agrees_feed delimiter st.InEscape apart reached = absurd reached
 agrees_feed delimiter st.InComment apart reached = absurd reached
 

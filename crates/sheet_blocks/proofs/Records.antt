@@ -174,9 +174,13 @@ abbrev pub plain : ℕ → Config
 plain delimiter = record default_config { delimiter = delimiter }
 
 -- after a CR a reader goes on as at the start
-pub step-return : (delimiter byte : ℕ) → step (plain delimiter) st.AfterCr byte ≡ step (plain delimiter) st.StartRecord byte
+pub step-return : (delimiter byte : ℕ)
+    → step (plain delimiter) st.AfterCr byte ≡ step (plain delimiter) st.StartRecord byte
 step-return delimiter byte = elim (cases_Bool (byte == 10)) [
-  | inl feed ↦ elim (cases_Bool (byte == 13)) [ inl return ↦ rw (feed, return) refl | inr other ↦ rw (feed, other) refl ]
+  | inl feed ↦ elim (cases_Bool (byte == 13)) [
+    | inl return ↦ rw (feed, return) refl
+    | inr other ↦ rw (feed, other) refl
+  ]
   | inr other ↦ rw other refl
 ]
 

@@ -15,7 +15,8 @@ use Rattle.sheet_blocks.proofs.Fronts.{strip_bom-append}
 use Rattle.sheet_blocks.proofs.Records.{begun, plain, read_on-none, records-append, records-letter}
 
 -- blocks that were opened over a front
-pub IsOpened-front : (delimiter : ℕ) (left after : Option (List ℕ)) (bytes : List ℕ) (whole : Bool) (blocks : BlocksSeen)
+pub IsOpened-front : (delimiter : ℕ) (left after : Option (List ℕ)) (bytes : List ℕ) (whole : Bool)
+    (blocks : BlocksSeen)
     → IsFront left after bytes whole → blocks.block ++ blocks.begun ≡ strip_bom bytes → blocks.whole ≡ whole
     → blocks.delimiter ≡ delimiter → IsOpened delimiter left after blocks
 IsOpened-front delimiter left after bytes whole blocks front text is delimits = record {
@@ -34,7 +35,8 @@ IsOpened-front delimiter left after bytes whole blocks front text is delimits = 
 }
 
 -- more bytes were read
-pub Stands-grown : (bytes taken : List ℕ) (left after : Option (List ℕ)) (old new : BlocksSeen) (grows : Grows left after old new)
+pub Stands-grown : (bytes taken : List ℕ) (left after : Option (List ℕ)) (old new : BlocksSeen)
+    (grows : Grows left after old new)
     → Stands bytes taken old → old.whole ≡ false → Stands (bytes ++ grows.bytes) taken new
 Stands-grown bytes taken left after old new grows stands begins = elim stands.front [
   | inl all ↦ absurd (let e = sym all ∙ begins in cc)

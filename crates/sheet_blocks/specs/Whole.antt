@@ -17,4 +17,5 @@ AreWhole cfg bytes = ends_at_end (state_after cfg st.StartRecord bytes) ≡ fals
 -- no record ends in the bytes, from this state on
 abbrev pub EndsNone : Config → State → List ℕ → Type 0
 EndsNone cfg state [] = ⊤
-EndsNone cfg state (byte ∷ later) = (is_end (step cfg state byte).1 ≡ false) × EndsNone cfg (step cfg state byte).0 later
+EndsNone cfg state (byte ∷ later) =
+    (is_end (step cfg state byte).1 ≡ false) × EndsNone cfg (step cfg state byte).0 later

@@ -27,7 +27,8 @@ pub struct Blocks {
     piece: Vec<u8>,
 }
 
-/// A line feed and a block of whole records; the bytes of a record that was begun; and where a reader stands after them.
+/// A line feed and a block of whole records; the bytes of a record that was begun; and where a reader stands after
+/// them.
 #[derive(Debug, Drop)]
 struct Kept {
     block: Vec<u8>,

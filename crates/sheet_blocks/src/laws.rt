@@ -19,5 +19,6 @@ pub fn records_that_stand(blocks: &Blocks, bytes: &[u8], taken: &[u8])
     requires stands { Stands bytes.now taken.now blocks.now }
     requires cut { AreCut blocks.now }
     ensures { records_read blocks.now.delimiter blocks.now.whole bytes.now
-        ≡ records (config_of blocks.now.delimiter) taken.now ++ records (config_of blocks.now.delimiter) blocks.now.block }
+        ≡ records (config_of blocks.now.delimiter) taken.now
+        ++ records (config_of blocks.now.delimiter) blocks.now.block }
 {}
