@@ -1,0 +1,19 @@
+use Rattle.std.proofs.Common.{ℕ, zero-add, arith, length-append}
+use Rattle.std.proofs.lemmas.List.FromFn.{map-range_with_len_more}
+use Rattle.desk_base.specs.Texts.{bytes_of}
+use Rattle.sheet_clean.specs.Row.{decided_at}
+use Rattle.sheet_clean.proofs.row.decided_texts.Goals as goal
+
+pub attributes-preserved : goal.attributes-preserved
+attributes-preserved c =
+    let decided = decided_at c.args.setting.now c.args.layout.now.header (bytes_of c.args.cells.now) in
+    let place : ℕ = c.attributes.attribute in
+    record {
+      texts = rw (
+        map-range_with_len_more decided 0 place place (zero-add place),
+        ← c.attributes.invariant.texts,
+        ← c.typed-cell.ensures,
+        ← c.in_ok-decided_text.ensures,
+      ) c.in_ok-push.ensures.pushed;
+      full = rw c.in_ok-push.ensures.pushed (simp length-append (omega (arith, c.attributes.invariant.full)));
+    }

@@ -1,0 +1,9 @@
+pub mod Setting
+pub mod Header
+pub mod Row
+pub mod Decision
+pub mod Layouts
+pub mod Fields
+pub mod Sheets
+pub mod Writing
+pub mod Steps
