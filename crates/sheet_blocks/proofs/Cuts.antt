@@ -8,7 +8,7 @@ use Rattle.csv.specs.declared.parser.State.{State}
 use Rattle.csv.specs.declared.parser.State.TheVariants as st
 use Rattle.sheet_blocks.specs.declared.place.Place.{Place}
 use Rattle.sheet_blocks.specs.declared.place.Place.TheVariants.{Start}
-use Rattle.sheet_blocks.specs.Kept.{Follows, IsCutAt, place_of}
+use Rattle.sheet_blocks.specs.Kept.{Follows, IsCutAt, reader_place}
 use Rattle.sheet_blocks.specs.declared.blocks.Kept.{Kept}
 use Rattle.std.proofs.lemmas.List.{append-nil}
 use Rattle.sheet_blocks.specs.Places.{ends_line, next_place}
@@ -65,14 +65,14 @@ AreWhole-append delimiter one other first second =
 
 -- what a byte does to the machine, by what it does to the place
 record Agrees (delimiter : ℕ) (state : State) (byte : ℕ) : Type 0 where
-  place : next_place delimiter (place_of state) byte ≡ place_of (step (plain delimiter) state byte).0
-  ends : ends_line (place_of state) byte ≡ true → ends_at_end (step (plain delimiter) state byte).0 ≡ false
-  start : ends_line (place_of state) byte ≡ true → next_place delimiter (place_of state) byte ≡ Start
-  goes : ends_line (place_of state) byte ≡ false → is_end (step (plain delimiter) state byte).1 ≡ false
+  place : next_place delimiter (reader_place state) byte ≡ reader_place (step (plain delimiter) state byte).0
+  ends : ends_line (reader_place state) byte ≡ true → ends_at_end (step (plain delimiter) state byte).0 ≡ false
+  start : ends_line (reader_place state) byte ≡ true → next_place delimiter (reader_place state) byte ≡ Start
+  goes : ends_line (reader_place state) byte ≡ false → is_end (step (plain delimiter) state byte).1 ≡ false
 
 -- a byte that is no line end ends no line
 ends_line-no : (state : State) (byte : ℕ) → (byte == 13) ≡ false → (byte == 10) ≡ false
-    → ends_line (place_of state) byte ≡ false
+    → ends_line (reader_place state) byte ≡ false
 ends_line-no st.StartRecord byte no_return no_feed = rw (no_return, no_feed) refl
 ends_line-no st.StartField byte no_return no_feed = rw (no_return, no_feed) refl
 ends_line-no st.AfterCr byte no_return no_feed = rw (no_return, no_feed) refl
@@ -84,7 +84,7 @@ ends_line-no st.InQuoted byte no_return no_feed = refl
 
 -- what such a byte does, by its step
 agrees_by : (delimiter byte : ℕ) (state : State) → (byte == 13) ≡ false → (byte == 10) ≡ false
-    → next_place delimiter (place_of state) byte ≡ place_of (step (plain delimiter) state byte).0
+    → next_place delimiter (reader_place state) byte ≡ reader_place (step (plain delimiter) state byte).0
     → is_end (step (plain delimiter) state byte).1 ≡ false → Agrees delimiter state byte
 agrees_by delimiter byte state no_return no_feed place goes =
     let none = ends_line-no state byte no_return no_feed in
@@ -260,7 +260,7 @@ IsCutAt-ends delimiter block begun_bytes place byte delimits cut ends =
     let cfg = plain delimiter in
     let state = state_after cfg st.StartRecord begun_bytes in
     let does = agrees delimiter byte state delimits (reached-after delimiter begun_bytes) in
-    let here : ends_line (place_of state) byte ≡ true = ap (λ p. ends_line p byte) (sym cut.at) ∙ ends in
+    let here : ends_line (reader_place state) byte ≡ true = ap (λ p. ends_line p byte) (sym cut.at) ∙ ends in
     record {
       whole = ap (λ l. ends_at_end (state_after cfg st.StartRecord l)) (append_assoc block begun_bytes (byte ∷ []))
           ∙ ap ends_at_end (state_after-append cfg st.StartRecord block (begun_bytes ++ byte ∷ [])
@@ -278,12 +278,12 @@ IsCutAt-goes delimiter block begun_bytes place byte delimits cut goes =
     let cfg = plain delimiter in
     let state = state_after cfg st.StartRecord begun_bytes in
     let does = agrees delimiter byte state delimits (reached-after delimiter begun_bytes) in
-    let here : ends_line (place_of state) byte ≡ false = ap (λ p. ends_line p byte) (sym cut.at) ∙ goes in
+    let here : ends_line (reader_place state) byte ≡ false = ap (λ p. ends_line p byte) (sym cut.at) ∙ goes in
     record {
       whole = cut.whole;
       ends_none = EndsNone-more cfg st.StartRecord begun_bytes byte cut.ends_none (does.goes here);
       at = ap (λ p. next_place delimiter p byte) cut.at ∙ does.place
-          ∙ ap place_of (sym (state_after-append cfg st.StartRecord begun_bytes (byte ∷ [])));
+          ∙ ap reader_place (sym (state_after-append cfg st.StartRecord begun_bytes (byte ∷ [])));
     }
 
 -- what is kept after a byte that ends a line

@@ -1,6 +1,7 @@
 -- The front of a sheet, where a byte order mark may stand.
 use Rattle.std.specs.Prelude.{◌≡◌, ◌⊎◌, ℕ, Bool, true, false, ◌&&◌, ◌==◌, List, [], ◌∷◌, Option}
 use Rattle.std.specs.Io.KnownBytes.{Consumes, IsAtEnd}
+use Rattle.csv.specs.Reading.{is_bom}
 
 -- the bytes are a part of the mark, not all of it
 abbrev pub is_partial_mark : List ℕ → Bool
@@ -9,12 +10,12 @@ is_partial_mark (one ∷ []) = one == 0xEF
 is_partial_mark (one ∷ two ∷ []) = (one == 0xEF) && (two == 0xBB)
 is_partial_mark (one ∷ two ∷ three ∷ rest) = false
 
--- the bytes begin with the mark, U+FEFF in UTF-8
+-- the bytes begin with the mark, as csv has it
 abbrev pub begins_with_mark : List ℕ → Bool
 begins_with_mark [] = false
 begins_with_mark (one ∷ []) = false
 begins_with_mark (one ∷ two ∷ []) = false
-begins_with_mark (one ∷ two ∷ three ∷ rest) = (one == 0xEF) && (two == 0xBB) && (three == 0xBF)
+begins_with_mark (one ∷ two ∷ three ∷ rest) = is_bom one two three
 
 -- these first bytes were read, to the end of the sheet, or until what follows is no part of a mark
 pub record IsFront (left after : Option (List ℕ)) (bytes : List ℕ) (whole : Bool) : Type 0 where

@@ -9,21 +9,21 @@ use Rattle.sheet_blocks.specs.Sheets.{IsDelimiter, config_of}
 use Rattle.sheet_blocks.specs.Whole.{AreWhole, EndsNone, state_after}
 
 -- the place of a reader at a state of csv's machine
-abbrev pub place_of : State → Place
-place_of st.StartRecord = Start
-place_of st.StartField = Start
-place_of st.AfterCr = Start
-place_of st.InField = Plain
-place_of st.InQuoted = Quoted
-place_of st.AfterQuote = Closed
-place_of st.InEscape = Plain
-place_of st.InComment = Plain
+abbrev pub reader_place : State → Place
+reader_place st.StartRecord = Start
+reader_place st.StartField = Start
+reader_place st.AfterCr = Start
+reader_place st.InField = Plain
+reader_place st.InQuoted = Quoted
+reader_place st.AfterQuote = Closed
+reader_place st.InEscape = Plain
+reader_place st.InComment = Plain
 
 -- these bytes are whole records, no record ends in those after them, and a reader then stands at this place
 pub record IsCutAt (delimiter : ℕ) (block begun : List ℕ) (place : Place) : Type 0 where
   pub whole : AreWhole (config_of delimiter) block
   pub ends_none : EndsNone (config_of delimiter) st.StartRecord begun
-  pub at : place ≡ place_of (state_after (config_of delimiter) st.StartRecord begun)
+  pub at : place ≡ reader_place (state_after (config_of delimiter) st.StartRecord begun)
 
 -- what is kept is so
 abbrev pub IsCut : ℕ → Kept → Type 0

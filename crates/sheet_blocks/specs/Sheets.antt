@@ -21,8 +21,8 @@ without_last items = take (length items - 1) items
 abbrev pub sheet_records : ℕ → List ℕ → List (List (List ℕ))
 sheet_records delimiter sheet = records (config_of delimiter) (strip_bom sheet)
 
--- the records of a beginning of a sheet that have ended: what follows can't add to them, and a letter that follows goes
--- into a record after them
+-- the records of a beginning of a sheet that have ended: what follows can't add to them, and any byte but a line end
+-- would go into a record after them; here it is the letter x
 abbrev pub ended_records : ℕ → List ℕ → List (List (List ℕ))
 ended_records delimiter bytes = without_last (records (config_of delimiter) (strip_bom bytes ++ 120 ∷ []))
 

@@ -9,8 +9,8 @@ use Rattle.fix_engine.specs.Verdicts.{IsAnswer}
 use Rattle.sheet_clean.specs.declared.setting.Setting.{Setting}
 use Rattle.sheet_clean.specs.Row.{row_state}
 
--- the verdict, and the ends of the first and of the second run; at a fix there is no second, and its end is the
--- beginning
+-- the verdict, and the ends of the first and of the second run; at a fix the second run is empty, so `second` is the
+-- state as it was
 pub record Decision : Type 0 where
   pub verdict : Verdict
   pub first : State

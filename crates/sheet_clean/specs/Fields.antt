@@ -1,5 +1,5 @@
 -- The fields of the lines that a row gives: its line in the clean sheet, and those in the three sheets of changes.
-use Rattle.std.specs.Prelude.{ℕ, ◌+◌, true, false, List, [], ◌∷◌, ◌++◌, length, map, flat_map, codes, decimal}
+use Rattle.std.specs.Prelude.{ℕ, true, false, List, [], ◌∷◌, ◌++◌, length, map, flat_map, codes, decimal}
 use Rattle.std.specs.Prelude.{Option, Some, None, slice_index_or, is_some, if◌then◌else◌}
 use Rattle.std.specs.List.{range_with_len}
 use Rattle.std.specs.Str.{bytes_eq}
@@ -14,6 +14,7 @@ use Rattle.sheet_clean.specs.declared.setting.Setting.{Setting}
 use Rattle.sheet_clean.specs.Header.{attribute_of, column_of}
 use Rattle.sheet_clean.specs.Row.{typed_at}
 use Rattle.sheet_clean.specs.Setting.{attribute_name}
+use Rattle.sheet_clean.specs.Steps.{origin_digits}
 
 -- ---- the clean sheet
 
@@ -73,7 +74,7 @@ abbrev pub step_fields : Kit → Setting → Step → List (List ℕ)
 step_fields kit setting step =
     slice_index_or setting.names.rules step.rule []
     ∷ slice_index_or setting.names.masters (rule_at kit step.rule).master []
-    ∷ decimal (step.row + 1)
+    ∷ origin_digits (Some step)
     ∷ []
 
 -- the same of a step that may not be there: three blanks

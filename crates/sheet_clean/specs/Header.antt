@@ -1,6 +1,6 @@
 -- The tests of a sheet's header, in their order, and which column is whose. Columns count from 1 in faults.
 use Rattle.std.specs.Prelude.{ℕ, ◌+◌, Bool, not, ◌&&◌, is_none, List, [], ◌∷◌, ◌++◌, length, position}
-use Rattle.std.specs.Prelude.{Option, Some, None, if◌then◌else◌}
+use Rattle.std.specs.Prelude.{Option, Some, None, slice_index_or, if◌then◌else◌}
 use Rattle.std.specs.List.{list_all, range_with_len}
 use Rattle.std.specs.Option.{option_map, option_or}
 use Rattle.std.specs.Str.{is_utf8}
@@ -52,7 +52,13 @@ abbrev pub texts_fault : Setting → List (List ℕ) → Option SheetFault
 texts_fault setting header = option_or (columns_fault setting [] header)
     (option_or (known_fault setting header) (verdict_fault setting.verdict header))
 
--- the first fault of a header
+-- the first column begins with a byte order mark: the sheet began with two
+abbrev pub is_marked : List (List ℕ) → Bool
+is_marked header = begins_with_mark (slice_index_or header 0 [])
+
+-- the first fault of a header: two marks are told before all else, as a master's are
 abbrev pub header_fault : Setting → List (List ℕ) → Option SheetFault
 header_fault setting header =
-    if not (list_all is_utf8 header) then Some (NotUtf8 0) else texts_fault setting header
+    if is_marked header then Some (MarkedColumn 1)
+    else if not (list_all is_utf8 header) then Some (NotUtf8 0)
+    else texts_fault setting header

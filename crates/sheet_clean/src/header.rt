@@ -42,7 +42,7 @@ fn columns_fault(setting: &Setting, header: &[Str]) -> Option<SheetFault>
 fn column_fault(setting: &Setting, earlier: &[Str], column: &str) -> Option<SheetFault>
     ensures { result ≡ column_fault setting.now earlier.now column.now }
 {
-    if begins_with_mark(column) {
+    if begins_with_mark(column.as_bytes()) {
         return Some(SheetFault::MarkedColumn(earlier.len() as u64 + 1));
     }
     if !has_text(earlier, column) {
@@ -54,10 +54,10 @@ fn column_fault(setting: &Setting, earlier: &[Str], column: &str) -> Option<Shee
     }
 }
 
-fn begins_with_mark(text: &str) -> bool
+pub(crate) fn begins_with_mark(text: &[u8]) -> bool
     ensures { result ≡ begins_with_mark text.now }
 {
-    text.as_bytes().starts_with(&BYTE_ORDER_MARK)
+    text.starts_with(&BYTE_ORDER_MARK)
 }
 
 /// The first known attribute that has no column.

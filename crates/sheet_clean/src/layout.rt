@@ -11,7 +11,7 @@ ghost use Rattle.sheet_clean.specs.Row.{typed_at};
 
 use crate::fault::SheetFault;
 use crate::fields::{place_of, texts_of};
-use crate::header::header_fault;
+use crate::header::{begins_with_mark, header_fault};
 use crate::setting::Setting;
 use desk_base::{List, NoMemory, Str};
 use std::alloc::Global;
@@ -93,6 +93,9 @@ pub fn layout_of(alloc: Global, setting: &Setting, fields: &[&[u8]]) -> Result<L
     ensures refused { (fault : FaultOf) → IsErrOf result (LayoutFault.Refused fault)
         → header_fault setting.now (bytes_of fields.now) ≡ Some fault }
 {
+    if begins_with_mark(cell_at(fields, 0)) {
+        return Err(LayoutFault::Refused(SheetFault::MarkedColumn(1)));
+    }
     let Some(header) = texts_of(alloc, fields)? else {
         return Err(LayoutFault::Refused(SheetFault::NotUtf8(0)));
     };
