@@ -1,9 +1,7 @@
 -- The records and the derived rows that the machine replies have a text for each attribute.
-use Rattle.std.proofs.Common.{◌≡◌, ◌∙◌, ◌⊎◌, inl, inr, ℕ, suc, ◌-◌, ◌≤◌, true, false, List, [], ◌∷◌}
-use Rattle.std.proofs.Common.{length}
-use Rattle.std.proofs.Common.{refl, sym, ap, subst, arith, Option, Some, Result, Ok, Err}
-use Rattle.std.specs.Prelude.{◌==◌, All, IfSome, filter, slice_get, slice_index_or}
-use Rattle.std.specs.Prelude.{zip, ⊤}
+use Rattle.std.proofs.Common.{◌≡◌, ◌∙◌, ◌⊎◌, inl, inr, ℕ, suc, ◌-◌, ◌≤◌, true, false, List, [], ◌∷◌, length, refl, sym}
+use Rattle.std.proofs.Common.{ap, subst, arith, Option, Some, Result, Ok, Err}
+use Rattle.std.specs.Prelude.{◌==◌, All, IfSome, filter, slice_get, slice_index_or, zip, ⊤}
 use Rattle.std.specs.List.{range_with_len}
 use Rattle.std.specs.Option.{option_map_or}
 use Rattle.std.proofs.lemmas.Bool.{cases_Bool, eqb-true}
@@ -14,7 +12,6 @@ use Rattle.desk_words.specs.declared.command.Command.{Command}
 use Rattle.desk_words.specs.declared.command.Command.TheVariants.{Steward, Clerk, Look, DeskReport, DeskDerive}
 use Rattle.desk_words.specs.declared.command.Ticket.{Ticket}
 use Rattle.desk_words.specs.declared.look.Look.{Look as LookOf}
-use Rattle.desk_words.specs.declared.look.Look.TheVariants as look
 use Rattle.desk_words.specs.declared.refusal.Refusal.{Refusal}
 use Rattle.desk_words.specs.declared.reply.DerivedSheet.{DerivedSheet}
 use Rattle.desk_words.specs.declared.reply.Reply.{Reply}
@@ -38,25 +35,31 @@ use Rattle.machine_core.specs.declared.ticket.Use.{Use as UseOf}
 use Rattle.machine_core.specs.declared.ticket.Use.TheVariants.{Fresh, Repeated}
 use Rattle.machine_core.specs.declared.deed.Deed.{Deed}
 use Rattle.machine_core.specs.Checked.{Gives, each}
+use Rattle.machine_core.specs.Content.{Content, advises, content_of, derives, plain, records, refuses, shows}
 use Rattle.machine_core.specs.Deriving.{derived_sheet}
 use Rattle.machine_core.specs.Finding.{session_at}
 use Rattle.machine_core.specs.Kept.{kept_reply}
 use Rattle.machine_core.specs.Look.Records.{is_on, record_line, records_of}
-use Rattle.machine_core.specs.Machine.{answered, clerk_write_at, look_reply}
-use Rattle.machine_core.specs.Machine.{machine, steward_write}
+use Rattle.machine_core.specs.Look.{look_reply}
+use Rattle.machine_core.specs.Machine.{answered, clerk_write_at, machine, steward_write}
 use Rattle.machine_core.specs.Own.{Own, after, own_of}
 use Rattle.machine_core.specs.Weighing.{IsSettleable, IsWeighed}
+use Rattle.machine_core.proofs.Looks.{Found, look-found}
 use Rattle.machine_core.proofs.Widths.{width-bound}
 use Rattle.machine_core.proofs.Deriving.{derived_sheet-full}
 use Rattle.machine_core.proofs.Walks.{Gives-Met, Met, Met-Gives}
 
 -- ---- which replies are sheets
 
+-- what is printed as CSV
+abbrev IsSheetOf : Content → Type 0
+IsSheetOf (records sheet) = ⊤
+IsSheetOf (derives sheet) = ⊤
+IsSheetOf content = ⊥
+
 -- a reply that is printed as CSV
 abbrev IsSheet : Reply → Type 0
-IsSheet (reply.Records sheet) = ⊤
-IsSheet (reply.Derived sheet) = ⊤
-IsSheet answer = ⊥
+IsSheet answer = IsSheetOf (content_of answer)
 
 -- the kept reply of a clerk is none
 kept_no_sheet : (published : Published) (own : Own) (deed : Act) (place : ℕ) (answer : Reply) → IsSheet answer
@@ -91,27 +94,13 @@ steward_no_sheet rows ticket work Repeated answer is (made, _, same) =
 steward_no_sheet rows ticket work Fresh answer is (making, _, (made, _, same)) =
     subst (λ (one : Reply × List Change). IsSheet one.0) same is
 
--- a look that replies one asked for records
-look_sheet : (published : Published) (own : Own) (looked : LookOf) (answer : Reply) → IsSheet answer
-    → Met (look_reply published own looked) (Ok answer)
-    → (edition : List ℕ) × (version : ℕ) × (sheet : RecordSheet) × (answer ≡ reply.Records sheet)
-    × Gives (records_of published own edition version) (Ok sheet)
-look_sheet published own (look.View number) answer is (view, _, same) = absurd (subst IsSheet same is)
-look_sheet published own (look.Suggest number) answer is (made, _, same) = absurd (subst IsSheet same is)
-look_sheet published own (look.Preview number cells) answer is (view, _, same) = absurd (subst IsSheet same is)
-look_sheet published own look.Report answer is (made, _, same) = absurd (subst IsSheet same is)
-look_sheet published own (look.Records edition version) answer is (sheet, met, same) =
-    (edition, version, sheet, same, Gives-Met (records_of published own edition version) (Ok sheet) met)
-look_sheet published own (look.Explain number word) answer is (made, _, same) = absurd (subst IsSheet same is)
-look_sheet published own (look.Carry number version) answer is (made, _, same) = absurd (subst IsSheet same is)
-
 -- records of a clerk over a version of an edition
 record AreRecords (rows : Rows) (answer : Reply) : Type 0 where
   place : ℕ
   edition : List ℕ
   version : ℕ
   sheet : RecordSheet
-  is : answer ≡ reply.Records sheet
+  is : content_of answer ≡ records sheet
   gives : Gives (records_of (published_of rows) (own_of rows place) edition version) (Ok sheet)
 
 -- rows that a master of a version of an edition gives
@@ -121,8 +110,26 @@ record AreRows (rows : Rows) (answer : Reply) : Type 0 where
   master : List ℕ
   pairs : List (List ℕ × List ℕ)
   sheet : DerivedSheet
-  is : answer ≡ reply.Derived sheet
+  is : content_of answer ≡ derives sheet
   gives : Gives (derived_sheet (published_of rows) edition version master pairs) (Ok sheet)
+
+-- a look that replies a sheet asked for records
+look_sheet : (rows : Rows) (place : ℕ) (looked : LookOf) (answer made : Reply) → content_of answer ≡ content_of made
+    → (content : Content) → content_of made ≡ content → IsSheetOf content
+    → Found (published_of rows) (own_of rows place) looked content → AreRecords rows answer
+look_sheet rows place looked answer made first (records sheet) is printed (edition, version, _, gives) = record {
+  place = place;
+  edition = edition;
+  version = version;
+  sheet = sheet;
+  is = first ∙ is;
+  gives = gives;
+}
+look_sheet rows place looked answer made first (derives sheet) is printed never = absurd never
+look_sheet rows place looked answer made first (shows view) is never found = absurd never
+look_sheet rows place looked answer made first advises is never found = absurd never
+look_sheet rows place looked answer made first (refuses refusal) is never found = absurd never
+look_sheet rows place looked answer made first plain is never found = absurd never
 
 -- so a request that is replied a sheet asked for it, and changes nothing
 sheet_asked : (rows : Rows) (command : Command) (answer : Reply) (changes : List Change) → IsSheet answer
@@ -134,18 +141,13 @@ sheet_asked rows (Clerk name ticket work) answer changes is (place, _, (made, (u
     let first : answer ≡ made.0 = ap (λ (both : Reply × List Change). both.0) same in
     absurd (write_no_sheet (published_of rows) (own_of rows place) work used made (subst IsSheet first is) written)
 sheet_asked rows (Look name looked) answer changes is (place, _, (made, shown, same)) =
+    let published : Published = published_of rows in
+    let own : Own = own_of rows place in
     let first : answer ≡ made = ap (λ (both : Reply × List Change). both.0) same in
-    let (edition, version, sheet, told, gives) = look_sheet (published_of rows) (own_of rows place) looked made
-    (subst IsSheet first is) shown in (
+    let given = Gives-Met (look_reply published own looked) (Ok made) shown in (
       ap (λ (both : Reply × List Change). both.1) same,
-      inl (record {
-        place = place;
-        edition = edition;
-        version = version;
-        sheet = sheet;
-        is = first ∙ told;
-        gives = gives;
-      }),
+      inl (look_sheet rows place looked answer made (ap content_of first) (content_of made) refl
+          (subst IsSheet first is) (look-found published own looked made given)),
     )
 sheet_asked rows DeskReport answer changes is (made, _, same) =
     absurd (subst IsSheet (ap (λ (both : Reply × List Change). both.0) same) is)
@@ -157,7 +159,7 @@ sheet_asked rows (DeskDerive edition version master pairs) answer changes is (sh
     master = master;
     pairs = pairs;
     sheet = sheet;
-    is = ap (λ (both : Reply × List Change). both.0) same;
+    is = ap (λ (both : Reply × List Change). content_of both.0) same;
     gives = Gives-Met (derived_sheet (published_of rows) edition version master pairs) (Ok sheet) met;
   }),
 )
@@ -247,13 +249,13 @@ pub weighed_records : (rows : Rows) (command : Command) (weighed : Weighed) → 
 weighed_records rows command weighed is settleable sheet same =
     let found = weighed_sheet rows command weighed is settleable (subst IsSheet (sym same) tt) in
     elim found.1 [
-      | inl records ↦
-          let both : reply.Records records.sheet ≡ reply.Records sheet = sym records.is ∙ same in
-          let sheets : records.sheet ≡ sheet = cc in
+      | inl asked ↦
+          let both : records asked.sheet ≡ records sheet = sym asked.is ∙ ap content_of same in
+          let sheets : asked.sheet ≡ sheet = cc in
           subst IsFull sheets
-          (records_full rows records.place records.edition records.version records.sheet found.0 records.gives)
-      | inr derived ↦
-          let apart : reply.Derived derived.sheet ≡ reply.Records sheet = sym derived.is ∙ same in
+          (records_full rows asked.place asked.edition asked.version asked.sheet found.0 asked.gives)
+      | inr asked ↦
+          let apart : derives asked.sheet ≡ records sheet = sym asked.is ∙ ap content_of same in
           absurd cc
     ]
 
@@ -263,12 +265,12 @@ pub weighed_derived : (rows : Rows) (command : Command) (weighed : Weighed) → 
 weighed_derived rows command weighed is settleable sheet same =
     let found = weighed_sheet rows command weighed is settleable (subst IsSheet (sym same) tt) in
     elim found.1 [
-      | inl records ↦
-          let apart : reply.Records records.sheet ≡ reply.Derived sheet = sym records.is ∙ same in
+      | inl asked ↦
+          let apart : records asked.sheet ≡ derives sheet = sym asked.is ∙ ap content_of same in
           absurd cc
-      | inr derived ↦
-          let both : reply.Derived derived.sheet ≡ reply.Derived sheet = sym derived.is ∙ same in
-          let sheets : derived.sheet ≡ sheet = cc in
-          subst IsWide sheets (derived_sheet-full (published_of rows) derived.edition derived.version derived.master
-          derived.pairs derived.sheet derived.gives)
+      | inr asked ↦
+          let both : derives asked.sheet ≡ derives sheet = sym asked.is ∙ ap content_of same in
+          let sheets : asked.sheet ≡ sheet = cc in
+          subst IsWide sheets (derived_sheet-full (published_of rows) asked.edition asked.version asked.master
+          asked.pairs asked.sheet asked.gives)
     ]

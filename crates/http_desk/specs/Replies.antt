@@ -5,8 +5,8 @@ use Rattle.serde_json.specs.Written.{compact_text}
 use Rattle.desk_words.specs.declared.refusal.Refusal.{Refusal}
 use Rattle.desk_words.specs.declared.refusal.Refusal.TheVariants as refusal
 use Rattle.desk_words.specs.declared.reply.Reply.{Reply}
-use Rattle.desk_words.specs.declared.reply.Reply.TheVariants.{Made, Opened, View, Committed, Batched, Suggested, Report}
-use Rattle.desk_words.specs.declared.reply.Reply.TheVariants.{Records, Explained, Derived, Carried, Refused}
+use Rattle.desk_words.specs.declared.reply.Reply.TheVariants.{Made, Opened, Committed, Batched, Report, Records}
+use Rattle.desk_words.specs.declared.reply.Reply.TheVariants.{Derived, Refused}
 use Rattle.desk_json.specs.Faults.{fault_shown}
 use Rattle.desk_json.specs.Replies.{reply_shown}
 use Rattle.desk_sheets.specs.Derived.{derived_text}
@@ -23,45 +23,29 @@ use Rattle.http_desk.specs.Responses.{response}
 
 -- ---- the machine's replies
 
--- the status of a refusal
+-- the status of a refusal: 422 but for those that are named here
 abbrev pub refusal_status : Refusal → Status
 refusal_status refusal.NoClerk = status.NotFound
+refusal_status (refusal.NoSuch kind) = status.NotFound
 refusal_status (refusal.Stale last) = status.Conflict
 refusal_status (refusal.Gap last) = status.Conflict
 refusal_status (refusal.Reused last) = status.Conflict
-refusal_status (refusal.NoSuch kind) = status.NotFound
 refusal_status (refusal.Closed stage) = status.Conflict
-refusal_status (refusal.UnknownAttr name) = status.UnprocessableContent
-refusal_status (refusal.ValueLong name) = status.UnprocessableContent
-refusal_status (refusal.NotCertain uncovered) = status.UnprocessableContent
-refusal_status refusal.InConflict = status.UnprocessableContent
-refusal_status (refusal.NotConfirmed name) = status.UnprocessableContent
+refusal_status (refusal.Taken name) = status.Conflict
+refusal_status (refusal.NotNewer version) = status.Conflict
 refusal_status (refusal.Limit which most) = status.ContentTooLarge
-refusal_status (refusal.BadText reader code first second) = status.UnprocessableContent
 refusal_status refusal.Unavailable = status.ServiceUnavailable
 refusal_status refusal.NoMemory = status.InsufficientStorage
-refusal_status (refusal.Twice name) = status.UnprocessableContent
-refusal_status (refusal.Taken name) = status.Conflict
-refusal_status (refusal.BadName name) = status.UnprocessableContent
-refusal_status (refusal.RowWidth row) = status.UnprocessableContent
-refusal_status (refusal.NotFixed name) = status.UnprocessableContent
-refusal_status (refusal.NoColumn name) = status.UnprocessableContent
-refusal_status (refusal.NotNewer version) = status.Conflict
+refusal_status unfit = status.UnprocessableContent
 
--- the status of a reply: what was made, looked at or refused
+-- the status of a reply: what was made or refused, or else looked at
 abbrev pub reply_status : Reply → Status
 reply_status (Made made) = status.Created
 reply_status (Opened session) = status.Created
-reply_status (View session) = status.Ok
 reply_status (Committed number session certain) = status.Created
 reply_status (Batched batch) = status.Created
-reply_status (Suggested suggested) = status.Ok
-reply_status (Report sheet) = status.Ok
-reply_status (Records sheet) = status.Ok
-reply_status (Explained explained) = status.Ok
-reply_status (Derived sheet) = status.Ok
-reply_status (Carried carried) = status.Ok
 reply_status (Refused refusal) = refusal_status refusal
+reply_status reply = status.Ok
 
 -- what the body of a reply is
 abbrev pub reply_type : Reply → ContentType

@@ -1,5 +1,6 @@
 -- The bytes of a response (RFC 9112, section 4; docs/formats.md, *Responses*).
-use Rattle.std.specs.Prelude.{ℕ, Bool, List, [], ◌∷◌, ◌++◌, length, codes, decimal, if◌then◌else◌}
+use Rattle.std.specs.Prelude.{ℕ, Bool, List, [], ◌++◌, length, codes, decimal, if◌then◌else◌}
+use Rattle.httparse.specs.Ascii.{crlf_bytes}
 use Rattle.http_desk.specs.declared.status.Status.{Status}
 use Rattle.http_desk.specs.declared.status.Status.TheVariants.{Ok, Created, BadRequest, NotFound, MethodNotAllowed}
 use Rattle.http_desk.specs.declared.status.Status.TheVariants.{Conflict, LengthRequired, ContentTooLarge}
@@ -48,30 +49,26 @@ type_of Json = codes "application/json"
 type_of Text = codes "text/plain"
 type_of Csv = codes "text/csv"
 
--- a line with its end
-abbrev pub line : List ℕ → List ℕ
-line text = text ++ 13 ∷ 10 ∷ []
-
 -- the first line: the version of HTTP, the number of the status and its reason phrase
 abbrev pub status_line : Status → List ℕ
-status_line status = codes "HTTP/1.1 " ++ (decimal (code_of status) ++ (codes " " ++ line (reason_of status)))
+status_line status = codes "HTTP/1.1 " ++ (decimal (code_of status) ++ (codes " " ++ (reason_of status ++ crlf_bytes)))
 
 -- the line that says what the body is
 abbrev pub type_line : ContentType → List ℕ
-type_line kind = codes "Content-Type: " ++ line (type_of kind)
+type_line kind = codes "Content-Type: " ++ (type_of kind ++ crlf_bytes)
 
 -- the line that says how many bytes the body has
 abbrev pub length_line : ℕ → List ℕ
-length_line count = codes "Content-Length: " ++ line (decimal count)
+length_line count = codes "Content-Length: " ++ (decimal count ++ crlf_bytes)
 
 -- that the stream is closed behind the response
 abbrev pub closing_lines : Bool → List ℕ
-closing_lines closing = if closing then line (codes "Connection: close") else []
+closing_lines closing = if closing then codes "Connection: close" ++ crlf_bytes else []
 
 -- the head of a response whose body has so many bytes
 abbrev pub head_text : Status → ContentType → ℕ → Bool → List ℕ
 head_text status kind count closing =
-    status_line status ++ (type_line kind ++ (length_line count ++ (closing_lines closing ++ line [])))
+    status_line status ++ (type_line kind ++ (length_line count ++ (closing_lines closing ++ crlf_bytes)))
 
 -- ---- the response
 

@@ -78,11 +78,10 @@ fn reply_status(reply: &Reply) -> Status
     ensures { result ≡ reply_status reply.now }
 {
     match reply {
-        Reply::View(_) | Reply::Suggested(_) | Reply::Report(_) | Reply::Records(_) => Status::Ok,
-        Reply::Explained(_) | Reply::Derived(_) | Reply::Carried(_) => Status::Ok,
         Reply::Made(_) | Reply::Opened(_) | Reply::Batched(_) => Status::Created,
         Reply::Committed { .. } => Status::Created,
         Reply::Refused(refusal) => refusal_status(refusal),
+        _ => Status::Ok,
     }
 }
 
@@ -93,19 +92,10 @@ fn refusal_status(refusal: &Refusal) -> Status
         Refusal::NoClerk | Refusal::NoSuch(_) => Status::NotFound,
         Refusal::Stale(_) | Refusal::Gap(_) | Refusal::Reused(_) => Status::Conflict,
         Refusal::Closed(_) | Refusal::Taken(_) | Refusal::NotNewer(_) => Status::Conflict,
-        Refusal::UnknownAttr(_) | Refusal::ValueLong(_) | Refusal::NotConfirmed(_) => {
-            Status::UnprocessableContent
-        }
-        Refusal::NotCertain(_) | Refusal::InConflict | Refusal::RowWidth(_) => {
-            Status::UnprocessableContent
-        }
-        Refusal::NotFixed(_) | Refusal::NoColumn(_) => Status::UnprocessableContent,
-        Refusal::BadText(_, _, _, _) | Refusal::Twice(_) | Refusal::BadName(_) => {
-            Status::UnprocessableContent
-        }
         Refusal::Limit(_, _) => Status::ContentTooLarge,
         Refusal::Unavailable => Status::ServiceUnavailable,
         Refusal::NoMemory => Status::InsufficientStorage,
+        _ => Status::UnprocessableContent,
     }
 }
 

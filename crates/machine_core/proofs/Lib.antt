@@ -19,6 +19,7 @@ pub mod Placing
 pub mod Distinct
 pub mod Deriving
 pub mod Answering
+pub mod Looks
 pub mod Pairs
 pub mod ReadRows
 pub mod SheetCells

@@ -9,11 +9,10 @@ use Rattle.desk_words.specs.declared.clerk_work.Accept.{Accept}
 use Rattle.desk_words.specs.declared.clerk_work.Accept.TheVariants.{Certain}
 use Rattle.desk_words.specs.declared.clerk_work.ClerkWork.TheVariants.{Enter, Confirm, Withdraw, Commit, Batch}
 use Rattle.desk_words.specs.declared.command.Command.{Command}
-use Rattle.desk_words.specs.declared.command.Command.TheVariants.{Steward, Clerk, Look}
+use Rattle.desk_words.specs.declared.command.Command.TheVariants.{Steward, Clerk}
 use Rattle.desk_words.specs.declared.command.Ticket.{Ticket}
 use Rattle.desk_words.specs.declared.limit.Which.{Which}
 use Rattle.desk_words.specs.declared.limit.Which.TheVariants as which
-use Rattle.desk_words.specs.declared.look.Look.TheVariants.{Explain}
 use Rattle.desk_words.specs.declared.refusal.Kind.TheVariants as kind
 use Rattle.desk_words.specs.declared.refusal.Reader.TheVariants as reader
 use Rattle.desk_words.specs.declared.refusal.Refusal.{Refusal}
@@ -63,7 +62,8 @@ use Rattle.machine_core.specs.Finding.{session_at}
 use Rattle.machine_core.specs.Limits.{limit_of}
 use Rattle.machine_core.specs.Machine.{clerk_of}
 use Rattle.machine_core.specs.Named.{GivesText, attributes_in, carried_in, clerk_in, columns_in, edition_in, master_in}
-use Rattle.machine_core.specs.Named.{masters_in, new_name_in, rulebook_in, schema_in, session_in, version_in}
+use Rattle.machine_core.specs.Named.{masters_in, new_name_in, reason_in, rulebook_in, schema_in, session_in}
+use Rattle.machine_core.specs.Named.{version_in}
 use Rattle.machine_core.specs.Own.{Own, own_of}
 use Rattle.machine_core.specs.Steward.AddEdition.{master_name}
 use Rattle.machine_core.specs.Steward.AddRegion.{region_count}
@@ -135,9 +135,7 @@ pub record Commits (rows : Rows) (command : Command) (accept : Accept) (session 
 -- the command asks why this attribute of this session is fixed, and the rules make this of it
 pub record Explains (rows : Rows) (command : Command) (word : List ℕ) (session : SessionRow) (bound : Bound)
     (answer : Answer) : Type 0 where
-  pub name : List ℕ
-  pub number : ℕ
-  pub is : command ≡ Look name (Explain number word)
+  pub asks : reason_in command ≡ Some word
   pub names : Names rows command session
   pub binds : bound_at (published_of rows) session.edition ≡ Some bound
   pub answers : IsAnswer bound.kit (state_of session) answer.first answer.second answer.verdict

@@ -10,9 +10,6 @@ use Rattle.desk_words.specs.declared.clerk_work.ClerkWork.TheVariants.{Carry}
 use Rattle.desk_words.specs.declared.command.Command.{Command}
 use Rattle.desk_words.specs.declared.command.Command.TheVariants.{Steward, Clerk, Look, DeskReport, DeskDerive}
 use Rattle.desk_words.specs.declared.command.Ticket.{Ticket}
-use Rattle.desk_words.specs.declared.look.Look.{Look as LookOf}
-use Rattle.desk_words.specs.declared.look.Look.TheVariants.{View, Suggest, Preview, Report, Records, Explain}
-use Rattle.desk_words.specs.declared.look.Look.TheVariants.{Carry as CarryLook}
 use Rattle.desk_words.specs.declared.refusal.Refusal.{Refusal}
 use Rattle.desk_words.specs.declared.refusal.Refusal.TheVariants.{NoClerk}
 use Rattle.desk_words.specs.declared.reply.Reply.{Reply}
@@ -34,13 +31,8 @@ use Rattle.machine_core.specs.Clerk.Enter.{enter}
 use Rattle.machine_core.specs.Clerk.Withdraw.{withdraw}
 use Rattle.machine_core.specs.Deriving.{derived_sheet}
 use Rattle.machine_core.specs.Kept.{kept_reply, kept_made}
-use Rattle.machine_core.specs.Look.Carry.{carrying}
-use Rattle.machine_core.specs.Look.Explain.{explain}
-use Rattle.machine_core.specs.Look.Preview.{preview}
-use Rattle.machine_core.specs.Look.Records.{records_of}
+use Rattle.machine_core.specs.Look.{look_reply}
 use Rattle.machine_core.specs.Look.Report.{report_of}
-use Rattle.machine_core.specs.Look.Suggest.{suggestion_of}
-use Rattle.machine_core.specs.Look.View.{view_at}
 use Rattle.machine_core.specs.Own.{Own, after, changes_of, own_of}
 use Rattle.machine_core.specs.declared.deed.Deed.{Deed}
 use Rattle.machine_core.specs.declared.making.Making.{Making}
@@ -119,30 +111,6 @@ abbrev pub clerk_write : Published → Own → Ticket → ClerkWork → Checked 
 clerk_write published own ticket work = do
   use_made ← use_of own.row ticket
   clerk_write_at published own work use_made
-
--- a clerk's look, one look a case
-abbrev pub look_reply : Published → Own → LookOf → Checked Reply
-look_reply published own (View number) = do
-  view ← view_at published own number
-  done (reply.View view)
-look_reply published own (Suggest number) = do
-  suggestion ← suggestion_of published own number
-  done (reply.Suggested suggestion)
-look_reply published own (Preview number cells) = do
-  view ← preview published own number cells
-  done (reply.View view)
-look_reply published own Report = do
-  sheet ← report_of published (Some own.row.name) own.sessions
-  done (reply.Report sheet)
-look_reply published own (Records edition version) = do
-  sheet ← records_of published own edition version
-  done (reply.Records sheet)
-look_reply published own (Explain number word) = do
-  explanation ← explain published own number word
-  done (reply.Explained explanation)
-look_reply published own (CarryLook number version) = do
-  carried ← carrying published own number version
-  done (reply.Carried carried)
 
 -- the place of a clerk who is not the steward
 abbrev pub clerk_of : List ClerkRow → List ℕ → Checked ℕ

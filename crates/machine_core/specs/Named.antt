@@ -1,17 +1,16 @@
 -- What a command names.
-use Rattle.std.specs.Prelude.{ℕ, List, [], ◌∷◌, ◌++◌, Contains, map, zip, Option, Some, None, Result, Ok, Err}
+use Rattle.std.specs.Prelude.{ℕ, List, [], ◌++◌, Contains, map, zip, Option, Some, None, Result, Ok, Err}
 use Rattle.desk_words.specs.declared.clerk_work.ClerkWork.TheVariants.{Enter, Confirm, Withdraw, Commit, Abandon, Batch}
 use Rattle.desk_words.specs.declared.clerk_work.ClerkWork.TheVariants.{Carry}
 use Rattle.desk_words.specs.declared.command.Command.{Command}
 use Rattle.desk_words.specs.declared.command.Command.TheVariants.{Steward, Clerk, Look, DeskDerive}
-use Rattle.desk_words.specs.declared.look.Look.TheVariants.{View, Suggest, Preview, Records, Explain}
-use Rattle.desk_words.specs.declared.look.Look.TheVariants.{Carry as CarryLook}
 use Rattle.desk_words.specs.declared.steward_work.StewardWork.TheVariants.{AddClerk, AddMaster, AddRulebook, AddEdition}
 use Rattle.desk_words.specs.declared.steward_work.StewardWork.TheVariants.{AddRegion, AddDerived}
 use Rattle.master_rows.specs.declared.error.SheetFault.{SheetFault}
 use Rattle.master_rows.specs.declared.master.Master.{Master}
 use Rattle.master_rows.specs.Sheet.{read_sheet}
 use Rattle.machine_core.specs.Clerk.Batch.{word_of}
+use Rattle.machine_core.specs.Look.{named_by}
 
 -- the clerk's name; the steward has none
 abbrev pub clerk_in : Command → Option (List ℕ)
@@ -26,11 +25,7 @@ session_in (Clerk name ticket (Withdraw number names)) = Some number
 session_in (Clerk name ticket (Commit number accept)) = Some number
 session_in (Clerk name ticket (Abandon number)) = Some number
 session_in (Clerk name ticket (Carry number version)) = Some number
-session_in (Look name (View number)) = Some number
-session_in (Look name (Suggest number)) = Some number
-session_in (Look name (Preview number cells)) = Some number
-session_in (Look name (Explain number word)) = Some number
-session_in (Look name (CarryLook number version)) = Some number
+session_in (Look name look) = (named_by look).session
 session_in _ = None
 
 -- an edition, of which the newest version is meant
@@ -43,7 +38,7 @@ edition_in _ = None
 abbrev pub version_in : Command → Option (List ℕ × ℕ)
 version_in (Steward ticket (AddRegion edition version attributes rows)) = Some (edition, version)
 version_in (Steward ticket (AddDerived edition version master pairs from)) = Some (edition, version)
-version_in (Look name (Records edition version)) = Some (edition, version)
+version_in (Look name look) = (named_by look).edition
 version_in (DeskDerive edition version master pairs) = Some (edition, version)
 version_in _ = None
 
@@ -71,8 +66,7 @@ attributes_in (Clerk name ticket (Enter edition cells confirmed)) = map (λ cell
 attributes_in (Clerk name ticket (Confirm number cells)) = map (λ cell. cell.0) cells
 attributes_in (Clerk name ticket (Withdraw number names)) = names
 attributes_in (Clerk name ticket (Batch edition body)) = sheet_words (read_sheet body)
-attributes_in (Look name (Preview number cells)) = map (λ cell. cell.0) cells
-attributes_in (Look name (Explain number word)) = word ∷ []
+attributes_in (Look name look) = (named_by look).attributes
 attributes_in (DeskDerive edition version master pairs) = map (λ pair. pair.0) pairs
 attributes_in _ = []
 
@@ -96,14 +90,19 @@ columns_in _ = []
 -- the version to which a session is to be carried, or might be
 abbrev pub carried_in : Command → Option ℕ
 carried_in (Clerk name ticket (Carry number version)) = Some version
-carried_in (Look name (CarryLook number version)) = Some version
+carried_in (Look name look) = (named_by look).version
 carried_in _ = None
+
+-- the word of the attribute whose reason is asked for
+abbrev pub reason_in : Command → Option (List ℕ)
+reason_in (Look name look) = (named_by look).reason
+reason_in _ = None
 
 -- a text for an attribute, by its word
 abbrev pub GivesText : Command → List ℕ → List ℕ → Type 0
 GivesText (Clerk name ticket (Enter edition cells confirmed)) word text = Contains cells (word, text)
 GivesText (Clerk name ticket (Confirm number cells)) word text = Contains cells (word, text)
-GivesText (Look name (Preview number cells)) word text = Contains cells (word, text)
+GivesText (Look name look) word text = Contains (named_by look).cells (word, text)
 GivesText (Steward ticket (AddRegion edition version attributes rows)) word text =
     (texts : List (List ℕ)) × Contains rows texts × Contains (zip attributes texts) (word, text)
 GivesText _ word text = ⊥

@@ -1,17 +1,14 @@
 -- What a clerk does, and what a clerk looks at, comes to a result over valid tables.
-use Rattle.std.proofs.Common.{◌≡◌, ℕ, ◌-◌, ◌<◌, Bool, List, [], length, map, Some, sym, subst}
-use Rattle.std.specs.Prelude.{IfSome, Ok, is_some, nat_lt}
+use Rattle.std.proofs.Common.{◌≡◌, ℕ, ◌-◌, ◌<◌, Bool, List, [], length, map, sym, subst}
+use Rattle.std.specs.Prelude.{IfSome, Ok, nat_lt}
 use Rattle.master_rows.specs.Sheet.{read_sheet}
 use Rattle.desk_words.specs.declared.clerk_work.Accept.{Accept}
 use Rattle.desk_words.specs.declared.clerk_work.Accept.TheVariants.{Certain, Partial}
 use Rattle.desk_words.specs.declared.clerk_work.ClerkWork.{ClerkWork}
 use Rattle.desk_words.specs.declared.clerk_work.ClerkWork.TheVariants.{Enter, Confirm, Withdraw, Commit, Abandon, Batch}
 use Rattle.desk_words.specs.declared.clerk_work.ClerkWork.TheVariants.{Carry}
-use Rattle.desk_words.specs.declared.look.Look.{Look as LookOf}
-use Rattle.desk_words.specs.declared.look.Look.TheVariants.{View, Suggest, Preview, Report, Records, Explain}
-use Rattle.desk_words.specs.declared.look.Look.TheVariants.{Carry as CarryLook}
 use Rattle.desk_words.specs.declared.refusal.Kind.TheVariants as kind
-use Rattle.desk_words.specs.declared.refusal.Refusal.TheVariants.{InConflict, NoSuch, NotFixed, NotNewer}
+use Rattle.desk_words.specs.declared.refusal.Refusal.TheVariants.{InConflict, NoSuch, NotNewer}
 use Rattle.desk_words.specs.declared.rows.edition.EditionRow.{EditionRow}
 use Rattle.desk_words.specs.declared.rows.session.SessionRow.{SessionRow}
 use Rattle.desk_words.specs.Tables.{Rows, published_of}
@@ -19,10 +16,8 @@ use Rattle.desk_valid.specs.Readings.{width_at}
 use Rattle.desk_valid.specs.Valid.{AreValid}
 use Rattle.fix_engine.specs.declared.verdict.Verdict.{Verdict}
 use Rattle.fix_engine.specs.declared.verdict.Verdict.TheVariants.{Fix, Conflict}
-use Rattle.fix_model.specs.declared.state.State.{State}
-use Rattle.fix_model.specs.Run.{end_of}
-use Rattle.fix_model.specs.States.{cell_at, fixed_by, uncovered_count}
-use Rattle.machine_core.specs.Answers.{bound_for, state_of}
+use Rattle.fix_model.specs.States.{uncovered_count}
+use Rattle.machine_core.specs.Answers.{bound_for}
 use Rattle.machine_core.specs.Checked.{some_or, Gives}
 use Rattle.machine_core.specs.Clerk.Batch.{another_column}
 use Rattle.machine_core.specs.Clerk.Carry.{carry_row}
@@ -32,33 +27,29 @@ use Rattle.machine_core.specs.Clerk.Withdraw.{confirmed_place}
 use Rattle.machine_core.specs.declared.column.Column.{Column}
 use Rattle.machine_core.specs.Faults.{sheet_refusal}
 use Rattle.machine_core.specs.Finding.{edition_named, newest_edition, session_at, version_count}
-use Rattle.machine_core.specs.Look.Suggest.{regions_of}
-use Rattle.machine_core.specs.Machine.{deed_of, look_reply}
+use Rattle.machine_core.specs.Machine.{deed_of}
 use Rattle.machine_core.specs.Own.{Own}
 use Rattle.machine_core.specs.OwnRows.{AreOwnRows}
 use Rattle.machine_core.specs.Sessions.{IsSessionOf}
 use Rattle.machine_core.specs.Tests.{active_session, attribute_of, session_of, typed_cell}
 use Rattle.machine_core.specs.Views.{edition_at}
 use Rattle.machine_core.proofs.Carried.{carried-stands}
-use Rattle.machine_core.proofs.Tested.{some_or-ok, unless-ok}
+use Rattle.machine_core.proofs.Tested.{some_or-ok}
 use Rattle.machine_core.proofs.Widths.{length-confirmed_at, length-typed_over}
 use Rattle.machine_core.proofs.Commands.{carry_row-ok, confirm_row-ok}
-use Rattle.machine_laws.proofs.Comparing.{view_at-apart}
 use Rattle.machine_laws.proofs.Makings.{place_of-within}
-use Rattle.machine_laws.proofs.Outcomes.{HasOutcome, outcome-all, outcome-behind, outcome-bind, outcome-changes}
-use Rattle.machine_laws.proofs.Outcomes.{outcome-done, outcome-refused, outcome-some_or, outcome-unless}
-use Rattle.machine_laws.proofs.Outcomes.{outcome-value_or, plain_tests}
-use Rattle.machine_laws.proofs.OwnOutcomes.{outcome-bound, outcome-report, outcome-view, outcome-view_at}
-use Rattle.machine_laws.proofs.OwnOutcomes.{session-advised, session-answered, session-explained, session-of}
-use Rattle.machine_laws.proofs.OwnOutcomes.{sessions-of}
+use Rattle.machine_laws.proofs.Outcomes.{HasOutcome, outcome-all, outcome-behind, outcome-bind, outcome-done}
+use Rattle.machine_laws.proofs.Outcomes.{outcome-refused, outcome-some_or, outcome-unless, outcome-value_or}
+use Rattle.machine_laws.proofs.Outcomes.{plain_tests}
+use Rattle.machine_laws.proofs.OwnOutcomes.{outcome-bound, session-answered, session-of}
 use Rattle.machine_laws.proofs.Sessions.{active_session-ok, session_at-found, IsActiveAt-session}
 
 -- an active session is found, or it is refused
-outcome-active : (sessions : List SessionRow) (number : ℕ) → HasOutcome (active_session sessions number)
+pub outcome-active : (sessions : List SessionRow) (number : ℕ) → HasOutcome (active_session sessions number)
 outcome-active sessions number = search plain_tests
 
 -- an attribute by its word
-outcome-attribute : (words : List (List ℕ)) (word : List ℕ) → HasOutcome (attribute_of words word)
+pub outcome-attribute : (words : List (List ℕ)) (word : List ℕ) → HasOutcome (attribute_of words word)
 outcome-attribute words word = search plain_tests
 
 -- a typed cell
@@ -76,7 +67,7 @@ outcome-column : (words : List (List ℕ)) (before : List Column) (column : List
 outcome-column words before column = search plain_tests
 
 -- a fix, or a conflict
-outcome-not_in_conflict : (verdict : Verdict) → HasOutcome (not_in_conflict verdict)
+pub outcome-not_in_conflict : (verdict : Verdict) → HasOutcome (not_in_conflict verdict)
 outcome-not_in_conflict (Fix certain dissent) = outcome-done tt
 outcome-not_in_conflict Conflict = outcome-refused InConflict
 
@@ -108,26 +99,26 @@ module _ (rows : Rows) (valid : AreValid rows) where
 
   module _ (own : Own) (are : AreOwnRows (published_of rows) own.sessions own.records own.batches) where
     -- an active session that was found stands
-    active-of : (number : ℕ) (session : SessionRow) → Gives (active_session own.sessions number) (Ok session)
+    pub active-of : (number : ℕ) (session : SessionRow) → Gives (active_session own.sessions number) (Ok session)
         → IsSessionOf (published_of rows) session
     active-of number session gives = session-of rows valid own are (number - 1) session
         (active_session-ok own.sessions number session gives).stands
 
     -- its edition has a kit
-    outcome-active_bound : (number : ℕ) (session : SessionRow) → Gives (active_session own.sessions number) (Ok session)
-        → HasOutcome (bound_for (published_of rows) session)
+    pub outcome-active_bound : (number : ℕ) (session : SessionRow)
+        → Gives (active_session own.sessions number) (Ok session) → HasOutcome (bound_for (published_of rows) session)
     outcome-active_bound number session gives =
         outcome-bound rows valid session.edition (active-of number session gives).edition
 
     -- a Confirm of it is tested
-    outcome-confirm : (number : ℕ) (cells : List (List ℕ × List ℕ))
+    pub outcome-confirm : (number : ℕ) (cells : List (List ℕ × List ℕ))
         → HasOutcome (confirm_row (published_of rows) own number cells)
     outcome-confirm number cells = outcome-bind (outcome-active own.sessions number) (λ session is.
         outcome-bind (outcome-active_bound number session is) (λ bound binds.
         outcome-bind (outcome-all _ cells (outcome-cell bound.names.attributes)) (λ texts ok. outcome-done _)))
 
     -- the session that a Confirm leaves stands
-    confirmed-of : (number : ℕ) (cells : List (List ℕ × List ℕ)) (session : SessionRow)
+    pub confirmed-of : (number : ℕ) (cells : List (List ℕ × List ℕ)) (session : SessionRow)
         → Gives (confirm_row (published_of rows) own number cells) (Ok session)
         → IsSessionOf (published_of rows) session
     confirmed-of number cells session gives =
@@ -144,14 +135,14 @@ module _ (rows : Rows) (valid : AreValid rows) where
         })
 
     -- a session by its number stands
-    found-of : (number : ℕ) (session : SessionRow) → Gives (session_of own.sessions number) (Ok session)
+    pub found-of : (number : ℕ) (session : SessionRow) → Gives (session_of own.sessions number) (Ok session)
         → IsSessionOf (published_of rows) session
     found-of number session gives = session-of rows valid own are (number - 1) session
         (session_at-found own.sessions number
         session (some_or-ok (session_at own.sessions number) (NoSuch kind.Session) session gives)).1
 
     -- a Carry of it is tested
-    outcome-carry : (number version : ℕ) → HasOutcome (carry_row (published_of rows) own number version)
+    pub outcome-carry : (number version : ℕ) → HasOutcome (carry_row (published_of rows) own number version)
     outcome-carry number version = outcome-bind (outcome-active own.sessions number) (λ session is.
         let pinned : EditionRow = edition_at (published_of rows) session.edition in
         outcome-bind (outcome-some_or (edition_named rows.editions pinned.name version) (NoSuch kind.Edition))
@@ -163,7 +154,7 @@ module _ (rows : Rows) (valid : AreValid rows) where
         outcome-done _)))))
 
     -- the session that a Carry leaves stands
-    carried-of : (number version : ℕ) (session : SessionRow)
+    pub carried-of : (number version : ℕ) (session : SessionRow)
         → Gives (carry_row (published_of rows) own number version) (Ok session) → IsSessionOf (published_of rows)
         session
     carried-of number version session gives =
@@ -202,38 +193,3 @@ module _ (rows : Rows) (valid : AreValid rows) where
         outcome-bind (outcome-behind [] _ sheet.columns (outcome-column bound.names.attributes)) (λ columns ok.
         search plain_tests depth 8))))
     outcome-deed (Carry number version) = outcome-bind (outcome-carry number version) (λ session ok. outcome-done _)
-
-    -- each look of a clerk
-    pub outcome-look : (look : LookOf) → HasOutcome (look_reply (published_of rows) own look)
-    outcome-look (View number) =
-        outcome-bind (outcome-view_at rows valid own are number) (λ view ok. outcome-done _)
-    outcome-look (Suggest number) = outcome-bind (outcome-bind (outcome-active own.sessions number) (λ session is.
-        outcome-bind (outcome-active_bound number session is) (λ bound binds.
-        outcome-bind (session-advised rows valid session bound (regions_of rows.regions session.edition)
-        (active-of number session is) binds) (λ suggestion ok. outcome-done _)))) (λ suggested ok. outcome-done _)
-    outcome-look (Preview number cells) = outcome-bind (outcome-bind (outcome-confirm number cells) (λ session is.
-        outcome-view rows valid number session (confirmed-of number cells session is))) (λ view ok. outcome-done _)
-    outcome-look Report = outcome-bind (outcome-report rows valid (Some own.row.name) own.sessions
-        (sessions-of rows valid own are)) (λ sheet ok. outcome-done _)
-    outcome-look (Records edition version) = outcome-bind (outcome-bind
-        (outcome-some_or (edition_named rows.editions edition version) (NoSuch kind.Edition)) (λ place found.
-        outcome-bind (outcome-bound rows valid place (named-within edition version place found)) (λ bound binds.
-        outcome-done _))) (λ sheet ok. outcome-done _)
-    outcome-look (Explain number word) = outcome-bind (outcome-bind
-        (outcome-some_or (session_at own.sessions number) (NoSuch kind.Session)) (λ session found.
-        let is = found-of number session found in
-        outcome-bind (outcome-bound rows valid session.edition is.edition) (λ bound binds.
-        outcome-bind (outcome-attribute bound.names.attributes word) (λ attribute there.
-        outcome-bind (session-answered rows valid session bound is binds) (λ answer given.
-        let end : State = end_of bound.kit (state_of session) answer.first in
-        let is_fixed : Bool = is_some (fixed_by (cell_at end attribute)) in
-        outcome-bind (outcome-not_in_conflict answer.verdict) (λ _ _.
-        outcome-bind (outcome-unless is_fixed (NotFixed word)) (λ passed ok.
-        outcome-bind (session-explained rows valid session bound answer attribute is binds given
-        (unless-ok is_fixed (NotFixed word) passed ok)) (λ explanation told. outcome-done _)))))))) (λ explained ok.
-        outcome-done _)
-    outcome-look (CarryLook number version) = outcome-bind (outcome-bind (outcome-carry number version) (λ moved is.
-        outcome-bind (outcome-view_at rows valid own are number) (λ before shown_before.
-        outcome-bind (outcome-view rows valid number moved (carried-of number version moved is)) (λ behind shown_behind.
-        outcome-bind (outcome-changes before behind (view_at-apart rows valid own number before shown_before))
-        (λ pairs told. outcome-done _))))) (λ carried ok. outcome-done _)

@@ -27,7 +27,8 @@ use Rattle.machine_core.specs.declared.ticket.Use.TheVariants.{Fresh, Repeated}
 use Rattle.machine_core.specs.Ticket.{IsNumbered, use_of, use_at}
 use Rattle.machine_laws.proofs.Accepted.{deed-sound, making-sound}
 use Rattle.machine_laws.proofs.Callers.{IsDone}
-use Rattle.machine_laws.proofs.DeedOutcomes.{outcome-deed, outcome-look}
+use Rattle.machine_laws.proofs.DeedOutcomes.{outcome-deed}
+use Rattle.machine_laws.proofs.Looks.{outcome-look}
 use Rattle.machine_laws.proofs.Lists.{slice_get-read, slice_get-there}
 use Rattle.machine_laws.proofs.MadeOutcomes.{outcome-made, outcome-making, outcome-sheet}
 use Rattle.machine_laws.proofs.Outcomes.{HasOutcome, outcome-bind, outcome-done, outcome-unless, plain_tests}

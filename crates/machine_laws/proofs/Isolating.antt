@@ -23,7 +23,8 @@ use Rattle.machine_core.specs.Checked.{Checked, ComesTo, and_then, done, run, to
 use Rattle.machine_core.specs.Checked.{◌>>=◌, some_or, Gives}
 use Rattle.machine_core.specs.Deriving.{derived_sheet}
 use Rattle.machine_core.specs.Machine.{IsStep, answered, changes_if, clerk_of, clerk_write, clerk_write_at, deed_of}
-use Rattle.machine_core.specs.Machine.{look_reply, machine}
+use Rattle.machine_core.specs.Look.{look_reply}
+use Rattle.machine_core.specs.Machine.{machine}
 use Rattle.machine_core.specs.Own.{Own, after, changes_of, own_of}
 use Rattle.machine_core.specs.declared.ticket.Use.TheVariants.{Fresh}
 use Rattle.machine_core.specs.Ticket.{ticketed, use_of}

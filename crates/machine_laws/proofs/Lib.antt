@@ -29,10 +29,8 @@ pub mod Told
 pub mod DerivingWhy
 pub mod Derived
 pub mod StewardWhy
-pub mod Refusing
 pub mod Carried
 pub mod Lasting
-pub mod Explained
 pub mod Totals
 pub mod RowByRow
 pub mod Decisions
@@ -47,5 +45,8 @@ pub mod Comparing
 pub mod Outcomes
 pub mod OwnOutcomes
 pub mod DeedOutcomes
+pub mod Reasons
+pub mod Looks
+pub mod Refusing
 pub mod MadeOutcomes
 pub mod EveryStep

@@ -1,10 +1,7 @@
 -- Each refusal of the machine has its cause.
 use Rattle.std.proofs.Common.{◌≡◌, ◌≢◌, ◌∙◌, ℕ, ◌+◌, ◌-◌, ◌<◌, Bool, true, false, List, [], length, get_or, drop, take}
-use Rattle.std.proofs.Common.{nat_le}
-use Rattle.std.proofs.Common.{Option, Some, None, inl, inr, refl, sym, ap, subst, arith}
-use Rattle.std.specs.Prelude.{◌==◌, All, Result, Ok, Err, ⊤, filter, flat_map, if◌then◌else◌, option_map}
-use Rattle.std.specs.Prelude.{position, slice_get}
-use Rattle.std.specs.List.{range_with_len}
+use Rattle.std.proofs.Common.{nat_le, Option, Some, None, inl, inr, refl, sym, ap, subst, arith}
+use Rattle.std.specs.Prelude.{◌==◌, All, Result, Ok, Err, ⊤, flat_map, if◌then◌else◌, option_map, position, slice_get}
 use Rattle.std.specs.Str.{bytes_eq}
 use Rattle.std.proofs.lemmas.Bool.Decides.{nat_tests}
 use Rattle.std.proofs.lemmas.Slice.Eq.{bytes_eq-Decides}
@@ -14,8 +11,6 @@ use Rattle.desk_words.specs.declared.command.Command.{Command}
 use Rattle.desk_words.specs.declared.command.Command.TheVariants.{Steward, Clerk, Look, DeskReport, DeskDerive}
 use Rattle.desk_words.specs.declared.command.Ticket.{Ticket}
 use Rattle.desk_words.specs.declared.look.Look.{Look as LookOf}
-use Rattle.desk_words.specs.declared.look.Look.TheVariants.{View, Suggest, Preview, Report, Records, Explain}
-use Rattle.desk_words.specs.declared.look.Look.TheVariants.{Carry as CarryLook}
 use Rattle.desk_words.specs.declared.refusal.Kind.TheVariants as kind
 use Rattle.desk_words.specs.declared.refusal.Refusal.{Refusal}
 use Rattle.desk_words.specs.declared.refusal.Refusal.TheVariants.{Gap, NoClerk, NoSuch, Reused, Stale}
@@ -32,59 +27,34 @@ use Rattle.desk_valid.specs.Bindings.{bound_at}
 use Rattle.desk_valid.specs.Rows.Clerk.{HasTarget}
 use Rattle.desk_valid.specs.Valid.{AreValid}
 use Rattle.fix_model.specs.Regions.{row_state}
-use Rattle.machine_core.specs.Answers.{bound_for}
-use Rattle.machine_core.specs.Causes.{AsksWith, Cause, WritesWith}
-use Rattle.machine_core.specs.Checked.{Answer, Checked, ◌>>=◌, answer_for, certainly, done, each, some_or, unless}
-use Rattle.machine_core.specs.Checked.{Gives}
-use Rattle.machine_core.specs.Clerk.Carry.{carry_row}
-use Rattle.machine_core.specs.Clerk.Confirm.{confirm_row}
+use Rattle.machine_core.specs.Causes.{Cause, WritesWith}
+use Rattle.machine_core.specs.Checked.{Answer, Checked, ◌>>=◌, answer_for, certainly, done, each, unless, Gives}
 use Rattle.machine_core.specs.Deriving.{derivation_of, derived_rows, derived_sheet}
-use Rattle.machine_core.specs.Finding.{edition_named, session_at}
+use Rattle.machine_core.specs.Finding.{session_at}
 use Rattle.machine_core.specs.Kept.{kept_made, kept_reply}
-use Rattle.machine_core.specs.Look.Carry.{carrying}
-use Rattle.machine_core.specs.Look.Explain.{explain}
-use Rattle.machine_core.specs.Look.Preview.{preview}
-use Rattle.machine_core.specs.Look.Records.{records_of}
-use Rattle.machine_core.specs.Look.Report.{assessment_of, line_over, report_line, report_of}
-use Rattle.machine_core.specs.Look.Suggest.{suggestion_of}
+use Rattle.machine_core.specs.Look.Report.{assessment_of, report_of}
 use Rattle.machine_core.specs.Look.View.{view_at}
-use Rattle.machine_core.specs.Machine.{IsStep, answered, clerk_of, clerk_write, clerk_write_at, deed_of, look_reply}
-use Rattle.machine_core.specs.Machine.{machine, making_of, steward_write}
+use Rattle.machine_core.specs.Look.{look_reply}
+use Rattle.machine_core.specs.Machine.{IsStep, answered, clerk_of, clerk_write, clerk_write_at, deed_of, machine}
+use Rattle.machine_core.specs.Machine.{making_of, steward_write}
 use Rattle.machine_core.specs.Own.{Own, after, own_of}
-use Rattle.machine_core.specs.Tests.{active_session, session_of}
-use Rattle.machine_core.specs.Views.{view_of}
+use Rattle.machine_core.specs.Tests.{session_of}
 use Rattle.machine_core.specs.declared.ticket.Use.{Use}
 use Rattle.machine_core.specs.declared.ticket.Use.TheVariants.{Fresh, Repeated}
 use Rattle.machine_core.specs.Ticket.{use_of, use_at}
 use Rattle.machine_core.proofs.Chains.{Gives-bind_ok, done-value}
+use Rattle.machine_core.proofs.Looks.{look-found}
 use Rattle.machine_core.proofs.Tested.{certainly-why, chain-why, done-why, each-why, some_or-why, unless-why}
 use Rattle.machine_core.specs.OwnRows.{HasOwnTarget}
 use Rattle.machine_laws.proofs.Accepted.{deed-sound}
 use Rattle.machine_laws.proofs.DerivingWhy.{derivation-why, derived_rows-why}
 use Rattle.machine_laws.proofs.Lists.{slice_get-read, slice_get-there}
+use Rattle.machine_laws.proofs.Looks.{assessment-why, look-why, report-why}
 use Rattle.machine_laws.proofs.Names.{none-passes}
 use Rattle.machine_laws.proofs.StewardWhy.{making-why}
 use Rattle.machine_laws.proofs.Unchanged.{kept-not_refused}
-use Rattle.machine_laws.proofs.Why.{active-why, answer-why, carry_row-why, confirm-why, deed-why, explain-why, view-why}
+use Rattle.machine_laws.proofs.Why.{answer-why, deed-why, view-why}
 use Rattle.machine_laws.proofs.Writes.{clerk-written, clerk_of-ok, steward-written}
-
--- what the rules make of a session is never refused
-assessment-why : (P : Refusal → Type 0) (published : Published) (session : SessionRow) (refusal : Refusal)
-    → Gives (assessment_of published session) (Err refusal) → P refusal
-assessment-why P published session = chain-why P (bound_for published session) _
-    (certainly-why P (bound_at published session.edition)) (λ bound is refusal gives. done-why P _ refusal gives.2)
-
--- nor is a report
-report-why : (P : Refusal → Type 0) (published : Published) (clerk : Option (List ℕ)) (sessions : List SessionRow)
-    (refusal : Refusal) → Gives (report_of published clerk sessions) (Err refusal) → P refusal
-report-why P published clerk sessions = chain-why P (each (report_line published sessions)
-    (range_with_len 0 (length published.editions))) _ (each-why P (report_line published sessions)
-    (range_with_len 0 (length published.editions)) (λ edition listed.
-    let ones : List SessionRow = filter (λ session. session.edition == edition) sessions in
-    chain-why P (each (assessment_of published) ones) _
-    (each-why P (assessment_of published) ones (λ session there. assessment-why P published session))
-    (λ all ok. done-why P (line_over published edition all))))
-    (λ lines ok. done-why P _)
 
 -- a session whose place is within the list is there
 session-there : (sessions : List SessionRow) (place : ℕ) → place < length sessions → session_at sessions (place + 1) ≢
@@ -302,85 +272,26 @@ module _ (rows : Rows) (valid : AreValid rows) where
       (λ turn ok. at_turn turn)
 
   -- a look
-  look-why : (name : List ℕ) (look : LookOf) (refusal : Refusal) → Gives (machine rows (Look name look)) (Err refusal)
-      → Cause rows (Look name look) refusal
-  look-why name look =
-      let P : Refusal → Type 0 = Cause rows (Look name look) in
+  looked-why : (name : List ℕ) (what : LookOf) (refusal : Refusal) → Gives (machine rows (Look name what)) (Err refusal)
+      → Cause rows (Look name what) refusal
+  looked-why name what =
+      let P : Refusal → Type 0 = Cause rows (Look name what) in
       chain-why P (clerk_of rows.clerks name) _ (clerk-why P rows.clerks name (λ none. (name, refl, none))) (λ place is.
-      chain-why P (look_reply (published_of rows) (own_of rows place) look) _
-      (at_look look place (record {
+      chain-why P (look_reply (published_of rows) (own_of rows place) what) _
+      (look-why rows name (own_of rows place) what (record {
         name = name;
         asks = refl;
         place = place;
-        found = (clerk_of-ok rows.clerks name place
-            is).found;
+        found = (clerk_of-ok rows.clerks name place is).found;
         is_own = refl;
       })) (λ answer ok. done-why P _))
-    where
-      at_look : (one : LookOf) (place : ℕ) → AsksWith rows (Look name one) (own_of rows place) → (refusal : Refusal)
-          → Gives (look_reply (published_of rows) (own_of rows place) one) (Err refusal) → Cause rows (Look name one)
-          refusal
-      at_look (View number) place asks =
-          let P : Refusal → Type 0 = Cause rows (Look name (View number)) in
-          let own : Own = own_of rows place in
-          chain-why P (view_at (published_of rows) own number) _ (chain-why P (session_of own.sessions number) _
-          (some_or-why P (session_at own.sessions number) (NoSuch kind.Session)
-          (λ none. (own, number, asks, refl, none)))
-          (λ session ok. view-why P (published_of rows) number session)) (λ view ok. done-why P _)
-      at_look (Suggest number) place asks =
-          let P : Refusal → Type 0 = Cause rows (Look name (Suggest number)) in
-          let own : Own = own_of rows place in
-          chain-why P (suggestion_of (published_of rows) own number) _
-          (chain-why P (active_session own.sessions number) _
-          (active-why rows (Look name (Suggest number)) own number asks refl) (λ session ok.
-          chain-why P (bound_for (published_of rows) session) _
-          (certainly-why P (bound_at (published_of rows) session.edition))
-          (λ bound binds refusal gives. done-why P _ refusal gives.2))) (λ suggested ok. done-why P _)
-      at_look (Preview number cells) place asks =
-          let P : Refusal → Type 0 = Cause rows (Look name (Preview number cells)) in
-          let own : Own = own_of rows place in
-          chain-why P (preview (published_of rows) own number cells) _
-          (chain-why P (confirm_row (published_of rows) own number cells) _
-          (confirm-why rows (Look name (Preview number cells)) own number cells asks refl refl
-          (λ word text there. there))
-          (λ session ok. view-why P (published_of rows) number session)) (λ view ok. done-why P _)
-      at_look Report place asks =
-          let P : Refusal → Type 0 = Cause rows (Look name Report) in
-          chain-why P (report_of (published_of rows) (Some (own_of rows place).row.name) (own_of rows place).sessions) _
-          (report-why P (published_of rows) (Some (own_of rows place).row.name) (own_of rows place).sessions)
-          (λ sheet ok. done-why P _)
-      at_look (Records edition version) place asks =
-          let P : Refusal → Type 0 = Cause rows (Look name (Records edition version)) in
-          chain-why P (records_of (published_of rows) (own_of rows place) edition version) _
-          (chain-why P (some_or (edition_named rows.editions edition version) (NoSuch kind.Edition)) _
-          (some_or-why P (edition_named rows.editions edition version) (NoSuch kind.Edition) (λ none.
-          inr (inl ((edition, version), refl, none))))
-          (λ at found. chain-why P (certainly (bound_at (published_of rows) at)) _
-          (certainly-why P (bound_at (published_of rows) at)) (λ bound binds. done-why P _))) (λ sheet ok. done-why P _)
-      at_look (Explain number word) place asks =
-          let P : Refusal → Type 0 = Cause rows (Look name (Explain number word)) in
-          chain-why P (explain (published_of rows) (own_of rows place) number word) _
-          (explain-why rows name number word (own_of rows place) asks) (λ explained ok. done-why P _)
-      at_look (CarryLook number version) place asks =
-          let command : Command = Look name (CarryLook number version) in
-          let P : Refusal → Type 0 = Cause rows command in
-          let own : Own = own_of rows place in
-          chain-why P (carrying (published_of rows) own number version) _
-          (chain-why P (carry_row (published_of rows) own number version) _
-          (carry_row-why rows command own number version asks refl refl) (λ moved moved_ok.
-          chain-why P (view_at (published_of rows) own number) _ (chain-why P (session_of own.sessions number) _
-          (some_or-why P (session_at own.sessions number) (NoSuch kind.Session)
-          (λ none. (own, number, asks, refl, none)))
-          (λ session ok. view-why P (published_of rows) number session)) (λ before before_ok.
-          chain-why P (view_of (published_of rows) number moved) _ (view-why P (published_of rows) number moved)
-          (λ behind behind_ok refusal gives. done-why P _ refusal gives.2)))) (λ carried ok. done-why P _)
 
   -- each request
   pub refusal-why : (command : Command) (refusal : Refusal) → Gives (machine rows command) (Err refusal)
       → Cause rows command refusal
   refusal-why (Steward ticket work) = steward-why ticket work
   refusal-why (Clerk name ticket work) = write-why name ticket work
-  refusal-why (Look name look) = look-why name look
+  refusal-why (Look name what) = looked-why name what
   refusal-why DeskReport =
       let P : Refusal → Type 0 = Cause rows DeskReport in
       chain-why P (report_of (published_of rows) None (flat_map (λ sessions. sessions) rows.sessions)) _
@@ -393,32 +304,6 @@ module _ (rows : Rows) (valid : AreValid rows) where
       (derivation-why rows command edition version master pairs refl refl refl refl) (λ derivation found.
       chain-why P (derived_rows (published_of rows) derivation) _ (derived_rows-why P (published_of rows) derivation)
       (λ all ok. done-why P _))) (λ sheet ok. done-why P _)
-
--- what is made of a value is no refusal
-told-not_refused : {A : Type 0} (checked : Checked A) (tell : A → Reply) (refusal : Refusal)
-    → ((value : A) → tell value ≢ reply.Refused refusal)
-    → Gives (checked >>= (λ value. done (tell value))) (Ok (reply.Refused refusal)) → ⊥
-told-not_refused checked tell refusal apart gives =
-    let (value, given, same) = Gives-bind_ok checked (λ value. done (tell value)) (reply.Refused refusal) gives in
-    apart value (sym (done-value (tell value) (reply.Refused refusal) same))
-
--- what a look gives is no refusal
-look-not_refused : (published : Published) (own : Own) (look : LookOf) (refusal : Refusal)
-    → Gives (look_reply published own look) (Ok (reply.Refused refusal)) → ⊥
-look-not_refused published own (View number) refusal =
-    told-not_refused (view_at published own number) reply.View refusal (λ value same. cc)
-look-not_refused published own (Suggest number) refusal =
-    told-not_refused (suggestion_of published own number) reply.Suggested refusal (λ value same. cc)
-look-not_refused published own (Preview number cells) refusal =
-    told-not_refused (preview published own number cells) reply.View refusal (λ value same. cc)
-look-not_refused published own Report refusal =
-    told-not_refused (report_of published (Some own.row.name) own.sessions) reply.Report refusal (λ value same. cc)
-look-not_refused published own (Records edition version) refusal =
-    told-not_refused (records_of published own edition version) reply.Records refusal (λ value same. cc)
-look-not_refused published own (Explain number word) refusal =
-    told-not_refused (explain published own number word) reply.Explained refusal (λ value same. cc)
-look-not_refused published own (CarryLook number version) refusal =
-    told-not_refused (carrying published own number version) reply.Carried refusal (λ value same. cc)
 
 made-not_refused : (rows : Rows) (command : Command) (made : Reply × List Change) (refusal : Refusal)
     → Gives (machine rows command) (Ok made) → made.0 ≡ reply.Refused refusal → ⊥
@@ -446,7 +331,7 @@ made-not_refused rows (Look name look) made refusal gives is =
     let answer = Gives-bind_ok (look_reply (published_of rows) (own_of rows place.0) look) last made place.2 in
     let same : answer.0 ≡ reply.Refused refusal =
     sym (ap (λ (one : Reply × List Change). one.0) (done-value (answer.0, []) made answer.2)) ∙ is in
-    look-not_refused (published_of rows) (own_of rows place.0) look refusal
+    look-found (published_of rows) (own_of rows place.0) look (reply.Refused refusal)
     (subst (λ one. Gives (look_reply (published_of rows) (own_of rows place.0) look) (Ok one)) same answer.1)
 made-not_refused rows DeskReport made refusal gives is =
     let sheet = Gives-bind_ok (report_of (published_of rows) None (flat_map (λ sessions. sessions) rows.sessions))

@@ -10,7 +10,8 @@ use Rattle.desk_words.specs.declared.reply.Reply.{Reply}
 use Rattle.desk_words.specs.declared.reply.Reply.TheVariants as reply
 use Rattle.desk_words.specs.Tables.{Rows, published_of}
 use Rattle.machine_core.specs.Checked.{Checked, ◌>>=◌, done, Gives, ComesTo, IsFound}
-use Rattle.machine_core.specs.Machine.{IsStep, answered, clerk_of, look_reply, machine}
+use Rattle.machine_core.specs.Look.{look_reply}
+use Rattle.machine_core.specs.Machine.{IsStep, answered, clerk_of, machine}
 use Rattle.machine_core.specs.Own.{own_of}
 use Rattle.machine_core.proofs.Chains.{Gives-bind, Gives-bind_ok, Gives-unique, done-value}
 use Rattle.machine_laws.proofs.Writes.{clerk_of-ok}

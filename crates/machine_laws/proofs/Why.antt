@@ -1,7 +1,7 @@
 -- Why a clerk's request is refused.
 use Rattle.std.proofs.Common.{◌≡◌, ◌≢◌, ◌∙◌, ℕ, ◌+◌, ◌<◌, Bool, true, false, List, [], ◌∷◌, length, get_or, map, Some}
 use Rattle.std.proofs.Common.{None, inl, inr, refl, sym, ap, subst, arith}
-use Rattle.std.specs.Prelude.{◌==◌, All, Contains, Ok, Err, is_some, nat_le, nat_lt, not, position, slice_index_or}
+use Rattle.std.specs.Prelude.{◌==◌, All, Contains, Ok, Err, nat_le, nat_lt, not, position, slice_index_or}
 use Rattle.std.specs.List.{list_any}
 use Rattle.std.specs.Str.{bytes_eq}
 use Rattle.std.proofs.lemmas.Bool.Decides.{nat_tests}
@@ -22,15 +22,13 @@ use Rattle.desk_words.specs.declared.clerk_work.ClerkWork.{ClerkWork}
 use Rattle.desk_words.specs.declared.clerk_work.ClerkWork.TheVariants.{Enter, Confirm, Withdraw, Commit, Abandon, Batch}
 use Rattle.desk_words.specs.declared.clerk_work.ClerkWork.TheVariants.{Carry}
 use Rattle.desk_words.specs.declared.command.Command.{Command}
-use Rattle.desk_words.specs.declared.command.Command.TheVariants.{Clerk, Look}
+use Rattle.desk_words.specs.declared.command.Command.TheVariants.{Clerk}
 use Rattle.desk_words.specs.declared.command.Ticket.{Ticket}
 use Rattle.desk_words.specs.declared.limit.Which.TheVariants as which
-use Rattle.desk_words.specs.declared.look.Look.TheVariants.{Explain}
 use Rattle.desk_words.specs.declared.refusal.Kind.TheVariants as kind
 use Rattle.desk_words.specs.declared.refusal.Refusal.{Refusal}
 use Rattle.desk_words.specs.declared.refusal.Refusal.TheVariants.{Closed, InConflict, NoSuch, NotCertain, NotConfirmed}
-use Rattle.desk_words.specs.declared.refusal.Refusal.TheVariants.{NotFixed, NotNewer, Twice, UnknownAttr, ValueLong}
-use Rattle.desk_words.specs.declared.reply.Explained.{Explained}
+use Rattle.desk_words.specs.declared.refusal.Refusal.TheVariants.{NotNewer, Twice, UnknownAttr, ValueLong}
 use Rattle.desk_words.specs.declared.rows.edition.EditionRow.{EditionRow}
 use Rattle.desk_words.specs.declared.rows.record.RecordRow.{RecordRow}
 use Rattle.desk_words.specs.declared.rows.session.SessionRow.{SessionRow}
@@ -44,25 +42,23 @@ use Rattle.fix_engine.specs.Verdicts.{IsAnswer}
 use Rattle.fix_engine.specs.declared.verdict.Verdict.{Verdict}
 use Rattle.fix_engine.specs.declared.verdict.Verdict.TheVariants.{Fix, Conflict}
 use Rattle.fix_model.specs.Run.{end_of}
-use Rattle.fix_model.specs.States.{cell_at, fixed_by, uncovered_count}
+use Rattle.fix_model.specs.States.{uncovered_count}
 use Rattle.machine_core.specs.Answers.{bound_for, state_of}
-use Rattle.machine_core.specs.Causes.{AreWords, AsksWith, Cause, Commits, Explains, MakesSessions, Names, RefusesBody}
+use Rattle.machine_core.specs.Causes.{AreWords, AsksWith, Cause, Commits, MakesSessions, Names, RefusesBody}
 use Rattle.machine_core.specs.Checked.{Answer, Checked, ◌>>=◌, ◌>>◌, answer_for, certainly, done, each, each_behind}
-use Rattle.machine_core.specs.Checked.{IsFound}
-use Rattle.machine_core.specs.Checked.{some_or, unless, value_or, Gives}
+use Rattle.machine_core.specs.Checked.{IsFound, some_or, unless, value_or, Gives}
 use Rattle.machine_core.specs.Clerk.Abandon.{abandon}
 use Rattle.machine_core.specs.declared.column.Column.{Column}
 use Rattle.machine_core.specs.Clerk.Batch.{another_column, enter_batch, word_of, row_session}
 use Rattle.machine_core.specs.Clerk.Carry.{carry, carry_row}
-use Rattle.machine_core.specs.Clerk.Commit.{accepted_record, accepts, commit, commit_rows, fixed_end}
-use Rattle.machine_core.specs.Clerk.Commit.{not_in_conflict, record_at}
+use Rattle.machine_core.specs.Clerk.Commit.{accepted_record, accepts, commit, commit_rows, fixed_end, not_in_conflict}
+use Rattle.machine_core.specs.Clerk.Commit.{record_at}
 use Rattle.machine_core.specs.Clerk.Confirm.{confirm, confirm_row, bytes_with}
 use Rattle.machine_core.specs.Clerk.Enter.{enter, enter_row, new_session}
 use Rattle.machine_core.specs.Clerk.Withdraw.{confirmed_place, withdraw, withdraw_row}
 use Rattle.machine_core.specs.Faults.{sheet_refusal}
 use Rattle.machine_core.specs.Finding.{edition_named, newest_edition, session_at}
 use Rattle.machine_core.specs.Limits.{within}
-use Rattle.machine_core.specs.Look.Explain.{explain, explanation_of, fixed_at}
 use Rattle.machine_core.specs.Machine.{clerk_of, deed_of}
 use Rattle.machine_core.specs.Named.{GivesText, attributes_in, carried_in, session_in, sheet_words}
 use Rattle.machine_core.specs.Own.{Own, own_of}
@@ -191,8 +187,9 @@ active-names rows command own number session asks names gives =
     }
 
 -- the words of a session's edition
-session-words : (rows : Rows) (command : Command) (session : SessionRow) (bound : Bound) → Names rows command session
-    → bound_at (published_of rows) session.edition ≡ Some bound → AreWords rows command bound.names.attributes
+pub session-words : (rows : Rows) (command : Command) (session : SessionRow) (bound : Bound)
+    → Names rows command session → bound_at (published_of rows) session.edition ≡ Some bound
+    → AreWords rows command bound.names.attributes
 session-words rows command session bound named binds = inl (record {
   place = session.edition;
   about = inr (inr (session, named, refl));
@@ -259,60 +256,6 @@ carry_row-why rows command own number version asks names carries =
     chain-why P (certainly (bound_at (published_of rows) edition)) _
     (certainly-why P (bound_at (published_of rows) edition))
     (λ behind binds_too. done-why P _)))))
-
--- an attribute of which it is asked why it is fixed
-pub explain-why : (rows : Rows) (name : List ℕ) (number : ℕ) (word : List ℕ) (own : Own)
-    → AsksWith rows (Look name (Explain number word)) own → (refusal : Refusal)
-    → Gives (explain (published_of rows) own number word) (Err refusal)
-    → Cause rows (Look name (Explain number word)) refusal
-explain-why rows name number word own asks =
-    let command : Command = Look name (Explain number word) in
-    let P : Refusal → Type 0 = Cause rows command in
-    chain-why P (session_of own.sessions number) _ (some_or-why P (session_at own.sessions number) (NoSuch kind.Session)
-    (λ none. (own, number, asks, refl, none))) (λ session is.
-    let named : Names rows command session = record {
-      own = own;
-      asks = asks;
-      number = number;
-      names = refl;
-      stands = some_or-ok (session_at own.sessions number) (NoSuch kind.Session) session is;
-    } in
-    chain-why P (bound_for (published_of rows) session) _
-    (certainly-why P (bound_at (published_of rows) session.edition))
-    (λ bound gives_bound.
-    let binds = certainly-ok (bound_at (published_of rows) session.edition) bound gives_bound in
-    let words = session-words rows command session bound named binds in
-    let end_it : Answer → State = λ answer. end_of bound.kit (state_of session) answer.first in
-    let explaining : ℕ → Answer → Checked Explained = λ place answer. not_in_conflict answer.verdict
-    >> (fixed_at (end_it answer) place word >> explanation_of bound (state_of session) answer.first place) in
-    chain-why P (attribute_of bound.names.attributes word) _ (attribute-why P bound.names.attributes word (λ unknown.
-    (bound.names.attributes, words, (0, omega arith, refl), unknown)))
-    (λ place there. chain-why P (answer_for bound.kit (state_of session)) _
-    (answer-why P bound.kit (state_of session)) (λ answer given.
-    let explains : Explains rows command word session bound answer = record {
-      name = name;
-      number = number;
-      is = refl;
-      names = named;
-      binds = binds;
-      answers = answer-given bound.kit (state_of session) answer given;
-    } in
-    chain-why P (not_in_conflict answer.verdict) _
-    (conflict-why P answer.verdict (λ conflict. (session, bound, answer, conflict, inr (word, explains))))
-    (λ fix fix_ok. chain-why P (fixed_at (end_it answer) place word) _
-    (unless-why P (is_some (fixed_by (cell_at (end_it answer) place))) (NotFixed word) (λ fails. (
-      session,
-      bound,
-      answer,
-      place,
-      explains,
-      no-conflict answer.verdict fix fix_ok,
-      some_or-ok (position (bytes_eq word) bound.names.attributes) (UnknownAttr word) place there,
-      λ fixed. differ fixed fails,
-    ))) (λ passed ok refusal gives. done-why P _ refusal gives.2))))))
-  where
-    differ : {told : Bool} → told ≡ true → told ≡ false → ⊥
-    differ holds fails = (let both : true ≡ false = sym holds ∙ fails in cc)
 
 module _ (rows : Rows) (name : List ℕ) (place : ℕ) (found : IsFound (clerk_of rows.clerks name) place) (ticket : Ticket)
   where

@@ -1,11 +1,11 @@
 -- The book of a session's edition.
 use Rattle.std.proofs.Common.{◌≡◌, ◌∙◌, ℕ, ◌≤◌, length, map, Option, Some, sym, subst}
-use Rattle.std.specs.Prelude.{All, IfSome, IsSomeAnd, slice_get}
+use Rattle.std.specs.Prelude.{All, IfSome, IsSomeAnd, Ok, Result, slice_get}
 use Rattle.std.proofs.lemmas.List.Elements.{All-map}
 use Rattle.std.proofs.lemmas.Option.{option_and_then_some, same_Some}
 use Rattle.desk_base.specs.Grid.{GridRows}
 use Rattle.desk_words.specs.declared.rows.session.SessionRow.{SessionRow}
-use Rattle.desk_words.specs.Tables.{Rows, published_of}
+use Rattle.desk_words.specs.Tables.{Published, Rows, published_of}
 use Rattle.desk_valid.specs.declared.bound.Bound.{Bound}
 use Rattle.desk_valid.specs.Bindings.{IsNamedKit, bound_at, bound_in, bound_of, names_of}
 use Rattle.desk_valid.specs.Readings.{width_at}
@@ -14,8 +14,13 @@ use Rattle.desk_valid.proofs.Kits.{bound_at-read, bound_of-kit, edition-kit, edi
 use Rattle.desk_valid.proofs.Unrowed.{bound-parts}
 use Rattle.fix_model.specs.declared.kit.Kit.{Kit}
 use Rattle.master_index.specs.declared.shelf.Shelved.{Shelved}
+use Rattle.machine_core.specs.declared.stop.Stop.{Stop}
+use Rattle.machine_core.specs.Answers.{bound_for}
+use Rattle.machine_core.specs.Checked.{Checked, ◌>>=◌, IsFound}
+use Rattle.machine_core.specs.Outcomes.{Answers}
 use Rattle.machine_core.specs.Sessions.{IsSessionOf}
 use Rattle.machine_core.specs.Shelves.{bound_on}
+use Rattle.machine_core.proofs.Answering.{Answers-found, Answers-then}
 use Rattle.machine_core.proofs.Widths.{edition-stands, width-bound}
 use Rattle.machine_views.specs.Answered.{IsBookFor, IsNamedBook}
 
@@ -77,3 +82,12 @@ IsBookFor-bound rows session shelved bound valid is = record {
     confirmed = as-wide rows session.edition (length session.confirmed) shelved valid bound is.confirmed;
   };
 }
+
+-- what is made of a session that is found, over the book of its edition
+pub session-given : {A : Type 0} (published : Published) (find : Checked SessionRow)
+    (on : Bound → SessionRow → Checked A) (session : SessionRow) (bound : Bound) (result : Result A Stop)
+    → IsFound find session → bound_at published session.edition ≡ Some bound → Answers result (on bound session)
+    → Answers result (find >>= (λ one. bound_for published one >>= (λ its. on its one)))
+session-given published find on session bound result found here answers =
+    Answers-then find (λ one. bound_for published one >>= (λ its. on its one)) session result
+    (Answers-found find (Ok session) found) (rw here answers)

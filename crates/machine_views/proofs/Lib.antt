@@ -4,10 +4,10 @@ pub mod Counted
 pub mod Keeping
 pub mod Advising
 pub mod Making
+pub mod Numbered
 pub mod Recording
 pub mod Reporting
 pub mod Few
 pub mod Shown
-pub mod Explaining
 pub mod Carried
 pub mod Derived

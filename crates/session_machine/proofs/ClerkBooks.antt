@@ -1,5 +1,5 @@
 -- What stands first on the shelf, by what is replied to a clerk.
-use Rattle.std.proofs.Common.{◌≡◌, ◌∙◌, ℕ, ◌+◌, ◌-◌, List, [], ◌∷◌, Some, refl, sym, ap, subst, arith}
+use Rattle.std.proofs.Common.{◌≡◌, ◌∙◌, ℕ, ◌+◌, ◌-◌, List, [], ◌∷◌, Some, inl, inr, refl, sym, ap, subst, arith}
 use Rattle.std.specs.Prelude.{All, IfSome, Ok, count_by}
 use Rattle.desk_words.specs.declared.command.Command.{Command}
 use Rattle.desk_words.specs.declared.command.Command.TheVariants.{Look}
@@ -9,6 +9,7 @@ use Rattle.desk_words.specs.declared.refusal.Kind.TheVariants as kind
 use Rattle.desk_words.specs.declared.refusal.Refusal.TheVariants.{NoSuch}
 use Rattle.desk_words.specs.declared.reply.Reply.{Reply}
 use Rattle.desk_words.specs.declared.reply.Reply.TheVariants as reply
+use Rattle.desk_words.specs.declared.reply.Suggested.{Suggested}
 use Rattle.desk_words.specs.declared.rows.act.Act.{Act}
 use Rattle.desk_words.specs.declared.rows.act.Act.TheVariants as act
 use Rattle.desk_words.specs.declared.rows.batch.BatchRow.{BatchRow}
@@ -18,19 +19,17 @@ use Rattle.desk_words.specs.Tables.{Published, Rows, published_of}
 use Rattle.desk_valid.specs.declared.bound.Bound.{Bound}
 use Rattle.master_index.specs.declared.shelf.Shelved.{Shelved}
 use Rattle.machine_core.specs.Answers.{bound_for, state_of}
-use Rattle.machine_core.specs.Checked.{Answer, Checked, ◌>>=◌, answer_for, done, Gives}
-use Rattle.machine_core.specs.Checked.{IsFound}
+use Rattle.machine_core.specs.Checked.{Answer, Checked, ◌>>=◌, answer_for, done, Gives, IsFound}
+use Rattle.machine_core.specs.Content.{Content, advises, content_of, derives, plain, records, refuses, shows}
 use Rattle.machine_core.specs.Clerk.Confirm.{confirm_row}
 use Rattle.machine_core.specs.Finding.{session_at}
 use Rattle.machine_core.specs.Kept.{kept_reply}
-use Rattle.machine_core.specs.Look.Carry.{carrying}
-use Rattle.machine_core.specs.Look.Explain.{explain}
 use Rattle.machine_core.specs.Look.Preview.{preview}
-use Rattle.machine_core.specs.Look.Records.{records_of}
-use Rattle.machine_core.specs.Look.Report.{Assessment, report_of}
-use Rattle.machine_core.specs.Look.Report.{is_certain_fix, is_conflict, is_partial_fix}
+use Rattle.machine_core.specs.Look.Report.{Assessment, is_certain_fix, is_conflict, is_partial_fix}
+use Rattle.machine_core.specs.Look.Suggest.{suggestion_of}
 use Rattle.machine_core.specs.Look.View.{view_at}
-use Rattle.machine_core.specs.Machine.{clerk_of, look_reply}
+use Rattle.machine_core.specs.Look.{look_reply}
+use Rattle.machine_core.specs.Machine.{clerk_of}
 use Rattle.machine_core.specs.Own.{Own, after, own_of}
 use Rattle.machine_core.specs.OwnRows.{AreOwnRows, IsSoundDeed}
 use Rattle.machine_core.specs.Sessions.{IsSessionOf}
@@ -39,13 +38,14 @@ use Rattle.machine_core.specs.Tests.{active, active_session, session_of}
 use Rattle.machine_core.specs.Views.{edition_at, view_of, view_with}
 use Rattle.machine_core.specs.declared.deed.Deed.{Deed}
 use Rattle.machine_core.proofs.Chains.{Gives-bind_ok, done-value}
+use Rattle.machine_core.proofs.Looks.{Found, look-found}
 use Rattle.machine_core.proofs.Tested.{some_or-ok}
 use Rattle.machine_core.proofs.Answering.{Answers-found}
 use Rattle.machine_laws.proofs.Sessions.{session_at-found}
 use Rattle.machine_views.specs.Doing.{DoesAsTold, PutsOne, StandsFirst}
 use Rattle.machine_views.specs.Looking.{IsSessionFirst, IsTargetFirst}
 use Rattle.machine_views.proofs.Keeping.{put-stands, session-stands, session_at-place}
-use Rattle.session_machine.specs.Booked.{IsBooked, ShowsFirst}
+use Rattle.session_machine.specs.Booked.{IsBooked, IsBookedFor, NamesFirst, ShowsFirst}
 use Rattle.session_machine.specs.Looked.{IsLookFirst}
 use Rattle.machine_core.proofs.Commands.{confirm_row-ok}
 use Rattle.machine_core.proofs.Walks.{Gives-Met, Met-Gives}
@@ -216,64 +216,49 @@ module _ (rows : Rows) (held : List (ℕ × Shelved)) where
 
 module _ (rows : Rows) (held : List (ℕ × Shelved)) (name : List ℕ) (place : ℕ)
     (found : IsFound (clerk_of rows.clerks name) place) where
-  -- a session that a Suggest advises on is the one that it names
-  suggest-booked : (number : ℕ) (answer : Reply) → IsSessionFirst (own_of rows place).sessions number held
-      → Gives (look_reply (published_of rows) (own_of rows place) (look.Suggest number)) (Ok answer)
-      → IsBooked rows (Look name (look.Suggest number)) answer held
-  suggest-booked number answer first gives =
-      let (suggested, (session, (one, stands, (passed, active, is_session)), advised), is) =
-      Met-Gives (look_reply (published_of rows) (own_of rows place) (look.Suggest number)) (Ok answer) gives in
-      let Booked : Reply → Type 0 = λ told. IsBooked rows (Look name (look.Suggest number)) told held in
-      subst Booked (sym is) (record {
-        session = one;
-        names = record {
-          own = own_of rows place;
-          asks = record { name = name; asks = refl; place = place; found = found; is_own = refl };
-          number = number;
-          names = refl;
-          stands = stands;
-        };
-        first = there-first (own_of rows place).sessions number one held stands first;
-      })
+  module _ (own : Own) (is_own : own ≡ own_of rows place) where
+    -- a session that a Suggest advises on is the one that it names
+    suggest-named : (number : ℕ) (suggested : Suggested) → IsSessionFirst own.sessions number held
+        → Gives (suggestion_of (published_of rows) own number) (Ok suggested)
+        → NamesFirst rows (Look name (look.Suggest number)) held
+    suggest-named number suggested first gives =
+        let (session, (one, stands, (passed, active, is_session)), advised) =
+        Met-Gives (suggestion_of (published_of rows) own number) (Ok suggested) gives in
+        record {
+          session = one;
+          names = record {
+            own = own;
+            asks = record { name = name; asks = refl; place = place; found = found; is_own = is_own };
+            number = number;
+            names = refl;
+            stands = stands;
+          };
+          first = there-first own.sessions number one held stands first;
+        }
 
-  -- a reply that tells a value is booked where each that tells one is
-  told-booked : {A : Type 0} (what : LookOf) (checked : Checked A) (tell : A → Reply)
-      → ((value : A) → Gives checked (Ok value) → IsBooked rows (Look name what) (tell value) held)
-      → (answer : Reply) → Gives (checked >>= (λ value. done (tell value))) (Ok answer)
-      → IsBooked rows (Look name what) answer held
-  told-booked what checked tell booked answer gives =
-      let (value, given, is) = Gives-bind_ok checked (λ one. done (tell one)) answer gives in
-      subst (λ one. IsBooked rows (Look name what) one held) (sym (done-value (tell value) answer is))
-      (booked value given)
+    module _ (are : AreOwnRows (published_of rows) own.sessions own.records own.batches) (what : LookOf)
+        (first : IsLookFirst own.sessions what held) where
+      -- what is first after a look is first after this one, where it is the same
+      looked-first : (other : LookOf) → what ≡ other → IsLookFirst own.sessions other held
+      looked-first other is = subst (λ one. IsLookFirst own.sessions one held) is first
 
-  module _ (are : AreOwnRows (published_of rows) (own_of rows place).sessions (own_of rows place).records
-      (own_of rows place).batches) where
-    -- the reply to a look shows what is first
-    pub look-booked : (what : LookOf) (answer : Reply) → IsLookFirst (own_of rows place).sessions what held
-        → Gives (look_reply (published_of rows) (own_of rows place) what) (Ok answer)
-        → IsBooked rows (Look name what) answer held
-    look-booked (look.View number) answer first =
-        told-booked (look.View number) (view_at (published_of rows) (own_of rows place) number) reply.View
-        (λ view. view_at-shows rows held (own_of rows place) are number view first) answer
-    look-booked (look.Suggest number) answer first = suggest-booked number answer first
-    look-booked (look.Preview number cells) answer first =
-        told-booked (look.Preview number cells) (preview (published_of rows) (own_of rows place) number cells)
-        reply.View
-        (λ view. preview-shows rows held (own_of rows place) are number cells view first) answer
-    look-booked look.Report answer first =
-        told-booked look.Report (report_of (published_of rows) (Some (own_of rows place).row.name)
-        (own_of rows place).sessions) reply.Report
-        (λ _ _. tt)
-        answer
-    look-booked (look.Records edition version) answer first =
-        told-booked (look.Records edition version) (records_of (published_of rows) (own_of rows place) edition version)
-        reply.Records
-        (λ _ _. tt) answer
-    look-booked (look.Explain number word) answer first =
-        told-booked (look.Explain number word) (explain (published_of rows) (own_of rows place) number word)
-        reply.Explained
-        (λ _ _. tt) answer
-    look-booked (look.Carry number version) answer first =
-        told-booked (look.Carry number version) (carrying (published_of rows) (own_of rows place) number version)
-        reply.Carried
-        (λ _ _. tt) answer
+      -- what a look has found is booked
+      found-booked : (content : Content) → Found (published_of rows) own what content
+          → IsBookedFor rows (Look name what) content held
+      found-booked (shows view) (inl (number, is, given)) =
+          view_at-shows rows held own are number view (looked-first (look.View number) is) given
+      found-booked (shows view) (inr (number, cells, is, given)) =
+          preview-shows rows held own are number cells view (looked-first (look.Preview number cells) is) given
+      found-booked advises (number, suggested, is, given) =
+          subst (λ one. NamesFirst rows (Look name one) held) (sym is)
+          (suggest-named number suggested (looked-first (look.Suggest number) is) given)
+      found-booked (records sheet) found = tt
+      found-booked (derives sheet) found = tt
+      found-booked (refuses refusal) found = tt
+      found-booked plain found = tt
+
+      -- the reply to a look shows what is first
+      pub look-booked : (answer : Reply) → Gives (look_reply (published_of rows) own what) (Ok answer)
+          → IsBooked rows (Look name what) answer held
+      look-booked answer gives =
+          found-booked (content_of answer) (look-found (published_of rows) own what answer gives)

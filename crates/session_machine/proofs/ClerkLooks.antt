@@ -14,7 +14,8 @@ use Rattle.machine_core.specs.Answers.{bound_for}
 use Rattle.machine_core.specs.Checked.{Checked, ◌>>=◌, done, each, Gives, IsFound}
 use Rattle.machine_core.specs.Clerk.Confirm.{confirm_row, with_cells}
 use Rattle.machine_core.specs.Look.Preview.{preview}
-use Rattle.machine_core.specs.Machine.{clerk_of, look_reply, machine}
+use Rattle.machine_core.specs.Look.{look_reply}
+use Rattle.machine_core.specs.Machine.{clerk_of, machine}
 use Rattle.machine_core.specs.Outcomes.{Answers, Finds}
 use Rattle.machine_core.specs.Own.{Own, own_of}
 use Rattle.machine_core.specs.OwnRows.{AreOwnRows}

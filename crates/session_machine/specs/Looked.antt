@@ -1,7 +1,7 @@
 -- What a clerk's look leaves on the shelf.
 use Rattle.std.specs.Prelude.{ℕ, List, ⊤}
 use Rattle.desk_words.specs.declared.look.Look.{Look}
-use Rattle.desk_words.specs.declared.look.Look.TheVariants.{View, Suggest, Preview, Report, Records, Explain, Carry}
+use Rattle.desk_words.specs.declared.look.Look.TheVariants.{View, Suggest, Preview}
 use Rattle.desk_words.specs.declared.rows.session.SessionRow.{SessionRow}
 use Rattle.master_index.specs.declared.shelf.Shelved.{Shelved}
 use Rattle.machine_views.specs.Looking.{IsSessionFirst}
@@ -11,7 +11,4 @@ abbrev pub IsLookFirst : List SessionRow → Look → List (ℕ × Shelved) → 
 IsLookFirst sessions (View number) held = IsSessionFirst sessions number held
 IsLookFirst sessions (Suggest number) held = IsSessionFirst sessions number held
 IsLookFirst sessions (Preview number cells) held = IsSessionFirst sessions number held
-IsLookFirst sessions Report held = ⊤
-IsLookFirst sessions (Records edition version) held = ⊤
-IsLookFirst sessions (Explain number word) held = ⊤
-IsLookFirst sessions (Carry number version) held = ⊤
+IsLookFirst sessions look held = ⊤

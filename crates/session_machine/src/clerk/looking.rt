@@ -3,7 +3,7 @@ ghost use Rattle.std.specs.Prelude.{OnOk};
 ghost use Rattle.desk_words.specs.Tables.{published_of, rows_of};
 ghost use Rattle.desk_valid.specs.Valid.{AreValid};
 ghost use Rattle.machine_core.specs.Look.Preview.{preview};
-ghost use Rattle.machine_core.specs.Machine.{look_reply};
+ghost use Rattle.machine_core.specs.Look.{look_reply};
 ghost use Rattle.machine_core.specs.Outcomes.{Answers};
 ghost use Rattle.machine_core.specs.Own.{IsOwn};
 ghost use Rattle.machine_core.specs.Shelves.{AreHeld, IsFullRoom};

@@ -1,5 +1,5 @@
 use Rattle.desk_words.specs.Tables.{rows_of}
-use Rattle.machine_laws.proofs.Explained.{TellsReason-look}
+use Rattle.machine_laws.proofs.Reasons.{TellsReason-look}
 use Rattle.machine_laws.proofs.explaining.an_explanation_is_the_reason.Goals as goal
 
 pub returns : goal.returns

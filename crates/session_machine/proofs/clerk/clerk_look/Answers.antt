@@ -5,7 +5,8 @@ use Rattle.desk_words.specs.declared.reply.Reply.{Reply}
 use Rattle.desk_words.specs.Tables.{Rows, published_of, rows_of}
 use Rattle.desk_valid.specs.Valid.{AreValid}
 use Rattle.machine_core.specs.Checked.{Gives}
-use Rattle.machine_core.specs.Machine.{look_reply, machine}
+use Rattle.machine_core.specs.Look.{look_reply}
+use Rattle.machine_core.specs.Machine.{machine}
 use Rattle.machine_core.specs.Outcomes.{Answers}
 use Rattle.machine_core.specs.Own.{IsOwn, Own, own_of}
 use Rattle.machine_core.specs.Shelves.{AreHeld}
@@ -101,5 +102,5 @@ returns-clause-booked c =
     let First : Own → Type 0 = λ one. IsLookFirst one.sessions c.args.look.now held in
     let Booked : Rows → Type 0 = λ one. IsBooked one (Look c.args.name.now c.args.look.now) reply held in
     subst Booked c.tables-tables.ensures.tables (look-booked rows held c.args.name.now place c.in_ok-place.ensures.finds
-    (own-rows rows (own_of rows place) valid is) c.args.look.now reply (subst First own c.in_ok-reply.ensures.first)
-    (subst Shown own c.in_ok-reply.ensures.answers))
+    (own_of rows place) refl (own-rows rows (own_of rows place) valid is) c.args.look.now
+    (subst First own c.in_ok-reply.ensures.first) reply (subst Shown own c.in_ok-reply.ensures.answers))

@@ -1,16 +1,88 @@
-use Rattle.std.proofs.Common.{◌∙◌, Ok, Err, ap, arith, length, subst}
+use Rattle.std.proofs.Common.{◌≡◌, ◌∙◌, ℕ, List, length, refl, arith, ap, subst}
+use Rattle.std.specs.Prelude.{is_some, Result, Ok, Err, IsErrAnd}
+use Rattle.desk_words.specs.declared.reply.Explained.{Explained}
+use Rattle.desk_words.specs.declared.refusal.Refusal.TheVariants.{NotFixed}
+use Rattle.desk_words.specs.declared.rows.session.SessionRow.{SessionRow}
+use Rattle.desk_valid.specs.declared.bound.Bound.{Bound}
 use Rattle.fix_model.specs.declared.state.State.{State}
 use Rattle.fix_model.specs.Run.{end_of}
-use Rattle.machine_core.specs.Answers.{state_of}
-use Rattle.machine_core.specs.Checked.{IsFound}
-use Rattle.machine_core.specs.Look.Explain.{fixed_at}
-use Rattle.machine_core.specs.Outcomes.{Finds}
+use Rattle.fix_model.specs.States.{cell_at, fixed_by}
+use Rattle.fix_engine.specs.declared.verdict.Verdict.{Verdict}
+use Rattle.fix_engine.specs.declared.verdict.Verdict.TheVariants.{Fix, Conflict}
+use Rattle.fix_engine.specs.Verdicts.{IsAnswer}
+use Rattle.fix_explain.specs.Reasons.{IsFixed}
+use Rattle.machine_core.specs.Answers.{shown_state, state_of}
+use Rattle.machine_core.specs.Checked.{Answer, Checked, ◌>>◌, IsFound}
+use Rattle.machine_core.specs.Clerk.Commit.{not_in_conflict}
+use Rattle.machine_core.specs.Look.Explain.{explained_on, explanation_of, fixed_at}
+use Rattle.machine_core.specs.Outcomes.{Answers, Finds}
+use Rattle.machine_core.specs.Tests.{attribute_of}
+use Rattle.machine_core.specs.declared.stop.Stop.{Stop}
+use Rattle.machine_core.specs.declared.stop.Stop.TheVariants.{Refused, NoMemory}
+use Rattle.machine_core.proofs.Answering.{Answers-found, Answers-stopped}
+use Rattle.machine_core.proofs.Tested.{unless-ok}
 use Rattle.machine_core.specs.Shelves.{bound_on}
 use Rattle.machine_views.specs.Answered.{answer_in}
-use Rattle.machine_views.proofs.Explaining.{end-shown, explained-conflicting, explained-fixed, explained-unfixed}
-use Rattle.machine_views.proofs.Explaining.{fixed-is}
 use Rattle.machine_views.proofs.Told.{first-run}
 use Rattle.machine_views.proofs.looks.explaining.explained_on.Goals as goal
+
+-- what is shown of a fix is the end of its first run
+end-shown : (bound : Bound) (state : State) (answer : Answer) (verdict : Verdict)
+    → IsFound (not_in_conflict verdict) tt
+    → shown_state bound state answer verdict ≡ end_of bound.kit state answer.first
+end-shown bound state answer (Fix certain dissent) fix = refl
+end-shown bound state answer Conflict fix = absurd (cc)
+
+-- an attribute that passes the test is fixed
+fixed-is : (state : State) (attribute : ℕ) (word : List ℕ) → IsFound (fixed_at state attribute word) tt
+    → IsFixed state attribute
+fixed-is state attribute word is =
+    unless-ok (is_some (fixed_by (cell_at state attribute))) (NotFixed word) tt
+    (Answers-found (fixed_at state attribute word) (Ok tt) is)
+
+module _ (bound : Bound) (session : SessionRow) (word : List ℕ) (attribute : ℕ) (answer : Answer)
+    (found : IsFound (attribute_of bound.names.attributes word) attribute)
+    (is : IsAnswer bound.kit (state_of session) answer.first answer.second answer.verdict) where
+  -- what is left once the rules have answered
+  abbrev left : Answer → Checked Explained
+  left one = not_in_conflict one.verdict
+      >> (fixed_at (end_of bound.kit (state_of session) one.first) attribute word
+      >> explanation_of bound (state_of session) one.first attribute)
+
+  -- is answered as the whole
+  explained-answered : (result : Result Explained Stop) → Answers result (left answer)
+      → Answers result (explained_on bound session word)
+  explained-answered (Ok explained) gives = rw found (answer, is, gives)
+  explained-answered (Err (Refused refusal)) gives = rw found (answer, is, gives)
+  explained-answered (Err NoMemory) gives = tt
+
+  -- it stops at a conflict
+  explained-conflicting : (stop : Stop) (result : Result Explained Stop) → IsErrAnd result (λ one. one ≡ stop)
+      → Finds {A = Unit {0}} (Err stop) (not_in_conflict answer.verdict)
+      → Answers result (explained_on bound session word)
+  explained-conflicting stop result stops finds =
+      let end : State = end_of bound.kit (state_of session) answer.first in
+      explained-answered result (Answers-stopped (not_in_conflict answer.verdict) (λ _. fixed_at end attribute word
+      >> explanation_of bound (state_of session) answer.first attribute) stop result stops
+      (Answers-found (not_in_conflict answer.verdict) (Err stop) finds))
+
+  -- or where the attribute is not fixed
+  explained-unfixed : (stop : Stop) (result : Result Explained Stop) → IsErrAnd result (λ one. one ≡ stop)
+      → IsFound (not_in_conflict answer.verdict) tt
+      → Finds {A = Unit {0}} (Err stop) (fixed_at (end_of bound.kit (state_of session) answer.first) attribute word)
+      → Answers result (explained_on bound session word)
+  explained-unfixed stop result stops fix finds =
+      let end : State = end_of bound.kit (state_of session) answer.first in
+      explained-answered result (rw fix (Answers-stopped (fixed_at end attribute word)
+      (λ _. explanation_of bound (state_of session) answer.first attribute) stop result stops
+      (Answers-found (fixed_at end attribute word) (Err stop) finds)))
+
+  -- and is else what the run says
+  explained-fixed : (result : Result Explained Stop) → IsFound (not_in_conflict answer.verdict) tt
+      → IsFound (fixed_at (end_of bound.kit (state_of session) answer.first) attribute word) tt
+      → Answers result (explanation_of bound (state_of session) answer.first attribute)
+      → Answers result (explained_on bound session word)
+  explained-fixed result fix fixed answers = explained-answered result (rw (fix, fixed) answers)
 
 pub returns-in_err-not_in_conflict-clause-explained : goal.returns-in_err-not_in_conflict-clause-explained
 returns-in_err-not_in_conflict-clause-explained c =

@@ -10,7 +10,7 @@ use Rattle.machine_core.specs.Look.Records.{records_of}
 use Rattle.machine_core.specs.Look.Report.{report_of}
 use Rattle.machine_core.specs.Look.Suggest.{suggestion_of}
 use Rattle.machine_core.specs.Look.View.{view_at}
-use Rattle.machine_core.specs.Machine.{look_reply}
+use Rattle.machine_core.specs.Look.{look_reply}
 use Rattle.machine_core.specs.Outcomes.{Answers}
 use Rattle.machine_core.proofs.Answering.{Answers-stopped}
 use Rattle.session_machine.proofs.ClerkLooks.{reply-gives}
