@@ -3,7 +3,7 @@ use Rattle.std.proofs.Common.{◌≡◌, ◌<◌, ◌≤◌, ℕ, List, [], ◌�
 use Rattle.std.proofs.Common.{arith, inl, inr, if◌then◌else◌}
 use Rattle.std.proofs.lemmas.Bool.{cases_Bool}
 use Rattle.csv.specs.Reading.{is_bom, strip_bom}
-use Rattle.sheet_blocks.specs.Front.{begins_with_mark, is_partial_mark}
+use Rattle.sheet_blocks.specs.Front.{is_marked, is_partial_mark}
 
 -- a part of a mark has fewer than three bytes
 pub partial-short : (bytes : List ℕ) → is_partial_mark bytes ≡ true → length bytes < 3
@@ -43,7 +43,7 @@ strip_bom-append (one ∷ two ∷ []) later other = strip-pair one two later oth
 strip_bom-append (one ∷ two ∷ three ∷ rest) later other = strip-long (is_bom one two three) one two three rest later
 
 -- the mark is stripped where it stands
-pub strip_bom-mark : (bytes : List ℕ) → begins_with_mark bytes ≡ true
+pub strip_bom-mark : (bytes : List ℕ) → is_marked bytes ≡ true
     → (3 ≤ length bytes) × (strip_bom bytes ≡ drop 3 bytes)
 unfolding strip_bom
 strip_bom-mark [] begins = absurd cc
@@ -52,7 +52,7 @@ strip_bom-mark (one ∷ two ∷ []) begins = absurd cc
 strip_bom-mark (one ∷ two ∷ three ∷ rest) begins = (omega arith, rw begins refl)
 
 -- nothing is stripped where it doesn't
-pub strip_bom-plain : (bytes : List ℕ) → begins_with_mark bytes ≡ false → strip_bom bytes ≡ bytes
+pub strip_bom-plain : (bytes : List ℕ) → is_marked bytes ≡ false → strip_bom bytes ≡ bytes
 unfolding strip_bom
 strip_bom-plain [] plain = refl
 strip_bom-plain (one ∷ []) plain = refl

@@ -12,7 +12,7 @@ use Rattle.sheet_blocks.specs.Standing.{AreCut, BlocksSeen, Grows, IsOpened, Sta
 use Rattle.sheet_blocks.specs.Whole.{AreWhole, EndsNone}
 use Rattle.sheet_blocks.proofs.Cuts.{AreWhole-append}
 use Rattle.sheet_blocks.proofs.Fronts.{strip_bom-append}
-use Rattle.sheet_blocks.proofs.Records.{begun, plain, read_on-none, records-append, records-letter}
+use Rattle.sheet_blocks.proofs.Records.{begun, read_on-none, records-append, records-letter}
 
 -- blocks that were opened over a front
 pub IsOpened-front : (delimiter : ℕ) (left after : Option (List ℕ)) (bytes : List ℕ) (whole : Bool)
@@ -80,7 +80,7 @@ pub ended_records-cut : (delimiter : ℕ) (bytes done rest : List ℕ) → strip
     → AreWhole (config_of delimiter) done → EndsNone (config_of delimiter) st.StartRecord rest
     → ended_records delimiter bytes ≡ records (config_of delimiter) done
 ended_records-cut delimiter bytes done rest text whole none =
-    let cfg = plain delimiter in
+    let cfg = config_of delimiter in
     let letter = records-letter delimiter rest in
     let one = letter.last ∷ [] in
     ap without_last (ap (λ l. records cfg (l ++ 120 ∷ [])) text
@@ -95,7 +95,7 @@ pub records_read-stands : (bytes taken : List ℕ) (blocks : BlocksSeen) → Sta
     → records_read blocks.delimiter blocks.whole bytes
     ≡ records (config_of blocks.delimiter) taken ++ records (config_of blocks.delimiter) blocks.block
 records_read-stands bytes taken blocks stands cut = elim (cases_Bool blocks.whole) [
-  | inl all ↦ rw all (ap (records (plain blocks.delimiter)) (stands.text
+  | inl all ↦ rw all (ap (records (config_of blocks.delimiter)) (stands.text
       ∙ ap (λ l. taken ++ blocks.block ++ l) (cut.all all) ∙ append-nil (taken ++ blocks.block))
       ∙ records-append blocks.delimiter taken blocks.block stands.taken_whole)
   | inr begins ↦ rw begins (ended_records-cut blocks.delimiter bytes (taken ++ blocks.block) blocks.begun stands.text

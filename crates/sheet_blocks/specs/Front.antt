@@ -11,11 +11,11 @@ is_partial_mark (one ∷ two ∷ []) = (one == 0xEF) && (two == 0xBB)
 is_partial_mark (one ∷ two ∷ three ∷ rest) = false
 
 -- the bytes begin with the mark, as csv has it
-abbrev pub begins_with_mark : List ℕ → Bool
-begins_with_mark [] = false
-begins_with_mark (one ∷ []) = false
-begins_with_mark (one ∷ two ∷ []) = false
-begins_with_mark (one ∷ two ∷ three ∷ rest) = is_bom one two three
+abbrev pub is_marked : List ℕ → Bool
+is_marked [] = false
+is_marked (one ∷ []) = false
+is_marked (one ∷ two ∷ []) = false
+is_marked (one ∷ two ∷ three ∷ rest) = is_bom one two three
 
 -- these first bytes were read, to the end of the sheet, or until what follows is no part of a mark
 pub record IsFront (left after : Option (List ℕ)) (bytes : List ℕ) (whole : Bool) : Type 0 where

@@ -9,7 +9,7 @@ ghost use Rattle.sheet_blocks.specs.Sheets.{IsDelimiter};
 ghost use Rattle.std.specs.Io.KnownBytes.{Keeps};
 
 use crate::fault::BlocksFault;
-use crate::front::{Front, behind_mark, front_of};
+use crate::front::{Front, after_mark, front_of};
 use crate::place::Place;
 use desk_base::{NoMemory, Source};
 use std::alloc::Global;
@@ -84,7 +84,7 @@ impl Blocks {
         ensures delimiter_is { IfOk result (λ blocks. blocks.delimiter ≡ delimiter) }
     {
         let piece = piece_of(alloc)?;
-        let kept = kept_of(alloc, delimiter, behind_mark(front.bytes.as_slice()))?;
+        let kept = kept_of(alloc, delimiter, after_mark(front.bytes.as_slice()))?;
         if front.whole {
             return Ok(ended(delimiter, kept, piece)?);
         }

@@ -2,7 +2,7 @@
 ghost use Rattle.std.specs.Prelude.{◌≡◌, ◌≤◌, length, IfOk, IsErrOf};
 ghost use Rattle.csv.specs.Reading.{strip_bom};
 ghost use Rattle.desk_base.specs.Faults.{Rose};
-ghost use Rattle.sheet_blocks.specs.Front.{IsFront, IsPartOfMark, begins_with_mark, is_partial_mark};
+ghost use Rattle.sheet_blocks.specs.Front.{IsFront, IsPartOfMark, is_marked, is_partial_mark};
 
 use crate::fault::BlocksFault;
 use desk_base::Source;
@@ -54,8 +54,8 @@ fn is_partial_mark(bytes: &[u8]) -> bool
 }
 
 /// Whether these begin with a byte order mark, U+FEFF in UTF-8.
-fn begins_with_mark(bytes: &[u8]) -> bool
-    ensures { result ≡ begins_with_mark bytes.now }
+fn is_marked(bytes: &[u8]) -> bool
+    ensures { result ≡ is_marked bytes.now }
 {
     match bytes {
         [] => false,
@@ -66,12 +66,8 @@ fn begins_with_mark(bytes: &[u8]) -> bool
 }
 
 /// The bytes after a byte order mark.
-pub(crate) fn behind_mark(bytes: &[u8]) -> &[u8]
+pub(crate) fn after_mark(bytes: &[u8]) -> &[u8]
     ensures { result.now ≡ strip_bom bytes.now }
 {
-    if begins_with_mark(bytes) {
-        &bytes[3..]
-    } else {
-        bytes
-    }
+    if is_marked(bytes) { &bytes[3..] } else { bytes }
 }

@@ -2,7 +2,8 @@ use Rattle.std.proofs.Common.{ℕ, get_or, take, refl, sym, ◌∙◌}
 use Rattle.std.proofs.lemmas.List.{take_more}
 use Rattle.sheet_blocks.proofs.Cuts.{Follows-ends, Follows-goes}
 use Rattle.sheet_blocks.proofs.blocks.Kept.follow.Goals as goal
-use Rattle.sheet_blocks.proofs.blocks.Kept.follow.Goals.{then-ends_line+in_ok-extend_from_slice+in_ok-push, else-ends_line+in_ok-push-2}
+use Rattle.sheet_blocks.proofs.blocks.Kept.follow.Goals.{else-ends_line+in_ok-push-2}
+use Rattle.sheet_blocks.proofs.blocks.Kept.follow.Goals.{then-ends_line+in_ok-extend_from_slice+in_ok-push}
 
 pub bytes-preserved : goal.bytes-preserved
 bytes-preserved c =
