@@ -8,8 +8,8 @@ use std::alloc::Global;
 use std::test::Fail;
 
 impl Script {
-    /// Adds the words of the part `tables` of a case, where the keeper has the tables that the requests leave which they
-    /// name, sent to an empty desk in one stream; else what its tables show. Nothing where there is no such part.
+    /// Adds the words of the part `tables` of a case, where the keeper has the tables that the requests leave which
+    /// they name, sent to an empty desk in one stream; else what its tables show. Nothing where there is no such part.
     pub fn add_tables<K: Keeper>(
         &self,
         case: &Case,

@@ -10,8 +10,8 @@ use master_index::{MapBook, SortedBook};
 use std::alloc::{AllocError, Global};
 use std::test::Fail;
 
-/// What a look for the first rule finds, if the rule is enabled, and how many comparisons it takes; and whether some row
-/// agrees at the rule's covered keys.
+/// What a look for the first rule finds, if the rule is enabled, and how many comparisons it takes; and whether some
+/// row agrees at the rule's covered keys.
 #[derive(Clone, Copy)]
 pub struct Look {
     pub found: Option<Hit>,

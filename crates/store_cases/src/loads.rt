@@ -55,11 +55,11 @@ fn add_call(
     let before = stored.renew(answer.alloc())?;
     add_told(case, stored, names, answer)?;
     let after = stored.renew(answer.alloc())?;
-    let is_same = before.as_str() == after.as_str();
-    answer.text(
-        names.left,
-        if is_same { "as before" } else { after.as_str() },
-    )
+    if before.as_str() == after.as_str() {
+        answer.text(names.left, "as before")
+    } else {
+        answer.text(names.left, after.as_str())
+    }
 }
 
 /// Calls `run`, and adds the status and what was written.
