@@ -57,6 +57,7 @@ fn word_of(reply: &Reply) -> &'static str {
         Reply::Explained(_) => "explained ",
         Reply::Derived(_) => "derived ",
         Reply::Carried(_) => "carried ",
+        Reply::Sessions(_) => "sessions ",
         Reply::Refused(_) => "refused ",
     }
 }

@@ -5,8 +5,8 @@ use std::alloc::AllocError;
 use std::test::Fail;
 
 /// The names that parameters have.
-const NAMES: [&str; 7] = [
-    "clerk", "n", "name", "schema", "edition", "version", "session",
+const NAMES: [&str; 8] = [
+    "clerk", "n", "name", "schema", "edition", "version", "session", "from",
 ];
 
 /// The route of a target, its method, the limit of its body, and its parameters; or `none`.

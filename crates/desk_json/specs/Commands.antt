@@ -26,7 +26,7 @@ use Rattle.desk_json.specs.declared.route.Route.{Route}
 use Rattle.desk_json.specs.declared.route.Route.TheVariants.{AddClerk, AddSchema, AddMaster, AddRulebook, AddEdition}
 use Rattle.desk_json.specs.declared.route.Route.TheVariants.{AddRegion, Enter, Confirm, Withdraw, Commit, Abandon}
 use Rattle.desk_json.specs.declared.route.Route.TheVariants.{Batch, View, Suggest, Preview, Report, Records, DeskReport}
-use Rattle.desk_json.specs.declared.route.Route.TheVariants.{Explain, DeskDerive, AddDerived, SeeCarry, Carry}
+use Rattle.desk_json.specs.declared.route.Route.TheVariants.{Explain, DeskDerive, AddDerived, SeeCarry, Carry, Sessions}
 
 -- who asks for what, or the first fault of the body
 pub data Asked : Type 0 where
@@ -59,6 +59,7 @@ asked_in (Report clerk) body = seen_by clerk (Ok looks.Report)
 asked_in (Records clerk edition version) body = seen_by clerk (Ok (looks.Records edition version))
 asked_in (Explain clerk session name) body = seen_by clerk (Ok (looks.Explain session name))
 asked_in (SeeCarry clerk session version) body = seen_by clerk (Ok (looks.Carry session version))
+asked_in (Sessions clerk from) body = seen_by clerk (Ok (looks.Sessions from))
 asked_in DeskReport body = at_desk (Ok commands.DeskReport)
 asked_in (DeskDerive edition version) body = at_desk (desk_derive edition version body)
 

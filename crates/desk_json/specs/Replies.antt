@@ -10,11 +10,13 @@ use Rattle.desk_words.specs.declared.reply.Explained.{Explained}
 use Rattle.desk_words.specs.declared.reply.Reply.{Reply}
 use Rattle.desk_words.specs.declared.reply.Reply.TheVariants as replies
 use Rattle.desk_words.specs.declared.reply.Suggested.{Suggested}
+use Rattle.desk_words.specs.declared.report.SessionLine.{SessionLine}
+use Rattle.desk_words.specs.declared.report.SessionPage.{SessionPage}
 use Rattle.desk_json.specs.Carried.{carried_shown}
 use Rattle.desk_json.specs.Refusals.{refusal_shown}
-use Rattle.json_parts.specs.Shapes.{list_of, object_of, whole}
+use Rattle.json_parts.specs.Shapes.{list_of, object_of, or_null, whole}
 use Rattle.desk_json.specs.Viewed.{run_shown, view_shown}
-use Rattle.desk_json.specs.Words.{kind_word}
+use Rattle.desk_json.specs.Words.{kind_word, stage_word}
 
 -- a clerk
 abbrev pub clerk_shown : List ℕ → Data
@@ -84,6 +86,18 @@ explained_shown explained = object_of (
     ∷ (codes "uses", list_of (map string explained.uses))
     ∷ [])
 
+-- a session on a page: `[number,edition,version,stage]`
+abbrev pub session_shown : SessionLine → Data
+session_shown session = list_of (whole session.number ∷ string session.edition ∷ whole session.version
+    ∷ string (stage_word session.stage) ∷ [])
+
+-- a page of sessions; null where none is left out after it
+abbrev pub page_shown : SessionPage → Data
+page_shown page = object_of (
+    (codes "next", or_null whole page.next)
+    ∷ (codes "sessions", list_of (map session_shown page.lines))
+    ∷ [])
+
 -- a reply; a report, records and derived rows are no JSON
 abbrev pub reply_shown : Reply → Option Data
 reply_shown (replies.Made made) = Some (made_shown made)
@@ -97,4 +111,5 @@ reply_shown (replies.Records sheet) = None
 reply_shown (replies.Explained explained) = Some (explained_shown explained)
 reply_shown (replies.Derived sheet) = None
 reply_shown (replies.Carried carried) = Some (carried_shown carried)
+reply_shown (replies.Sessions page) = Some (page_shown page)
 reply_shown (replies.Refused refusal) = Some (refusal_shown refusal)

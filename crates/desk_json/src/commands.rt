@@ -103,6 +103,7 @@ pub fn command_of(
             session,
             version,
         } => seen_by(clerk, carry_seen(*session, *version)),
+        Route::Sessions { clerk, from } => seen_by(clerk, Look::Sessions { from: *from }),
         Route::DeskReport => Ok(Command::DeskReport),
         Route::DeskDerive { edition, version } => desk_derive(alloc, edition, *version, body),
     }

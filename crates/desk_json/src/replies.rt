@@ -4,12 +4,13 @@ ghost use Rattle.serde_json.specs.Written.{compact_text};
 ghost use Rattle.json_parts.specs.Writing.{with_value};
 ghost use Rattle.desk_json.specs.Faults.{fault_shown};
 ghost use Rattle.desk_json.specs.Replies.{batched_shown, committed_shown, explained_shown, made_shown, clerk_shown};
-ghost use Rattle.desk_json.specs.Replies.{region_shown, reply_shown, suggested_shown, version_shown};
+ghost use Rattle.desk_json.specs.Replies.{page_shown, region_shown, reply_shown, session_shown, suggested_shown};
+ghost use Rattle.desk_json.specs.Replies.{version_shown};
 
 use crate::fault::JsonFault;
 use crate::shown::{Show, field, text};
 use desk_base::{List, NoMemory, Text};
-use desk_words::{Batched, Explained, Kind, Made, Reply, Suggested};
+use desk_words::{Batched, Explained, Kind, Made, Reply, SessionLine, SessionPage, Suggested};
 use json_parts::JsonText;
 use std::alloc::{AllocError, Global};
 
@@ -41,6 +42,7 @@ pub fn text_of(alloc: Global, reply: &Reply) -> Result<List<u8>, NoMemory>
         Reply::Suggested(suggested) => text(alloc, suggested),
         Reply::Explained(explained) => text(alloc, explained),
         Reply::Carried(carried) => text(alloc, carried),
+        Reply::Sessions(page) => text(alloc, page),
         Reply::Refused(refusal) => text(alloc, refusal),
         Reply::Report(_) | Reply::Records(_) | Reply::Derived(_) => unreachable!(),
     }
@@ -152,6 +154,32 @@ impl Show for Explained {
         field(out, "attribute", &self.attribute)?;
         field(out, "steps", &self.steps)?;
         field(out, "uses", &self.uses)?;
+        out.end_object()
+    }
+}
+
+/// A session on a page.
+impl Show for SessionLine {
+    ghost shown = { session_shown };
+
+    fn show(&self, out: &mut JsonText) -> Result<(), AllocError> {
+        out.begin_array()?;
+        self.number.show(out)?;
+        self.edition.show(out)?;
+        self.version.show(out)?;
+        self.stage.show(out)?;
+        out.end_array()
+    }
+}
+
+/// A page of sessions.
+impl Show for SessionPage {
+    ghost shown = { page_shown };
+
+    fn show(&self, out: &mut JsonText) -> Result<(), AllocError> {
+        out.begin_object()?;
+        field(out, "next", &self.next)?;
+        field(out, "sessions", &self.lines)?;
         out.end_object()
     }
 }

@@ -105,4 +105,8 @@ pub enum Route {
         n: u64,
         session: u32,
     },
+    Sessions {
+        clerk: Str,
+        from: u32,
+    },
 }

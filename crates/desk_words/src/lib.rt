@@ -29,7 +29,9 @@ pub use look::Look;
 pub use made::{Batched, Made};
 pub use refusal::{Kind, Reader, Refusal};
 pub use reply::{Carried, DerivedSheet, Explained, Reply, Suggested};
-pub use report::{RecordLine, RecordSheet, ReportLine, ReportSheet};
+pub use report::{
+    MAX_LISTED, RecordLine, RecordSheet, ReportLine, ReportSheet, SessionLine, SessionPage,
+};
 pub use rows::act::Act;
 pub use rows::batch::BatchRow;
 pub use rows::clerk::{ClerkRow, Digest};

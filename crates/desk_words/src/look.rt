@@ -32,4 +32,8 @@ pub enum Look {
         session: u32,
         version: u32,
     },
+    /// The clerk's sessions from this number on.
+    Sessions {
+        from: u32,
+    },
 }

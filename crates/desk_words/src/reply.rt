@@ -1,7 +1,7 @@
 //! What is answered.
 use crate::made::{Batched, Made};
 use crate::refusal::Refusal;
-use crate::report::{RecordSheet, ReportSheet};
+use crate::report::{RecordSheet, ReportSheet, SessionPage};
 use crate::view::View;
 use desk_base::{List, Text};
 
@@ -68,5 +68,6 @@ pub enum Reply {
     Explained(Explained),
     Derived(DerivedSheet),
     Carried(Carried),
+    Sessions(SessionPage),
     Refused(Refusal),
 }

@@ -1,5 +1,9 @@
 //! What is shown of many sessions and records.
+use crate::rows::session::Stage;
 use desk_base::{List, Text};
+
+/// How many sessions a page lists at most.
+pub const MAX_LISTED: usize = 200;
 
 /// The sessions on one edition, counted.
 #[derive(Debug, Drop)]
@@ -28,6 +32,23 @@ pub struct ReportSheet {
     pub lines: List<ReportLine>,
     /// The sum of the sessions.
     pub total: u64,
+}
+
+/// A session with its number among the clerk's, counted from 1, the version of an edition that it is on, and its stage.
+#[derive(Debug, Drop)]
+pub struct SessionLine {
+    pub number: u32,
+    pub edition: Text,
+    pub version: u32,
+    pub stage: Stage,
+}
+
+/// A clerk's sessions from a number on, [`MAX_LISTED`] at most.
+#[derive(Debug, Drop)]
+pub struct SessionPage {
+    pub lines: List<SessionLine>,
+    /// The number of the first session that is left out, where there is one.
+    pub next: Option<u32>,
 }
 
 /// A record, with its number and that of its session among the clerk's, counted from 1.

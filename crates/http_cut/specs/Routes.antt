@@ -98,6 +98,7 @@ has_good_numbers parts =
     is_good_number WRITE_DIGITS (named (codes "n") parts)
     && is_good_number NUMBER_DIGITS (named (codes "version") parts)
     && is_good_number NUMBER_DIGITS (named (codes "session") parts)
+    && is_good_number NUMBER_DIGITS (named (codes "from") parts)
 
 -- a match whose numbers are good
 abbrev pub with_good_numbers : Option Match → Option Match

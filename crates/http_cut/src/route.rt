@@ -59,6 +59,7 @@ pub enum LookRoute {
     Records,
     Explain,
     SeeCarry,
+    Sessions,
 }
 
 /// What is asked for at the desk, by no clerk.
@@ -69,7 +70,7 @@ pub enum DeskRoute {
 }
 
 /// The table: each pattern with what it asks for (`docs/formats.md`, *Routes*).
-pub const PATTERNS: [(&str, Route); 23] = [
+pub const PATTERNS: [(&str, Route); 24] = [
     (
         "/steward/{n}/clerks",
         Route::Steward(StewardRoute::AddClerk),
@@ -156,6 +157,7 @@ pub const PATTERNS: [(&str, Route); 23] = [
         "/desk/derive/{edition}/{version}",
         Route::Desk(DeskRoute::DeskDerive),
     ),
+    ("/see/{clerk}/list/{from}", Route::Look(LookRoute::Sessions)),
 ];
 
 impl Route {

@@ -54,6 +54,7 @@ impl<'r, 'p> RouteMatch<'r, 'p> {
         self.has_good_number("n", WRITE_DIGITS)
             && self.has_good_number("version", NUMBER_DIGITS)
             && self.has_good_number("session", NUMBER_DIGITS)
+            && self.has_good_number("from", NUMBER_DIGITS)
     }
 
     fn has_good_number(&self, name: &str, most: usize) -> bool

@@ -132,11 +132,13 @@ number_made most key parts there good = by (named key parts) there good
 read_at-made : (parameter : Parameter) (parts : Parts) → has_good_numbers parts ≡ true
     → is_some (named (name_of parameter) parts) ≡ true → IsMade (read_at parameter parts)
 read_at-made parameters.n parts good there =
-    number_made WRITE_DIGITS (codes "n") parts there (and_parts _ _ (and_parts _ _ good).0).0
+    number_made WRITE_DIGITS (codes "n") parts there (and_parts _ _ (and_parts _ _ (and_parts _ _ good).0).0).0
 read_at-made parameters.version parts good there =
-    number_made NUMBER_DIGITS (codes "version") parts there (and_parts _ _ (and_parts _ _ good).0).1
+    number_made NUMBER_DIGITS (codes "version") parts there (and_parts _ _ (and_parts _ _ (and_parts _ _ good).0).0).1
 read_at-made parameters.session parts good there =
-    number_made NUMBER_DIGITS (codes "session") parts there (and_parts _ _ good).1
+    number_made NUMBER_DIGITS (codes "session") parts there (and_parts _ _ (and_parts _ _ good).0).1
+read_at-made parameters.from parts good there =
+    number_made NUMBER_DIGITS (codes "from") parts there (and_parts _ _ good).1
 read_at-made parameter parts good there = made_some (named (name_of parameter) parts) there
 
 -- a value comes of a chain where one comes of its first part, and then of the rest

@@ -17,7 +17,7 @@ use Rattle.desk_json.specs.declared.route.Route.{Route}
 use Rattle.desk_json.specs.declared.route.Route.TheVariants.{AddClerk, AddSchema, AddMaster, AddRulebook, AddEdition}
 use Rattle.desk_json.specs.declared.route.Route.TheVariants.{AddRegion, Enter, Confirm, Withdraw, Commit, Abandon}
 use Rattle.desk_json.specs.declared.route.Route.TheVariants.{Batch, View, Suggest, Preview, Report, Records, DeskReport}
-use Rattle.desk_json.specs.declared.route.Route.TheVariants.{Explain, DeskDerive, AddDerived, SeeCarry, Carry}
+use Rattle.desk_json.specs.declared.route.Route.TheVariants.{Explain, DeskDerive, AddDerived, SeeCarry, Carry, Sessions}
 use Rattle.desk_json.specs.Checked.{◌>>=◌}
 use Rattle.http_desk.specs.Checked.{Checked, or_no_route}
 
@@ -36,8 +36,8 @@ number_at most name parts = or_no_route (option_and_then (positive most) (named 
 -- ---- the parameters
 
 -- what targets tell: who asks, the number of a write among its caller's, the name of what a new version is of or of the
--- attribute that is asked about, the schema that a rulebook is over, and the edition, the version and the session that
--- it is about
+-- attribute that is asked about, the schema that a rulebook is over, the edition, the version and the session that it
+-- is about, and the session from which on others are listed
 pub data Parameter : Type 0 where
   clerk : Parameter
   n : Parameter
@@ -46,6 +46,7 @@ pub data Parameter : Type 0 where
   edition : Parameter
   version : Parameter
   session : Parameter
+  from : Parameter
 
 -- its name in a pattern
 abbrev pub name_of : Parameter → List ℕ
@@ -56,12 +57,14 @@ name_of schema = codes "schema"
 name_of edition = codes "edition"
 name_of version = codes "version"
 name_of session = codes "session"
+name_of from = codes "from"
 
 -- what is read there: a number or a text
 abbrev pub Read : Parameter → Type 0
 Read n = ℕ
 Read version = ℕ
 Read session = ℕ
+Read from = ℕ
 Read parameter = List ℕ
 
 -- what is read at a parameter in the parts of a target
@@ -69,6 +72,7 @@ abbrev pub read_at : (parameter : Parameter) → Parts → Checked (Read paramet
 read_at n parts = number_at WRITE_DIGITS (name_of n) parts
 read_at version parts = number_at NUMBER_DIGITS (name_of version) parts
 read_at session parts = number_at NUMBER_DIGITS (name_of session) parts
+read_at from parts = number_at NUMBER_DIGITS (name_of from) parts
 read_at parameter parts = text_at (name_of parameter) parts
 
 -- the number of a write
@@ -126,6 +130,7 @@ look_form caller of_look.Report = form [] (Report caller)
 look_form caller of_look.Records = form (edition ∷ version ∷ []) (Records caller)
 look_form caller of_look.Explain = form (session ∷ name ∷ []) (Explain caller)
 look_form caller of_look.SeeCarry = form (session ∷ version ∷ []) (SeeCarry caller)
+look_form caller of_look.Sessions = form (from ∷ []) (Sessions caller)
 
 -- what is asked for at the desk
 abbrev pub desk_form : DeskRoute → Form

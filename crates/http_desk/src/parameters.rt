@@ -153,6 +153,10 @@ fn look_route(
             session: number_at(found, "session")?,
             version: number_at(found, "version")?,
         }),
+        LookRoute::Sessions => Ok(Route::Sessions {
+            clerk,
+            from: number_at(found, "from")?,
+        }),
     }
 }
 

@@ -15,6 +15,7 @@ use Rattle.machine_core.specs.Look.Explain.{explain}
 use Rattle.machine_core.specs.Look.Preview.{preview}
 use Rattle.machine_core.specs.Look.Records.{records_of}
 use Rattle.machine_core.specs.Look.Report.{report_of}
+use Rattle.machine_core.specs.Look.Sessions.{sessions_from}
 use Rattle.machine_core.specs.Look.Suggest.{suggestion_of}
 use Rattle.machine_core.specs.Look.View.{view_at}
 use Rattle.machine_core.specs.Own.{Own}
@@ -64,3 +65,5 @@ module _ (published : Published) (own : Own) where
       (λ answer. Found published own (look.Explain number word) (content_of answer)) (λ explained given. tt)
   look-found (look.Carry number version) = told-each (carrying published own number version) reply.Carried
       (λ answer. Found published own (look.Carry number version) (content_of answer)) (λ carried given. tt)
+  look-found (look.Sessions from) = told-each (sessions_from published own from) reply.Sessions
+      (λ answer. Found published own (look.Sessions from) (content_of answer)) (λ page given. tt)

@@ -6,6 +6,7 @@ pub mod Report
 pub mod Records
 pub mod Explain
 pub mod Carry
+pub mod Sessions
 use Rattle.std.specs.Prelude.{ℕ, List, [], ◌∷◌, map, Option, Some, None}
 use Rattle.desk_words.specs.declared.look.Look.{Look}
 use Rattle.desk_words.specs.declared.look.Look.TheVariants as look
@@ -18,6 +19,7 @@ use Rattle.machine_core.specs.Look.Explain.{explain}
 use Rattle.machine_core.specs.Look.Preview.{preview}
 use Rattle.machine_core.specs.Look.Records.{records_of}
 use Rattle.machine_core.specs.Look.Report.{report_of}
+use Rattle.machine_core.specs.Look.Sessions.{sessions_from}
 use Rattle.machine_core.specs.Look.Suggest.{suggestion_of}
 use Rattle.machine_core.specs.Look.View.{view_at}
 use Rattle.machine_core.specs.Own.{Own}
@@ -35,6 +37,7 @@ look_at published own look.Report = told (report_of published (Some own.row.name
 look_at published own (look.Records edition version) = told (records_of published own edition version) reply.Records
 look_at published own (look.Explain number word) = told (explain published own number word) reply.Explained
 look_at published own (look.Carry number version) = told (carrying published own number version) reply.Carried
+look_at published own (look.Sessions from) = told (sessions_from published own from) reply.Sessions
 
 -- what is found, as it is told
 abbrev pub reply_of : Told → Checked Reply
@@ -77,3 +80,4 @@ named_by look.Report = names_nothing
 named_by (look.Records edition version) = record names_nothing { edition = Some (edition, version) }
 named_by (look.Explain number word) = record (names_session number) { attributes = word ∷ []; reason = Some word }
 named_by (look.Carry number version) = record (names_session number) { version = Some version }
+named_by (look.Sessions from) = names_nothing

@@ -6,7 +6,7 @@ use Rattle.desk_words.specs.declared.command.Command.{Command}
 use Rattle.desk_words.specs.declared.command.Command.TheVariants.{Look}
 use Rattle.desk_words.specs.declared.look.Look.{Look as LookOf}
 use Rattle.desk_words.specs.declared.look.Look.TheVariants.{View, Suggest, Preview, Report, Records, Explain}
-use Rattle.desk_words.specs.declared.look.Look.TheVariants.{Carry as CarryLook}
+use Rattle.desk_words.specs.declared.look.Look.TheVariants.{Carry as CarryLook, Sessions}
 use Rattle.desk_words.specs.declared.refusal.Kind.TheVariants as kind
 use Rattle.desk_words.specs.declared.refusal.Refusal.{Refusal}
 use Rattle.desk_words.specs.declared.refusal.Refusal.TheVariants.{NoSuch}
@@ -28,6 +28,7 @@ use Rattle.machine_core.specs.Look.Explain.{explain}
 use Rattle.machine_core.specs.Look.Preview.{preview}
 use Rattle.machine_core.specs.Look.Records.{records_of}
 use Rattle.machine_core.specs.Look.Report.{assessment_of, line_over, report_line, report_of}
+use Rattle.machine_core.specs.Look.Sessions.{sessions_from}
 use Rattle.machine_core.specs.Look.Suggest.{regions_of, suggestion_of}
 use Rattle.machine_core.specs.Look.View.{view_at}
 use Rattle.machine_core.specs.Own.{Own}
@@ -79,6 +80,7 @@ module _ (rows : Rows) (valid : AreValid rows) (own : Own)
       (λ after shown_after.
       outcome-bind (outcome-changes before after (view_at-apart rows valid own number before shown_before))
       (λ pairs told. outcome-done _)))))
+  outcome-look (Sessions from) = outcome-told reply.Sessions (outcome-done _)
 
 -- what the rules make of a session is never refused
 pub assessment-why : (P : Refusal → Type 0) (published : Published) (session : SessionRow) (refusal : Refusal)
@@ -162,3 +164,6 @@ module _ (rows : Rows) (name : List ℕ) (own : Own) where
       (λ before before_ok. chain-why P (view_of (published_of rows) number moved) _
       (view-why P (published_of rows) number moved)
       (λ behind behind_ok refusal gives. done-why P _ refusal gives.2))))
+  look-why (Sessions from) asks =
+      let P : Refusal → Type 0 = Cause rows (Look name (Sessions from)) in
+      told-why P (sessions_from (published_of rows) own from) reply.Sessions (done-why P _)

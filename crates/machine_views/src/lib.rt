@@ -11,7 +11,8 @@ mod views;
 
 pub use kept::{deed_reply, kept_reply};
 pub use looks::{
-    carrying, clerk_report, derived_sheet, desk_report, explain, records_of, suggestion_of, view_at,
+    carrying, clerk_report, derived_sheet, desk_report, explain, records_of, sessions_from,
+    suggestion_of, view_at,
 };
 pub use made::{kept_made, region_made};
 pub use views::view_of;

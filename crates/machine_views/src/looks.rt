@@ -5,6 +5,7 @@ mod derive;
 mod explaining;
 mod records;
 mod report;
+mod sessions;
 mod suggest;
 mod view;
 
@@ -13,5 +14,6 @@ pub use derive::derived_sheet;
 pub use explaining::explain;
 pub use records::records_of;
 pub use report::{clerk_report, desk_report};
+pub use sessions::sessions_from;
 pub use suggest::suggestion_of;
 pub use view::view_at;

@@ -15,7 +15,9 @@ use desk_words::{Look, Reply, Tables, View};
 use fix_engine::Work;
 use machine_clerk::confirm_row;
 use machine_core::{Own, Stop};
-use machine_views::{carrying, clerk_report, explain, records_of, suggestion_of, view_at, view_of};
+use machine_views::{
+    carrying, clerk_report, explain, records_of, sessions_from, suggestion_of, view_at, view_of,
+};
 use master_index::Shelf;
 use std::alloc::Global;
 
@@ -58,6 +60,7 @@ pub fn look_reply(
         Look::Carry { session, version } => {
             Ok(Reply::Carried(carrying(alloc, tables, shelf, room, own, *session, *version)?))
         }
+        Look::Sessions { from } => Ok(Reply::Sessions(sessions_from(alloc, tables, own, *from)?)),
     }
 }
 
