@@ -37,6 +37,11 @@ pub record Stands (bytes taken : List ℕ) (blocks : BlocksSeen) : Type 0 where
   pub front : (blocks.whole ≡ true)
       ⊎ ((later : List ℕ) → strip_bom (bytes ++ later) ≡ strip_bom bytes ++ later)
 
+-- bytes were taken from the source, and nothing else happened to it
+pub record HasTaken (left after : Option (List ℕ)) : Type 0 where
+  pub bytes : List ℕ
+  pub taken : Consumes left after bytes
+
 -- these blocks were opened over a source: bytes were read, and none taken
 pub record IsOpened (delimiter : ℕ) (left after : Option (List ℕ)) (blocks : BlocksSeen) : Type 0 where
   pub bytes : List ℕ

@@ -1,7 +1,7 @@
 //! Blocks of whole records.
 ghost use Rattle.std.specs.Prelude.{◌≡◌, ◌≤◌, ◌++◌, ◌∷◌, [], true, false, IfOk, IsErrOf, drop, length};
 ghost use Rattle.desk_base.specs.Faults.{Rose};
-ghost use Rattle.sheet_blocks.specs.Standing.{AreCut, Grows, IsOpened};
+ghost use Rattle.sheet_blocks.specs.Standing.{AreCut, Grows, HasTaken, IsOpened};
 ghost use Rattle.sheet_blocks.specs.Front.{IsPartOfMark};
 ghost use Rattle.sheet_blocks.specs.Kept.{Follows, IsCut, IsKept};
 ghost use Rattle.csv.specs.Reading.{strip_bom};
@@ -67,6 +67,7 @@ impl Blocks {
         ensures opened { IfOk result (λ blocks.
             IsOpened delimiter (S.left source.old) (S.left source.new) blocks) }
         ensures part { IsErrOf result BlocksFault.Failed → IsPartOfMark (S.left source.old) (S.left source.new) }
+        ensures lost { IsErrOf result BlocksFault.NoMemory → HasTaken (S.left source.old) (S.left source.new) }
         ensures cause { IsErrOf result BlocksFault.Failed
             → Rose (S.read_faults source.old) (S.read_faults source.new) }
         ensures later { S.read_faults source.old ≤ S.read_faults source.new }
@@ -100,6 +101,7 @@ impl Blocks {
     pub fn fill<S: Source>(self, source: &mut S) -> Result<Blocks, BlocksFault>
         ensures grown { IfOk result (λ blocks. Grows (S.left source.old) (S.left source.new) self blocks) }
         ensures kept { IsErrOf result BlocksFault.Failed → Keeps (S.left source.old) (S.left source.new) }
+        ensures lost { IsErrOf result BlocksFault.NoMemory → HasTaken (S.left source.old) (S.left source.new) }
         ensures cause { IsErrOf result BlocksFault.Failed
             → Rose (S.read_faults source.old) (S.read_faults source.new) }
         ensures later { S.read_faults source.old ≤ S.read_faults source.new }

@@ -3,6 +3,7 @@ ghost use Rattle.std.specs.Prelude.{◌≡◌, ◌≤◌, length, IfOk, IsErrOf}
 ghost use Rattle.csv.specs.Reading.{strip_bom};
 ghost use Rattle.desk_base.specs.Faults.{Rose};
 ghost use Rattle.sheet_blocks.specs.Front.{IsFront, IsPartOfMark, is_marked, is_partial_mark};
+ghost use Rattle.sheet_blocks.specs.Standing.{HasTaken};
 
 use crate::fault::BlocksFault;
 use desk_base::Source;
@@ -20,6 +21,7 @@ pub(crate) fn front_of<S: Source>(alloc: Global, source: &mut S) -> Result<Front
     ensures front { IfOk result (λ front.
         IsFront (S.left source.old) (S.left source.new) front.bytes.items front.whole) }
     ensures part { IsErrOf result BlocksFault.Failed → IsPartOfMark (S.left source.old) (S.left source.new) }
+    ensures lost { IsErrOf result BlocksFault.NoMemory → HasTaken (S.left source.old) (S.left source.new) }
     ensures cause { IsErrOf result BlocksFault.Failed
         → Rose (S.read_faults source.old) (S.read_faults source.new) }
     ensures later { S.read_faults source.old ≤ S.read_faults source.new }

@@ -11,7 +11,7 @@ pub(crate) enum Place {
     Plain,
     /// Between quotes.
     Quoted,
-    /// Behind a quote that closes, unless another follows.
+    /// After a quote that closes, unless another follows.
     Closed,
 }
 

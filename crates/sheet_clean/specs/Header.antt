@@ -53,12 +53,12 @@ texts_fault setting header = option_or (columns_fault setting [] header)
     (option_or (known_fault setting header) (verdict_fault setting.verdict header))
 
 -- the first column begins with a byte order mark: the sheet began with two
-abbrev pub is_marked : List (List ℕ) → Bool
-is_marked header = begins_with_mark (slice_index_or header 0 [])
+abbrev pub is_marked_twice : List (List ℕ) → Bool
+is_marked_twice header = begins_with_mark (slice_index_or header 0 [])
 
 -- the first fault of a header: two marks are told before all else, as a master's are
 abbrev pub header_fault : Setting → List (List ℕ) → Option SheetFault
 header_fault setting header =
-    if is_marked header then Some (MarkedColumn 1)
+    if is_marked_twice header then Some (MarkedColumn 1)
     else if not (list_all is_utf8 header) then Some (NotUtf8 0)
     else texts_fault setting header

@@ -1,5 +1,5 @@
 -- The texts of the four sheets, the clean one and those of changes, conflicts and dissents, and what rows come to.
-use Rattle.std.specs.Prelude.{ℕ, ◌+◌, true, false, List, [], ◌∷◌, ◌++◌, length, flat_map, codes}
+use Rattle.std.specs.Prelude.{ℕ, ◌+◌, ◌^◌, ◌≤◌, ◌⊎◌, true, false, List, [], ◌∷◌, ◌++◌, length, flat_map, codes}
 use Rattle.csv.specs.Writing.{row_text}
 use Rattle.fix_model.specs.declared.kit.Kit.{Kit}
 use Rattle.fix_engine.specs.declared.verdict.Verdict.{Verdict}
@@ -111,6 +111,11 @@ added one other = record {
   changed = one.changed + other.changed;
   dissents = one.dissents + other.dissents;
 }
+
+-- a count is greater than 64 bits hold
+abbrev pub IsTooGreat : Summary → Type 0
+IsTooGreat summary = (2 ^ 64 ≤ summary.rows) ⊎ (2 ^ 64 ≤ summary.certain) ⊎ (2 ^ 64 ≤ summary.partial)
+    ⊎ (2 ^ 64 ≤ summary.conflict) ⊎ (2 ^ 64 ≤ summary.changed) ⊎ (2 ^ 64 ≤ summary.dissents)
 
 -- the summary of no row
 abbrev pub no_rows : Summary

@@ -28,8 +28,8 @@ use fix_engine::{Verdict, Work, apply, decide};
 use fix_model::{Book, State, Step};
 use std::alloc::Global;
 
-/// Decides the row of this number with these cells, puts the lines that it gives after those of the drafts, and answers
-/// what it comes to.
+/// Decides the row of this number with these cells, in which `row_fault` finds nothing, puts the lines that it gives
+/// after those of the drafts, and answers what it comes to. A cell that is no UTF-8 would be told as want of memory.
 pub fn write_decided<B: Book<()>>(
     alloc: Global,
     setting: &Setting,

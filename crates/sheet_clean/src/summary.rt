@@ -1,6 +1,6 @@
 //! What the rows of a sheet come to.
-ghost use Rattle.std.specs.Prelude.{◌≡◌, IfSome};
-ghost use Rattle.sheet_clean.specs.Sheets.{added, no_rows};
+ghost use Rattle.std.specs.Prelude.{◌≡◌, IfSome, None};
+ghost use Rattle.sheet_clean.specs.Sheets.{IsTooGreat, added, no_rows};
 
 /// How many rows were written, how many of each verdict, how many cells were changed, and from how many rows a step
 /// dissents.
@@ -29,9 +29,10 @@ impl Summary {
         }
     }
 
-    /// Both added up, or none where a count would pass 2^64 - 1.
+    /// Both added up, or none where a count passes 2^64 - 1.
     pub fn plus(self, other: Summary) -> Option<Summary>
-        ensures { IfSome result (λ sum. sum ≡ added self other) }
+        ensures sum { IfSome result (λ sum. sum ≡ added self other) }
+        ensures none { result ≡ None → IsTooGreat (added self other) }
     {
         Some(Summary {
             rows: self.rows.checked_add(other.rows)?,
