@@ -1,5 +1,5 @@
 -- What a look into the master data of a rule finds.
-use Rattle.std.specs.Prelude.{◌≡◌, ◌≢◌, ℕ, ◌≤◌, List, filter, Option, MatchOption}
+use Rattle.std.specs.Prelude.{◌≡◌, ◌≢◌, ℕ, ◌≤◌, List, [], filter, Option, MatchOption}
 use Rattle.fix_model.specs.declared.book.Hit.{Hit}
 use Rattle.fix_model.specs.declared.kit.Kit.{Kit}
 use Rattle.fix_model.specs.declared.rule.Rule.{Rule}
@@ -53,6 +53,14 @@ pub record SharesLook (kit : Kit) (rule earlier : ℕ) : Type 0 where
   pub conds : (rule_at kit rule).conds ≡ (rule_at kit earlier).conds
   pub master : (rule_at kit rule).master ≡ (rule_at kit earlier).master
   pub from : (rule_at kit rule).from ≡ (rule_at kit earlier).from
+
+-- the rules have no conditions, and the same keys, master and `from`
+pub record HaveSameLook (rule other : Rule) : Type 0 where
+  pub keys : rule.keys ≡ other.keys
+  pub conds : rule.conds ≡ []
+  pub other_conds : other.conds ≡ []
+  pub master : rule.master ≡ other.master
+  pub from : rule.from ≡ other.from
 
 -- those of some keys whose attributes are covered
 abbrev pub covered_among : State → List (ℕ × ℕ) → List (ℕ × ℕ)

@@ -10,6 +10,7 @@ use crate::book::{Book, Hit};
 use crate::kit::Kit;
 use crate::rows::Sought;
 use crate::rule::Rule;
+use crate::sharing::earliest_for;
 use crate::state::{State, Step};
 use desk_base::{Grid, Steps, Text};
 use std::marker::Model;
@@ -61,7 +62,7 @@ impl<'a, L> Book<L> for LentBook<'a> {
     }
 
     fn earliest(&self, rule: u16) -> u16 {
-        rule
+        earliest_for(self.inside, rule)
     }
 
     fn find(&self, rule: u16, state: &State, counts: &mut Steps<L>) -> Option<Hit> {

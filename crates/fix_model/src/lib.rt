@@ -20,6 +20,7 @@ mod pattern;
 mod region;
 mod rows;
 mod rule;
+mod sharing;
 mod state;
 
 pub use application::fires;
@@ -34,4 +35,5 @@ pub use pattern::{Pat, matches};
 pub use region::{Region, RowVerdict, row_state};
 pub use rows::{Sought, is_usable};
 pub use rule::Rule;
+pub use sharing::earliest_for;
 pub use state::{Cell, State, Step};

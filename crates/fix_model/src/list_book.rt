@@ -5,6 +5,7 @@ ghost use Rattle.fix_model.specs.Valid.{IsValid};
 use crate::book::{Book, Hit};
 use crate::kit::Kit;
 use crate::rule::Rule;
+use crate::sharing::earliest_for;
 use crate::state::{State, Step};
 use desk_base::{Steps, Text};
 use std::marker::Model;
@@ -56,7 +57,7 @@ impl<L> Book<L> for ListBook {
     }
 
     fn earliest(&self, rule: u16) -> u16 {
-        rule
+        earliest_for(&self.inside, rule)
     }
 
     fn find(&self, rule: u16, state: &State, counts: &mut Steps<L>) -> Option<Hit> {

@@ -1,16 +1,7 @@
 -- Which rules of a kit share one look.
-use Rattle.std.specs.Prelude.{◌≡◌, ℕ, ◌<◌, List, [], length, slice_index}
+use Rattle.std.specs.Prelude.{◌≡◌, ℕ, ◌<◌, List, length, slice_index}
 use Rattle.fix_model.specs.declared.kit.Kit.{Kit}
-use Rattle.fix_model.specs.declared.rule.Rule.{Rule}
 use Rattle.fix_model.specs.Hit.{SharesLook}
-
--- the rules have no conditions, and the same keys, master and `from`
-pub record HaveSameLook (rule other : Rule) : Type 0 where
-  pub keys : rule.keys ≡ other.keys
-  pub conds : rule.conds ≡ []
-  pub other_conds : other.conds ≡ []
-  pub master : rule.master ≡ other.master
-  pub from : rule.from ≡ other.from
 
 -- for each of the first rules one stands here that shares its look
 pub record ShareLooksBefore (kit : Kit) (count : ℕ) (earliest : List ℕ) : Type 0 where

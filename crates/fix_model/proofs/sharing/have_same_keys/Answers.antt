@@ -2,7 +2,7 @@ use Rattle.std.proofs.Common.{◌≡◌, ◌==◌, ◌&&◌, ℕ, ap}
 use Rattle.std.specs.Bool.{Decides}
 use Rattle.std.proofs.lemmas.Bool.Decides.{Decides-and, Decides-eqb, Decides-like}
 use Rattle.std.proofs.lemmas.Slice.Eq.{slice_eq-Decides}
-use Rattle.master_index.proofs.earliest.have_same_keys.Goals as goal
+use Rattle.fix_model.proofs.sharing.have_same_keys.Goals as goal
 
 -- two keys are one where their attributes and their columns are
 same_key : (one other : ℕ × ℕ) → Decides ((one.0 == other.0) && (one.1 == other.1)) (one ≡ other)
