@@ -1,6 +1,6 @@
 -- What is remembered of the looks stays true along a run, and each look is made once.
-use Rattle.std.proofs.Common.{◌≡◌, ◌≢◌, ◌<◌, ◌≤◌, ◌+◌, ◌∙◌, ◌++◌, ℕ, zero, suc, Bool, true, false, cond, inl, inr, refl}
-use Rattle.std.proofs.Common.{sym, ap, add-one}
+use Rattle.std.proofs.Common.{◌≡◌, ◌≢◌, ◌<◌, ◌≤◌, ◌+◌, ◌∙◌, ℕ, zero, suc, Bool, true, false, cond, inl, inr, refl}
+use Rattle.std.proofs.Common.{sym, ap}
 use Rattle.std.proofs.Common.{List, [], ◌∷◌, length, set, get_or, replicate, length-set, eqb, eqb-true, arith}
 use Rattle.std.specs.Prelude.{Option, filter, vec_capacity}
 use Rattle.std.specs.List.{count_by}
@@ -135,11 +135,6 @@ LooksAround-step kit state step old new newer before after_these after_those fir
   looks = omega (arith, these.looks, those.looks);
   room = omega (arith, these.room, those.room);
 }
-
--- one more that is pending
-pub replicate-push : (count : ℕ) → replicate count Pending ++ Pending ∷ [] ≡ replicate (count + 1) Pending
-replicate-push zero = refl
-replicate-push (suc count) = rw add-one (ap (λ looks. Pending ∷ looks) (replicate-push count ∙ rw add-one refl))
 
 -- where at each place one of two tests passes, they pass together as often as there are places
 count-either : {A B : Type 0} (one : A → Bool) (other : B → Bool) (xs : List A) (ys : List B) (a : A) (b : B)

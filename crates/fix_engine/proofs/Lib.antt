@@ -4,6 +4,7 @@ pub mod Leaving
 pub mod Reach
 pub mod Rooms
 pub mod Turns
+pub mod Woken
 pub mod Verdicts
 pub mod Once
 pub mod Truth

@@ -1,5 +1,5 @@
 -- How the second run begins: it keeps to the end of the first while a departure is left, and then departs.
-use Rattle.std.specs.Prelude.{◌≡◌, ◌⊎◌, ℕ, Bool, true, false, List, ◌∷◌, ◌++◌}
+use Rattle.std.specs.Prelude.{◌≡◌, ◌⊎◌, ℕ, ◌<◌, Bool, true, false, List, ◌∷◌, ◌++◌}
 use Rattle.fix_model.specs.declared.kit.Kit.{Kit}
 use Rattle.fix_model.specs.declared.state.State.{State}
 use Rattle.fix_model.specs.declared.state.Step.{Step}
@@ -29,6 +29,10 @@ CanDepartSomewhere kit end state = (attribute : ℕ) × CanDepart kit end state 
 abbrev pub IsPassed : Kit → State → State → ℕ → Type 0
 IsPassed kit end state place = (step : Step) (rest : List Step) → step.rule ≡ place
     → IsMaximalRun kit state (step ∷ rest) → ¬ EndsElsewhere kit end state (step ∷ rest)
+
+-- so it is for each rule before this one
+abbrev pub ArePassedBefore : Kit → State → State → ℕ → Type 0
+ArePassedBefore kit end state from = (place : ℕ) → place < from → IsPassed kit end state place
 
 -- the step of the turn fires; it departs, or it keeps to the end, by a rule that supports it, and leaves something to
 -- depart at

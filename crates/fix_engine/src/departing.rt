@@ -134,14 +134,22 @@ impl Leads {
         ensures room { vec_capacity reach.old ≤ vec_capacity reach.new }
     {
         flag_covered(reach, state);
-        'rules: while let Some(rule) = self.next_rule(reach, book, left_out) {
+        let mut from = 0;
+        'rules: while let Some(rule) = self.next_rule(reach, book, left_out, from) {
             let head = head_of(book, rule);
             reach[usize::from(head)] = true;
+            from = rule;
         }
     }
 
-    /// A rule that goes on from what is flagged, or none.
-    fn next_rule<L, B: Book<L>>(&self, flags: &[bool], book: &B, left_out: u16) -> Option<u16>
+    /// A rule that goes on from what is flagged, or none. It is looked for from a rule on, and then before that one.
+    fn next_rule<L, B: Book<L>>(
+        &self,
+        flags: &[bool],
+        book: &B,
+        left_out: u16,
+        from: u16,
+    ) -> Option<u16>
         ensures { MatchOption result
             ((place : ℕ) → place < length (B.kit book.now).rules
             → ¬ IsNextRule (B.kit book.now) self.now.leads.items flags.now left_out place)
@@ -149,7 +157,30 @@ impl Leads {
             × IsNextRule (B.kit book.now) self.now.leads.items flags.now left_out rule) }
     {
         let count = book.rules().len() as u16;
-        'rules: for rule in 0..count {
+        let middle = from.min(count);
+        match self.next_rule_among(flags, book, left_out, middle, count) {
+            Some(rule) => Some(rule),
+            None => self.next_rule_among(flags, book, left_out, 0, middle),
+        }
+    }
+
+    /// A rule from one on and before another that goes on from what is flagged, or none.
+    fn next_rule_among<L, B: Book<L>>(
+        &self,
+        flags: &[bool],
+        book: &B,
+        left_out: u16,
+        from: u16,
+        before: u16,
+    ) -> Option<u16>
+        requires { before ≤ length (B.kit book.now).rules }
+        ensures { MatchOption result
+            ((place : ℕ) → from ≤ place → place < before
+            → ¬ IsNextRule (B.kit book.now) self.now.leads.items flags.now left_out place)
+            (λ rule. (rule < before)
+            × IsNextRule (B.kit book.now) self.now.leads.items flags.now left_out rule) }
+    {
+        'rules: for rule in from..before {
             if self.is_next_rule(flags, book, left_out, rule) {
                 return Some(rule);
             }

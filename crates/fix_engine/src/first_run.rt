@@ -1,5 +1,5 @@
 //! The first run: the least step that fires is made, again and again.
-ghost use Rattle.std.specs.Prelude.{◌≡◌, ◌+◌, ◌<◌, ◌≤◌, [], length, MatchOption, vec_capacity};
+ghost use Rattle.std.specs.Prelude.{◌≡◌, ◌+◌, ◌<◌, ◌≤◌, ℕ, [], length, MatchOption, vec_capacity};
 ghost use Rattle.fix_model.specs.FirstRun.{IsFirstRun};
 ghost use Rattle.fix_model.specs.States.{Fits, uncovered_count};
 ghost use Rattle.fix_model.specs.Valid.{IsValid};
@@ -10,6 +10,7 @@ ghost use Rattle.fix_engine.specs.WorkSeen.{IsRoomFor, KeepsSize};
 
 use crate::looks::Looks;
 use crate::runs::make;
+use crate::waking::woken;
 use crate::work::Work;
 use desk_base::Steps;
 use fix_model::{Book, Hit, State, Step, enabled};
@@ -31,7 +32,8 @@ pub fn least<L, B: Book<L>>(work: &mut Work, book: &B, state: &mut State, counts
 }
 
 impl Looks {
-    /// Makes the first run from the state, behind the steps that are there, and leaves its end.
+    /// Makes the first run from the state, after the steps that are there, and leaves its end. After a step the walk
+    /// over the rules goes on from the first one that waits for its head.
     pub(crate) fn complete<L, B: Book<L>>(
         &mut self,
         run: &mut Vec<Step>,
@@ -47,25 +49,29 @@ impl Looks {
         ensures looks { LooksAround (B.kit book.now) state.new self.old self.new counts.old counts.new }
         ensures room { vec_capacity run.old ≤ vec_capacity run.new }
     {
-        'steps: while let Some(step) = self.next_step(book, state, counts) {
+        let mut from = 0;
+        'steps: while let Some(step) = self.next_step(from, book, state, counts) {
             make::<L, B>(book, state, step);
             run.push(step).unwrap();
+            from = woken::<L, B>(book, step.rule);
         }
     }
 
-    /// The least step that fires, or none where nothing fires.
+    /// The least step that fires, or none where nothing fires. No step of a rule before the first one fires.
     fn next_step<L, B: Book<L>>(
         &mut self,
+        from: u16,
         book: &B,
         state: &State,
         counts: &mut Steps<L>,
     ) -> Option<Step>
-        requires { Knows (B.kit book.now) state.now self.old }
+        requires knows { Knows (B.kit book.now) state.now self.old }
+        requires idle { (place : ℕ) → place < from → IsIdle (B.kit book.now) state.now place }
         ensures step { IsNextStep (B.kit book.now) state.now result }
         ensures looks { LooksAround (B.kit book.now) state.now self.old self.new counts.old counts.new }
     {
         let count = book.rules().len() as u16;
-        'rules: for rule in 0..count {
+        'rules: for rule in from..count {
             if let Some(hit) = self.ready_hit(book, state, rule, counts) {
                 return Some(Step {
                     rule,

@@ -151,6 +151,31 @@ fn keeps<L, B: Book<L>>(book: &B, state: &State, step: Step) -> bool
     requires step { IsStepOf (B.kit book.now) step }
     ensures { IsTrue result ↔ Keeps (B.kit book.now) state.now step }
 {
+    was_given::<L, B>(book, state, step) || gives_text::<L, B>(book, state, step)
+}
+
+/// Whether the head was fixed by the same row, by this rule or another that shares its look: then no texts need to be
+/// compared.
+fn was_given<L, B: Book<L>>(book: &B, state: &State, step: Step) -> bool
+    requires fits { Fits (B.kit book.now) state.now }
+    requires step { IsStepOf (B.kit book.now) step }
+    ensures { IsTrue result → Keeps (B.kit book.now) state.now step }
+{
+    let head = book.rules()[usize::from(step.rule)].head;
+    match state.fixed_by(head) {
+        Some(made) => {
+            made.row == step.row && book.earliest(made.rule) == book.earliest(step.rule)
+        }
+        None => false,
+    }
+}
+
+/// Whether the text that the step gives is the one that the head has.
+fn gives_text<L, B: Book<L>>(book: &B, state: &State, step: Step) -> bool
+    requires fits { Fits (B.kit book.now) state.now }
+    requires step { IsStepOf (B.kit book.now) step }
+    ensures { IsTrue result ↔ Keeps (B.kit book.now) state.now step }
+{
     let head = book.rules()[usize::from(step.rule)].head;
     book.text(step).as_str() == value::<L, B>(book, state, head).as_str()
 }

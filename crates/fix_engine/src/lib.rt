@@ -17,6 +17,7 @@ mod runs;
 mod search;
 mod second_run;
 mod verdict;
+mod waking;
 mod work;
 
 pub use deciding::{decide, judge};

@@ -41,9 +41,9 @@ impl Looks {
         ensures room { vec_capacity self.old.remembered ≤ vec_capacity self.new.remembered }
     {
         self.remembered.clear();
-        'rules: for _ in rules {
-            self.remembered.push(Remembered::Pending).unwrap();
-        }
+        self.remembered
+            .resize(rules.len(), Remembered::Pending)
+            .unwrap();
     }
 
     /// What a look for the rule finds. It is made where it was not made yet, for this rule or another that shares it,

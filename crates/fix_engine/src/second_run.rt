@@ -4,12 +4,13 @@ ghost use Rattle.fix_model.specs.declared.state.State.{State as StateOf};
 ghost use Rattle.fix_model.specs.States.{Fits, uncovered_count};
 ghost use Rattle.fix_model.specs.Valid.{IsValid};
 ghost use Rattle.fix_engine.specs.Departures.{AreDepartures, IsLedTo};
-ghost use Rattle.fix_engine.specs.Turns.{BeginsElsewhere, CanDepartSomewhere, IsLeastOf, IsLeastOfAll};
+ghost use Rattle.fix_engine.specs.Turns.{ArePassedBefore, BeginsElsewhere, CanDepartSomewhere, IsLeastOf, IsLeastOfAll};
 ghost use Rattle.fix_engine.specs.Turns.{IsLeftFrom, IsPassed, IsTurn};
 
 use crate::flags::has_other;
 use crate::leads::{Lead, Leads};
 use crate::runs::make;
+use crate::waking::woken;
 use fix_model::{Book, State, Step, enabled};
 
 /// A step of the second run, and whether it departs from the end of the first.
@@ -40,7 +41,8 @@ impl Turn {
 }
 
 impl Leads {
-    /// Makes the steps of the second run up to its departure, behind the steps that are there.
+    /// Makes the steps of the second run up to its departure, after the steps that are there. After a step the walk
+    /// over the rules goes on from the first one that waits for its head.
     pub(crate) fn depart<L, B: Book<L>>(
         &self,
         run: &mut Vec<Step>,
@@ -61,7 +63,8 @@ impl Leads {
         ensures room { length run.new.items + uncovered_count state.new ≤ vec_capacity run.new }
         ensures capacity { vec_capacity run.old ≤ vec_capacity run.new }
     {
-        'turns: while let Some(turn) = self.next_turn(departures, book, state) {
+        let mut from = 0;
+        'turns: while let Some(turn) = self.next_turn(from, departures, book, state) {
             make::<L, B>(book, state, turn.step);
             run.push(turn.step).unwrap();
             if turn.departs {
@@ -69,20 +72,29 @@ impl Leads {
             }
             let head = book.rules()[usize::from(turn.step.rule)].head;
             departures[usize::from(head)] = false;
+            from = woken::<L, B>(book, turn.step.rule);
         }
     }
 
-    /// The next step of the second run, or none where no run ends in another record.
-    fn next_turn<L, B: Book<L>>(&self, departures: &[bool], book: &B, state: &State) -> Option<Turn>
+    /// The next step of the second run, or none where no run ends in another record. None that does begins with a rule
+    /// before the first one.
+    fn next_turn<L, B: Book<L>>(
+        &self,
+        from: u16,
+        departures: &[bool],
+        book: &B,
+        state: &State,
+    ) -> Option<Turn>
         requires { Fits (B.kit book.now) state.now }
         ensures { (end : StateOf) → IsLedTo (B.kit book.now) state.now end self.now.leads.items
             → AreDepartures (B.kit book.now) end state.now departures.now
+            → ArePassedBefore (B.kit book.now) end state.now from
             → MatchOption result (¬ CanDepartSomewhere (B.kit book.now) end state.now)
             (λ turn. IsTurn (B.kit book.now) end state.now turn
             × IsLeastOfAll (B.kit book.now) end state.now turn.step) }
     {
         let count = book.rules().len() as u16;
-        'rules: for rule in 0..count {
+        'rules: for rule in from..count {
             if let Some(turn) = self.turn_of(departures, book, state, rule) {
                 return Some(turn);
             }

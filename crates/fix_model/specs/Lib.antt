@@ -14,5 +14,6 @@ pub mod Run
 pub mod Sought
 pub mod States
 pub mod Valid
+pub mod Waits
 pub mod Plain
 pub mod Regions

@@ -6,6 +6,7 @@ ghost use Rattle.fix_model.specs.Rules.{rule_at, step_text, IsStepOf, is_folded}
 ghost use Rattle.fix_model.specs.States.{Fits, IsCovered, value_at};
 ghost use Rattle.fix_model.specs.Application.{AreMatched, IsEnabled, covers_left_side};
 ghost use Rattle.fix_model.specs.Valid.{IsValid, IsValidRule};
+ghost use Rattle.fix_model.specs.Waits.{NoneWaitsBefore};
 
 use crate::pattern::matches;
 use crate::rule::Rule;
@@ -50,6 +51,11 @@ pub trait Book<L> {
     fn earliest(&self, rule: u16) -> u16
         requires { rule < length (kit self.now).rules }
         ensures { SharesLook (kit self.now) rule result };
+
+    /// A rule before which none waits for the attribute: none has it among its keys or conditions. How late it is stays
+    /// open.
+    fn first_waiting(&self, attribute: u16) -> u16
+        ensures { NoneWaitsBefore (kit self.now) attribute result };
 
     /// Looks for the usable rows of the rule that agree with the state at all its keys, and counts one
     /// look. There is nothing exactly where no row agrees.

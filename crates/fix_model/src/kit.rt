@@ -154,7 +154,8 @@ fn has_distinct_attributes<T>(pairs: &[(u16, T)]) -> bool
     true
 }
 
-fn names<T>(pairs: &[(u16, T)], attribute: u16) -> bool
+/// Whether one of the pairs is of the attribute.
+pub(crate) fn names<T>(pairs: &[(u16, T)], attribute: u16) -> bool
     ensures { IsTrue result ↔ Any (λ pair. attribute ≡ pair.0) pairs.now }
 {
     'pairs: for pair in pairs {

@@ -12,6 +12,7 @@ use crate::rows::Sought;
 use crate::rule::Rule;
 use crate::sharing::earliest_for;
 use crate::state::{State, Step};
+use crate::waiting::first_waiting;
 use desk_base::{Grid, Steps, Text};
 use std::marker::Model;
 
@@ -63,6 +64,10 @@ impl<'a, L> Book<L> for LentBook<'a> {
 
     fn earliest(&self, rule: u16) -> u16 {
         earliest_for(self.inside, rule)
+    }
+
+    fn first_waiting(&self, attribute: u16) -> u16 {
+        first_waiting(self.inside, attribute)
     }
 
     fn find(&self, rule: u16, state: &State, counts: &mut Steps<L>) -> Option<Hit> {

@@ -22,6 +22,7 @@ mod rows;
 mod rule;
 mod sharing;
 mod state;
+mod waiting;
 
 pub use application::fires;
 pub use book::{Book, Hit, covers_left_side, enabled, has_covered_keys, value};
@@ -37,3 +38,4 @@ pub use rows::{Sought, is_usable};
 pub use rule::Rule;
 pub use sharing::earliest_for;
 pub use state::{Cell, State, Step};
+pub use waiting::first_waiting;

@@ -7,6 +7,7 @@ use crate::kit::Kit;
 use crate::rule::Rule;
 use crate::sharing::earliest_for;
 use crate::state::{State, Step};
+use crate::waiting::first_waiting;
 use desk_base::{Steps, Text};
 use std::marker::Model;
 
@@ -58,6 +59,10 @@ impl<L> Book<L> for ListBook {
 
     fn earliest(&self, rule: u16) -> u16 {
         earliest_for(&self.inside, rule)
+    }
+
+    fn first_waiting(&self, attribute: u16) -> u16 {
+        first_waiting(&self.inside, attribute)
     }
 
     fn find(&self, rule: u16, state: &State, counts: &mut Steps<L>) -> Option<Hit> {

@@ -8,3 +8,4 @@ pub mod Parts
 pub mod RowMap
 pub mod Sorted
 pub mod Triples
+pub mod Waits

@@ -19,6 +19,7 @@ mod shelf;
 mod sorted_book;
 mod sorting;
 mod triples;
+mod waits;
 
 pub use error::BuildFault;
 pub use map_book::MapBook;

@@ -7,7 +7,7 @@ use crate::error::BuildFault;
 use crate::index::Index;
 use crate::looks::{first_among, hit_among};
 use desk_base::{MAX_ENTRIES, Steps, Text};
-use fix_model::{Book, Hit, Kit, Rule, Sought, State, Step, some_row_agrees};
+use fix_model::{Book, Hit, Kit, Rule, Sought, State, Step, first_waiting, some_row_agrees};
 use std::alloc::Global;
 use std::marker::Model;
 
@@ -72,6 +72,10 @@ impl<L> Book<L> for MapBook {
 
     fn earliest(&self, rule: u16) -> u16 {
         rule
+    }
+
+    fn first_waiting(&self, attribute: u16) -> u16 {
+        first_waiting(&self.inside, attribute)
     }
 
     fn find(&self, rule: u16, state: &State, counts: &mut Steps<L>) -> Option<Hit> {

@@ -13,6 +13,7 @@ use crate::error::BuildFault;
 use crate::part::Part;
 use crate::search::entry_at;
 use crate::triples::Triples;
+use crate::waits::waits_of;
 use desk_base::{List, MAX_ENTRIES, NoMemory, Steps, Text};
 use fix_model::{Book, Hit, Kit, Rule, State, Step, has_covered_keys, some_row_agrees};
 use std::alloc::Global;
@@ -27,6 +28,7 @@ pub struct SortedBook {
     triples: Triples,
     parts: List<Part>,
     earliest: List<u16>,
+    waits: List<u16>,
 }
 
 impl Model for SortedBook {
@@ -36,6 +38,7 @@ impl Model for SortedBook {
     ghost use Rattle.master_index.specs.Earliest.{ShareLooksBefore};
     ghost use Rattle.master_index.specs.Parts.{ArePartsBefore};
     ghost use Rattle.master_index.specs.Triples.{AreTriplesOf};
+    ghost use Rattle.master_index.specs.Waits.{AreWaitsBefore};
 
     ghost Value = { Kit };
 
@@ -43,7 +46,8 @@ impl Model for SortedBook {
 
     ghost invariant = { λ b. IsValid b.inside × AreTriplesOf b.inside b.triples
         × ArePartsBefore b.inside b.triples.owners (length b.triples.owners) b.parts
-        × ShareLooksBefore b.inside (length b.inside.rules) b.earliest };
+        × ShareLooksBefore b.inside (length b.inside.rules) b.earliest
+        × AreWaitsBefore b.inside b.inside.width b.waits };
 }
 
 impl SortedBook {
@@ -72,11 +76,13 @@ impl SortedBook {
         let triples = Triples::of(alloc, &kit)?;
         let parts = sorted_parts(alloc, &kit, triples.owners())?;
         let earliest = earliest_of(alloc, &kit)?;
+        let waits = waits_of(alloc, &kit)?;
         Ok(SortedBook {
             inside: kit,
             triples,
             parts,
             earliest,
+            waits,
         })
     }
 
@@ -123,6 +129,13 @@ impl<L> Book<L> for SortedBook {
 
     fn earliest(&self, rule: u16) -> u16 {
         self.earliest.as_slice()[usize::from(rule)]
+    }
+
+    fn first_waiting(&self, attribute: u16) -> u16 {
+        match self.waits.as_slice().get(usize::from(attribute)) {
+            Some(first) => *first,
+            None => 0,
+        }
     }
 
     fn find(&self, rule: u16, state: &State, counts: &mut Steps<L>) -> Option<Hit>

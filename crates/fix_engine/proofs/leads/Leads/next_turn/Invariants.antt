@@ -1,7 +1,6 @@
-use Rattle.std.proofs.Common.{◌<◌, ℕ}
 use Rattle.fix_model.specs.declared.state.State.{State}
 use Rattle.fix_engine.specs.Departures.{AreDepartures, IsLedTo}
-use Rattle.fix_engine.specs.Turns.{IsPassed}
+use Rattle.fix_engine.specs.Turns.{ArePassedBefore}
 use Rattle.fix_engine.proofs.leads.Leads.next_turn.Given as goal
 
 -- the rules so far are passed
@@ -9,4 +8,4 @@ abbrev pub invariant-rules : goal.invariant-rules
 invariant-rules g l =
     let kit = g.B.Book.kit l.book in
     (end : State) → IsLedTo kit l.state end l.self.leads.items → AreDepartures kit end l.state l.departures
-    → (place : ℕ) → place < l.rule → IsPassed kit end l.state place
+    → ArePassedBefore kit end l.state l.from → ArePassedBefore kit end l.state l.rule

@@ -4,6 +4,7 @@ use Rattle.fix_model.proofs.Counts.{uncovered_count-step}
 use Rattle.fix_model.proofs.States.{Fits-after}
 use Rattle.fix_engine.proofs.FirstRuns.{IsBeginning-start, IsBeginning-step, IsCompleted-final}
 use Rattle.fix_engine.proofs.Known.{LooksAround-step}
+use Rattle.fix_engine.proofs.Woken.{IsIdle-woken}
 use Rattle.fix_engine.proofs.looks.Looks.complete.Goals as goal
 
 pub steps-init : goal.steps-init
@@ -15,6 +16,7 @@ steps-init g c =
       looks = record { known = c.requires.knows.known; looks = omega arith; room = omega arith };
       places = c.requires.room;
       room = omega arith;
+      idle = λ place within. absurd (omega (arith, within));
     }
 
 pub unwrap-requires : goal.unwrap-requires
@@ -59,6 +61,8 @@ steps-preserved g c =
                 c.steps.run.items (step ∷ []),
           ));
       room = omega (arith, before.room, c.push.ensures.capacity);
+      idle = rw c.make.ensures (IsIdle-woken kit c.requires.valid state step c.woken-from.result before.fits least
+          c.woken-from.ensures.up_to c.woken-from.ensures.apart);
     }
 
 pub returns-clause-completed : goal.returns-clause-completed

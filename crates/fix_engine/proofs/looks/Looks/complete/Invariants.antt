@@ -1,11 +1,13 @@
-use Rattle.std.proofs.Common.{◌≤◌, ◌+◌, length}
+use Rattle.std.proofs.Common.{◌<◌, ◌≤◌, ◌+◌, ℕ, length}
 use Rattle.std.specs.Prelude.{vec_capacity}
 use Rattle.fix_model.specs.States.{Fits, uncovered_count}
 use Rattle.fix_engine.specs.Looks.{LooksAround}
+use Rattle.fix_engine.specs.Next.{IsIdle}
 use Rattle.fix_engine.proofs.FirstRuns.{IsBeginning}
 use Rattle.fix_engine.proofs.looks.Looks.complete.Given as goal
 
--- the steps so far lead to the state, and are the beginning of the first run
+-- the steps so far lead to the state, and are the beginning of the first run; the rules before the one to go on from are
+-- idle
 abbrev pub invariant-steps : goal.invariant-steps
 invariant-steps g l =
     let kit = g.B.Book.kit l.book in
@@ -15,6 +17,7 @@ invariant-steps g l =
       looks : LooksAround kit l.state l.fn.self l.self l.fn.counts l.counts;
       places : length l.run.items + uncovered_count l.state ≤ vec_capacity l.run;
       room : vec_capacity l.fn.run ≤ vec_capacity l.run;
+      idle : (place : ℕ) → place < l.from → IsIdle kit l.state place;
     }
 
 -- each step covers an attribute more

@@ -12,7 +12,7 @@ place-requires c =
 pub bounds-as_slice-place : goal.bounds-as_slice-place
 bounds-as_slice-place c =
     let within : c.args.rule < length c.self.inside.inside.rules = rw (← c.self.view_is) at c.requires in
-    let (valid, triples, parts, shared) = c.self.invariant in
+    let (valid, triples, parts, shared, waits) = c.self.invariant in
     let has = triples.each c.args.rule within in
     rw (c.place.ensures, c.as_slice.ensures) (omega (arith, has.place_within, parts.size))
 
@@ -21,7 +21,7 @@ returns c =
     let kit = c.self.inside.inside in
     let triples = c.self.inside.triples in
     let within : c.args.rule < length kit.rules = rw (← c.self.view_is) at c.requires in
-    let (valid, are_triples, parts, shared) = c.self.invariant in
+    let (valid, are_triples, parts, shared, waits) = c.self.invariant in
     let has = are_triples.each c.args.rule within in
     let place = get_or triples.places c.args.rule 0 in
     let part = c.index-as_slice-place.result in
