@@ -24,11 +24,11 @@ use Rattle.fix_engine.specs.declared.looks.Remembered.TheVariants.{Pending, Done
 use Rattle.fix_engine.specs.declared.looks.Looks.{Looks}
 use Rattle.fix_engine.specs.Looks.{is_pending, pending_count, AreKnown, IsKnown, LooksAround}
 
--- where nothing is remembered, nothing false is
-get_or-replicate_self : (count place : ℕ) → get_or (replicate count Pending) place Pending ≡ Pending
-get_or-replicate_self zero place = refl
-get_or-replicate_self (suc count) zero = refl
-get_or-replicate_self (suc count) (suc place) = get_or-replicate_self count place
+-- where all items are one, it is read everywhere
+pub get_or-replicate_self : {A : Type 0} (item : A) (count place : ℕ) → get_or (replicate count item) place item ≡ item
+get_or-replicate_self item zero place = refl
+get_or-replicate_self item (suc count) zero = refl
+get_or-replicate_self item (suc count) (suc place) = get_or-replicate_self item count place
 
 -- all of them are pending
 pub pending_count-replicate : (count : ℕ) → pending_count (replicate count Pending) ≡ count
@@ -46,7 +46,7 @@ pending_count-forgotten remembered rules kit forgotten same =
 pub AreKnown-replicate : (kit : Kit) (state : State) → AreKnown kit state (replicate (length kit.rules) Pending)
 AreKnown-replicate kit state = record {
   whole = length-replicate (length kit.rules) Pending;
-  known = λ place answer within done. absurd (let none = get_or-replicate_self (length kit.rules) place in cc);
+  known = λ place answer within done. absurd (let none = get_or-replicate_self Pending (length kit.rules) place in cc);
 }
 
 -- what is remembered stays true after a step

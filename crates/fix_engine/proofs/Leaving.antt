@@ -88,18 +88,11 @@ module _ (kit : Kit) (end : State) (place row : ℕ) where
   leaving_row-some (Keeps hit) keeps enabled agrees differs =
       some-other hit.first hit.other keeps.0.found.other agrees (λ same. differs (same ∙ keeps.1))
 
-module _ (kit : Kit) (end : State) (leads : List Lead) (final : IsFinal kit end) (known : AreLeads kit end leads) where
-  -- no step of a rule without a leaving row dissents
-  pub no_dissent-of : (step : Step) → leaving_row (get_or leads step.rule Nothing) ≡ None → ¬ Dissents kit end step
-  no_dissent-of step none dissents =
-      let some = leaving_row-some kit end step.rule step.row (get_or leads step.rule Nothing)
-      (known.each step.rule dissents.rule_within) dissents.enabled dissents.agrees dissents.differs in
-      absurd cc
-
+module _ (kit : Kit) (end : State) (final : IsFinal kit end) where
   -- the head of a rule that is enabled, and with which a row agrees, is covered where nothing fires
-  covered_there : (step : Step) → step.rule < length kit.rules → IsEnabled kit end (rule_at kit step.rule)
+  pub covered-agreeing : (step : Step) → step.rule < length kit.rules → IsEnabled kit end (rule_at kit step.rule)
       → RowAgrees kit (value_at kit end) (rule_at kit step.rule) step.row → IsCovered end (rule_at kit step.rule).head
-  covered_there step within enabled agrees =
+  covered-agreeing step within enabled agrees =
       elim (cases_Bool (is_covering (cell_at end (rule_at kit step.rule).head))) [
         | inl covers ↦ covers
         | inr none ↦ absurd (final step (record {
@@ -109,6 +102,20 @@ module _ (kit : Kit) (end : State) (leads : List Lead) (final : IsFinal kit end)
           agrees = agrees;
         }))
       ]
+
+  -- so a rule does nothing there where its head is not covered
+  pub IsLead-uncovered : (place : ℕ) → place < length kit.rules → ¬ IsCovered end (rule_at kit place).head
+      → IsLead kit end place Nothing
+  IsLead-uncovered place within uncovered enabled row agrees =
+      uncovered (covered-agreeing (record { rule = place; row = row }) within enabled agrees)
+
+module _ (kit : Kit) (end : State) (leads : List Lead) (final : IsFinal kit end) (known : AreLeads kit end leads) where
+  -- no step of a rule without a leaving row dissents
+  pub no_dissent-of : (step : Step) → leaving_row (get_or leads step.rule Nothing) ≡ None → ¬ Dissents kit end step
+  no_dissent-of step none dissents =
+      let some = leaving_row-some kit end step.rule step.row (get_or leads step.rule Nothing)
+      (known.each step.rule dissents.rule_within) dissents.enabled dissents.agrees dissents.differs in
+      absurd cc
 
   -- the leaving row of the first rule that has one makes the least step that dissents
   pub IsLeastDissent-first : (place row : ℕ) → place < length kit.rules
@@ -123,7 +130,7 @@ module _ (kit : Kit) (end : State) (leads : List Lead) (final : IsFinal kit end)
         holds = record {
           rule_within = within;
           enabled = enabled;
-          covered = covered_there first within enabled agrees;
+          covered = covered-agreeing kit end final first within enabled agrees;
           agrees = agrees;
           differs = differs;
         };

@@ -1,9 +1,9 @@
 -- The flags of what can be covered, and of what can be departed at.
 use Rattle.std.proofs.Common.{◌≡◌, ◌≢◌, ◌<◌, ◌∙◌, ℕ, Bool, true, false, List, [], ◌∷◌, ◌++◌, length, length-set}
-use Rattle.std.proofs.Common.{get_or, map, set, refl, sym, ap, subst, eqb, eqb-true, inl, inr, arith}
+use Rattle.std.proofs.Common.{get_or, map, replicate, set, refl, sym, ap, subst, eqb, eqb-true, inl, inr, arith}
 use Rattle.std.specs.Prelude.{◌↔◌, IsTrue, IsSome, MatchBool, Option, Some, None}
 use Rattle.std.proofs.lemmas.Bool.{cases_Bool, eqb-false}
-use Rattle.std.proofs.lemmas.List.{get_or-set_same, get_or-set_other, map-set}
+use Rattle.std.proofs.lemmas.List.{get_or-set_same, get_or-set_other, length-replicate, map-set}
 use Rattle.std.proofs.Math.ListN.{get_or-map}
 use Rattle.fix_model.specs.declared.kit.Kit.{Kit}
 use Rattle.fix_model.specs.declared.state.Cell.{Cell}
@@ -11,6 +11,7 @@ use Rattle.fix_model.specs.declared.state.Cell.TheVariants.{Uncovered, Fixed}
 use Rattle.fix_model.specs.declared.state.State.{State}
 use Rattle.fix_model.specs.declared.state.Step.{Step}
 use Rattle.fix_model.specs.Application.{Fires, IsEnabled, RowAgrees, after}
+use Rattle.fix_model.specs.Fix.{Dissents}
 use Rattle.fix_model.specs.Rules.{rule_at}
 use Rattle.fix_model.specs.Run.{end_of}
 use Rattle.fix_model.specs.States.{Fits, IsCovered, is_covering, value_at}
@@ -26,7 +27,8 @@ use Rattle.fix_engine.specs.Departures.{IsNextRule, IsReach, IsSupportedRun, Kee
 use Rattle.fix_engine.specs.Flags.{HasFlags, IsFlagged}
 use Rattle.fix_engine.specs.Leads.{AreLeads, IsLead, is_keeping, leaving_row}
 use Rattle.fix_engine.proofs.Ends.{IsEnabled-inside, RowAgrees-inside, cell_at-head, cell_at-other, head-within}
-use Rattle.fix_engine.proofs.Leaving.{leaving_row-leaves, leaving_row-some}
+use Rattle.fix_engine.proofs.Known.{get_or-replicate_self}
+use Rattle.fix_engine.proofs.Leaving.{covered-agreeing, leaving_row-leaves, leaving_row-some}
 use Rattle.fix_engine.proofs.Truth.{AreMatched-values}
 use Rattle.fix_engine.proofs.Departures.{CanDepart-step, IsFollowed, IsLedTo-after, IsInside-step, IsRun-supported}
 use Rattle.fix_engine.proofs.Departures.{fires_further, follows}
@@ -361,6 +363,36 @@ module _ (kit : Kit) (valid : IsValid kit) (end : State) where
               depart.departs;
         },
       )
+
+-- where no step dissents, nothing can be departed at
+pub AreDepartures-none : (kit : Kit) (valid : IsValid kit) (end state : State) (leads : List Lead) → Fits kit state
+    → IsLedTo kit state end leads → ((step : Step) → ¬ Dissents kit end step)
+    → AreDepartures kit end state (replicate kit.width false)
+AreDepartures-none kit valid end state leads fits led none = record {
+  whole = length-replicate kit.width false;
+  each = λ attribute. (
+    (λ flagged. absurd (let clear = get_or-replicate_self false kit.width attribute in cc)),
+    λ depart. absurd (dissents-somewhere (IsLeftSomehow-CanDepart kit valid end leads state attribute fits led depart)),
+  );
+}
+  where
+    dissents-at : (place : ℕ) (found : Option ℕ) → place < length kit.rules
+        → leaving_row (get_or leads place Nothing) ≡ found → IsSome found → ⊥
+    dissents-at place None within is some = absurd cc
+    dissents-at place (Some row) within is some =
+        let (enabled, agrees, differs) = leaving_row-leaves kit end place row (get_or leads place Nothing)
+        (led.leads_there.each place within) is in
+        none (record { rule = place; row = row }) (record {
+          rule_within = within;
+          enabled = enabled;
+          covered = covered-agreeing kit end led.final (record { rule = place; row = row }) within enabled agrees;
+          agrees = agrees;
+          differs = differs;
+        })
+
+    dissents-somewhere : {attribute : ℕ} → IsLeftSomehow kit leads attribute → ⊥
+    dissents-somewhere (place, within, by) =
+        dissents-at place (leaving_row (get_or leads place Nothing)) within refl by.leaves
 
 -- ---- the heads that are left
 

@@ -3,9 +3,12 @@ use Rattle.std.specs.Prelude.{◌≡◌, ◌≢◌, ℕ, ◌<◌, Bool, true, fa
 use Rattle.fix_model.specs.declared.book.Hit.{Hit}
 use Rattle.fix_model.specs.declared.kit.Kit.{Kit}
 use Rattle.fix_model.specs.declared.state.State.{State}
+use Rattle.fix_model.specs.declared.state.Step.{Step}
 use Rattle.fix_model.specs.Application.{IsEnabled}
+use Rattle.fix_model.specs.Fix.{IsDissent}
 use Rattle.fix_model.specs.Hit.{IsHit, IsMissed}
 use Rattle.fix_model.specs.Rules.{rule_at, from_text}
+use Rattle.fix_model.specs.Run.{IsFinal}
 use Rattle.fix_model.specs.States.{value_at}
 use Rattle.fix_engine.specs.declared.leads.Lead.{Lead}
 use Rattle.fix_engine.specs.declared.leads.Lead.TheVariants.{Nothing, Keeps, Leaves}
@@ -40,3 +43,8 @@ abbrev pub is_keeping : Lead → Bool
 is_keeping Nothing = false
 is_keeping (Keeps hit) = true
 is_keeping (Leaves hit) = false
+
+-- it is the least step that dissents, or there is none, wherever the leads are these and nothing fires
+abbrev pub TellsDissent : List Lead → Option Step → Type 0
+TellsDissent leads dissent = (kit : Kit) (end : State) → IsFinal kit end → AreLeads kit end leads
+    → IsDissent kit end dissent

@@ -7,22 +7,25 @@ ghost use Rattle.fix_model.specs.Valid.{IsValid};
 ghost use Rattle.fix_engine.specs.Departures.{AreDepartures, CanDepart, GoesOn, IsClosed, IsLedTo, IsLeft};
 ghost use Rattle.fix_engine.specs.Departures.{IsLeftSomehow, IsNextRule, IsReach, LeavesBy};
 ghost use Rattle.fix_engine.specs.Flags.{HasFlags, IsFlagged};
+ghost use Rattle.fix_engine.specs.Leads.{TellsDissent};
 
 use crate::flags::{flag_covered, flag_none, has_flags, is_flagged};
 use crate::leads::Leads;
-use fix_model::{Book, Rule, State};
+use fix_model::{Book, Rule, State, Step};
 
 impl Leads {
-    /// Flags the attributes at which a run from the state can depart.
+    /// Flags the attributes at which a run from the state can depart: none where no step dissents at the end.
     pub(crate) fn find_departures<L, B: Book<L>>(
         &self,
         departures: &mut Vec<bool>,
         reach: &mut Vec<bool>,
         book: &B,
         state: &State,
+        dissent: Option<Step>,
     )
         requires valid { IsValid (B.kit book.now) }
         requires fits { Fits (B.kit book.now) state.now }
+        requires dissent { TellsDissent self.now.leads.items dissent }
         requires departures_room { (B.kit book.now).width ≤ vec_capacity departures.old }
         requires reach_room { (B.kit book.now).width ≤ vec_capacity reach.old }
         ensures departures { (end : StateOf) → IsLedTo (B.kit book.now) state.now end self.now.leads.items
@@ -31,6 +34,10 @@ impl Leads {
         ensures departures_stay { vec_capacity departures.old ≤ vec_capacity departures.new }
         ensures reach_stays { vec_capacity reach.old ≤ vec_capacity reach.new }
     {
+        if dissent.is_none() {
+            flag_none(departures, book.width());
+            return;
+        }
         self.flag_left(departures, book);
         'attributes: for attribute in 0..book.width() {
             if is_flagged(departures, attribute) {

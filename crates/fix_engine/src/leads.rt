@@ -1,13 +1,10 @@
 //! What the rules do at the end of the first run.
 ghost use Rattle.std.specs.Prelude.{◌≡◌, ◌<◌, ◌≤◌, ◌↔◌, length, IsTrue, IfOk, slice_index_or, vec_capacity};
-ghost use Rattle.fix_model.specs.declared.kit.Kit.{Kit as KitOf};
-ghost use Rattle.fix_model.specs.declared.state.State.{State as StateOf};
-ghost use Rattle.fix_model.specs.Fix.{IsDissent};
 ghost use Rattle.fix_model.specs.Rules.{IsStepOf};
 ghost use Rattle.fix_model.specs.Run.{IsFinal};
 ghost use Rattle.fix_model.specs.States.{Fits};
 ghost use Rattle.fix_engine.specs.Departures.{Keeps};
-ghost use Rattle.fix_engine.specs.Leads.{AreLeads, IsLead, is_keeping, leaving_row};
+ghost use Rattle.fix_engine.specs.Leads.{AreLeads, IsLead, TellsDissent, is_keeping, leaving_row};
 ghost use Rattle.fix_engine.specs.Looks.{Knows, LooksAround};
 
 use crate::looks::Looks;
@@ -65,7 +62,7 @@ impl Leads {
         })
     }
 
-    /// Finds what each rule does at the state. Each rule is looked up at most once.
+    /// Finds what each rule does at the state, where nothing fires. Each rule is looked up at most once.
     pub(crate) fn find<L, B: Book<L>>(
         &mut self,
         looks: &mut Looks,
@@ -74,6 +71,7 @@ impl Leads {
         counts: &mut Steps<L>,
     )
         requires knows { Knows (B.kit book.now) state.now looks.old }
+        requires ended { IsFinal (B.kit book.now) state.now }
         requires room { length (B.kit book.now).rules ≤ vec_capacity self.old.leads }
         ensures leads { AreLeads (B.kit book.now) state.now self.new.leads.items }
         ensures looks { LooksAround (B.kit book.now) state.now looks.old looks.new counts.old counts.new }
@@ -99,8 +97,7 @@ impl Leads {
     /// The least step that dissents where these leads were found, and nothing fires.
     pub(crate) fn dissent(&self) -> Option<Step>
         requires { length self.now.leads.items ≤ MAX_RULES }
-        ensures { (kit : KitOf) (end : StateOf) → IsFinal kit end → AreLeads kit end self.now.leads.items
-            → IsDissent kit end result }
+        ensures { TellsDissent self.now.leads.items result }
     {
         'rules: for (rule, lead) in self.leads.iter().enumerate() {
             if let Some(row) = lead.leaving_row() {
@@ -124,10 +121,15 @@ impl Looks {
     ) -> Lead
         requires rule_within { rule < length (B.kit book.now).rules }
         requires knows { Knows (B.kit book.now) state.now self.old }
+        requires ended { IsFinal (B.kit book.now) state.now }
         ensures lead { IsLead (B.kit book.now) state.now rule result }
         ensures looks { LooksAround (B.kit book.now) state.now self.old self.new counts.old counts.new }
     {
-        if !enabled::<L, B>(book, state, &book.rules()[usize::from(rule)]) {
+        let this = &book.rules()[usize::from(rule)];
+        if !state.covers(this.head) {
+            return Lead::Nothing;
+        }
+        if !enabled::<L, B>(book, state, this) {
             return Lead::Nothing;
         }
         let Some(hit) = self.look_up(book, state, rule, counts) else {

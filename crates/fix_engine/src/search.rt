@@ -62,12 +62,11 @@ impl Search {
         self.leads.find(&mut self.looks, book, state, counts);
         let certain = covers_all::<L, B>(book, state);
         self.runs.restore(state);
-        self.leads
-            .find_departures(&mut self.departures, &mut self.reach, book, state);
+        let dissent = self.leads.dissent();
+        self.leads.find_departures(&mut self.departures, &mut self.reach, book, state, dissent);
         if has_flag(&self.departures) {
             return Verdict::Conflict;
         }
-        let dissent = self.leads.dissent();
         Verdict::Fix { certain, dissent }
     }
 

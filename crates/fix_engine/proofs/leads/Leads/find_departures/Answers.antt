@@ -1,16 +1,36 @@
-use Rattle.std.proofs.Common.{◌≡◌, ◌≢◌, ◌<◌, ◌≤◌, ◌∙◌, ℕ, Bool, length, length-set, false, inl, inr, sym, arith}
+use Rattle.std.proofs.Common.{rules, ◌≡◌, ◌≢◌, ◌<◌, ◌≤◌, ◌∙◌, ℕ, Bool, length, length-set, true, false, inl, inr, sym, arith}
 use Rattle.std.proofs.Common.{below_more}
-use Rattle.std.specs.Prelude.{◌↔◌, IsTrue}
+use Rattle.std.specs.Prelude.{◌↔◌, IsTrue, Option, None, Some}
+use Rattle.std.specs.Option.{is_none}
 use Rattle.std.proofs.Math.ListN.{get_or-eq_default}
 use Rattle.std.proofs.lemmas.Bool.{false≢true}
 use Rattle.std.proofs.lemmas.List.{get_or-set_other}
+use Rattle.fix_model.specs.declared.kit.Kit.{Kit}
+use Rattle.fix_model.specs.declared.state.State.{State}
+use Rattle.fix_model.specs.declared.state.Step.{Step}
+use Rattle.fix_model.specs.Fix.{Dissents, IsDissent}
 use Rattle.fix_model.proofs.Deciding.{decide_less}
 use Rattle.fix_engine.specs.Departures.{CanDepart}
 use Rattle.fix_engine.specs.Flags.{IsFlagged}
 use Rattle.fix_engine.proofs.Leaving.{each-set}
-use Rattle.fix_engine.proofs.Reach.{CanDepart-within, IsLeftSomehow-CanDepart}
+use Rattle.fix_engine.proofs.Reach.{AreDepartures-none, CanDepart-within, IsLeftSomehow-CanDepart}
 use Rattle.fix_engine.proofs.leads.Leads.find_departures.Goals as goal
 use Rattle.fix_engine.proofs.leads.Leads.find_departures.Goals.{then-is_flagged, else-is_flagged}
+
+-- where there is no least step that dissents, none does
+none-dissents : (kit : Kit) (end : State) (dissent : Option Step) → is_none dissent ≡ true → IsDissent kit end dissent
+    → (step : Step) → ¬ Dissents kit end step
+none-dissents kit end None is none = none
+none-dissents kit end (Some step) is least = absurd cc
+
+-- so nothing can be departed at
+pub returns-then-is_none-clause-departures : goal.returns-then-is_none-clause-departures
+returns-then-is_none-clause-departures g c = λ end led.
+    let kit = g.B.Book.kit c.args.book.now in
+    rw (c.flag_none.ensures.none, c.width.ensures.width)
+    (AreDepartures-none kit c.requires.valid end c.args.state.now c.args.self.now.leads.items c.requires.fits led
+    (none-dissents kit end c.args.dissent (search (rules, c.is_none.ensures, c.if-is_none.true))
+    (c.requires.dissent kit end led.final led.leads_there)))
 
 pub attributes-preserved : goal.attributes-preserved
 attributes-preserved g c =

@@ -14,6 +14,11 @@ use Rattle.fix_engine.proofs.search.Search.survey.Goals.{After-find_departures}
 pub find-requires-clause-knows : goal.find-requires-clause-knows
 find-requires-clause-knows g c = record { fits = c.begin.ensures.begun.fits; known = c.begin.ensures.known }
 
+pub find-requires-clause-ended : goal.find-requires-clause-ended
+find-requires-clause-ended g c =
+    let begun = c.begin.ensures.begun in
+    rw (begun.ends) begun.first.holds.1
+
 pub covers_all-certain-requires : goal.covers_all-certain-requires
 covers_all-certain-requires g c = c.begin.ensures.begun.fits
 
