@@ -7,6 +7,7 @@ ghost use Rattle.fix_model.specs.States.{Fits, IsCovered, value_at};
 ghost use Rattle.fix_model.specs.Valid.{IsValid};
 ghost use Rattle.master_index.specs.Counts.{RisesByDigits};
 ghost use Rattle.master_index.specs.Parts.{ArePartsBefore, IsPartOf};
+ghost use Rattle.master_index.specs.Sorted.{AreEntriesOf};
 
 use crate::earliest::earliest_of;
 use crate::error::BuildFault;
@@ -84,6 +85,15 @@ impl SortedBook {
             earliest,
             waits,
         })
+    }
+
+    /// The entries of a rule, counted from 0: for each key that usable rows of its master have the least row, and the
+    /// least that gives another text, in the order of the keys.
+    pub fn entries(&self, rule: u16) -> &[Hit]
+        requires { rule < length self.now.rules }
+        ensures { AreEntriesOf self.now (rule_at self.now rule) result.now }
+    {
+        self.part(rule).entries.as_slice()
     }
 
     /// The part of a rule's triple.
