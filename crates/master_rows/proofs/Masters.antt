@@ -212,7 +212,7 @@ IsMaster-read_records (header ∷ rows) master some h =
 pub IsMaster-read_sheet : (sheet : List ℕ) (master : Master) → read_sheet sheet ≡ Ok master → IsMaster master
 IsMaster-read_sheet sheet master h = elim (cases_Bool (begins_with_two_marks sheet)) [
   | inl marked ↦ absurd (let e = rw marked at h in cc)
-  | inr plain ↦ IsMaster-read_records (sheet_records sheet) master (records-some (strip_bom sheet)) (rw plain at h)
+  | inr plain ↦ IsMaster-read_records (sheet_records sheet) master (records-some 44 (strip_bom sheet)) (rw plain at h)
 ]
 
 -- a fact of the value that is given, if there is one

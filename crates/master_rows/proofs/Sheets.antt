@@ -1,4 +1,4 @@
--- What a reader has given of a sheet so far stands at the front of all its records.
+-- What a reader has given of a sheet so far stands at the front of all its records, whatever stands between its fields.
 use Rattle.std.proofs.Common.{◌≡◌, ℕ, zero, suc, ◌+◌, ◌<◌, ◌≤◌, ◌==◌, List, [], ◌∷◌, ◌++◌, Bool, true, false, ◌||◌}
 use Rattle.std.proofs.Common.{if◌then◌else◌, length, length-append, append_assoc, refl, sym, ap, ◌∙◌, arith, inl, inr}
 use Rattle.std.specs.Prelude.{Option, Some, None, All}
@@ -8,10 +8,15 @@ use Rattle.std.proofs.lemmas.List.Elements.{All-nil, All-cons}
 use Rattle.csv.specs.Machine.{Read, step, is_end, next_record, fields_after, field_after, ends_at_end, in_field}
 use Rattle.csv.specs.Machine.{start_record}
 use Rattle.csv.specs.Reading.{Reached, records, records_from, records_next, default_config}
+use Rattle.csv.specs.declared.parser.Config.{Config}
 use Rattle.csv.specs.declared.parser.State.{State}
 use Rattle.csv.specs.declared.parser.State.TheVariants as st
 use Rattle.csv.specs.declared.parser.Action.{Action}
 use Rattle.csv.specs.declared.parser.Action.TheVariants as act
+
+-- csv's defaults, with this delimiter
+abbrev pub delimited : ℕ → Config
+delimited delimiter = record default_config { delimiter = delimiter }
 
 -- where a byte ends a record, the machine stands between two
 abbrev LeavesNone : State × Action → Type 0
@@ -33,27 +38,30 @@ ends_line true = refl
 ends_line false = refl
 
 -- the step of a byte in a field does
-field_step : (c : ℕ) → LeavesNone (in_field default_config c)
-field_step c = choose (c == 44) _ _ (continues st.StartField act.EndField refl)
+field_step : (delimiter c : ℕ) → LeavesNone (in_field (delimited delimiter) c)
+field_step delimiter c = choose (c == delimiter) _ _ (continues st.StartField act.EndField refl)
     (choose ((c == 13) || (c == 10)) _ _ (λ _. ends_line (c == 13)) (continues st.InField act.Copy refl))
 
 -- the step of a byte before a record does
-first_step : (c : ℕ) → LeavesNone (start_record default_config c)
-first_step c = choose ((c == 13) || (c == 10)) _ _ (continues st.StartRecord act.Skip refl)
-    (choose (c == 34) _ _ (continues st.InQuoted act.Skip refl) (field_step c))
+first_step : (delimiter c : ℕ) → LeavesNone (start_record (delimited delimiter) c)
+first_step delimiter c = choose ((c == 13) || (c == 10)) _ _ (continues st.StartRecord act.Skip refl)
+    (choose (c == 34) _ _ (continues st.InQuoted act.Skip refl) (field_step delimiter c))
 
 -- each step does
-every_step : (s : State) (c : ℕ) → LeavesNone (step default_config s c)
-every_step st.StartRecord c = first_step c
-every_step st.StartField c = choose (c == 34) _ _ (continues st.InQuoted act.Skip refl) (field_step c)
-every_step st.InField c = field_step c
-every_step st.InQuoted c = choose (c == 34) _ _ (continues st.AfterQuote act.Skip refl)
+every_step : (delimiter : ℕ) (s : State) (c : ℕ) → LeavesNone (step (delimited delimiter) s c)
+every_step delimiter st.StartRecord c = first_step delimiter c
+every_step delimiter st.StartField c = choose (c == 34) _ _ (continues st.InQuoted act.Skip refl)
+    (field_step delimiter c)
+every_step delimiter st.InField c = field_step delimiter c
+every_step delimiter st.InQuoted c = choose (c == 34) _ _ (continues st.AfterQuote act.Skip refl)
     (continues st.InQuoted act.Copy refl)
-every_step st.AfterQuote c = choose (c == 34) _ _ (continues st.InQuoted act.Copy refl) (field_step c)
-every_step st.InEscape c = continues st.InQuoted act.Copy refl
-every_step st.InComment c = choose (c == 10) _ _ (continues st.StartRecord act.Skip refl)
+every_step delimiter st.AfterQuote c = choose (c == 34) _ _ (continues st.InQuoted act.Copy refl)
+    (field_step delimiter c)
+every_step delimiter st.InEscape c = continues st.InQuoted act.Copy refl
+every_step delimiter st.InComment c = choose (c == 10) _ _ (continues st.StartRecord act.Skip refl)
     (continues st.InComment act.Skip refl)
-every_step st.AfterCr c = choose (c == 10) _ _ (continues st.StartRecord act.Skip refl) (first_step c)
+every_step delimiter st.AfterCr c = choose (c == 10) _ _ (continues st.StartRecord act.Skip refl)
+    (first_step delimiter c)
 
 -- a record has a field, takes bytes where none was begun, and leaves the machine between two records
 record IsTaken (s : State) (text : List ℕ) (taken : Read) : Type 0 where
@@ -71,10 +79,10 @@ ends_with_field act.Copy fields field ends = absurd cc
 ends_with_field act.EndField fields field ends = absurd cc
 
 -- the next record is such a one
-next-taken : (s : State) (fields : List (List ℕ)) (field text : List ℕ) (taken : Read)
-    → next_record default_config s fields field text ≡ Some taken → IsTaken s text taken
+next-taken : (delimiter : ℕ) (s : State) (fields : List (List ℕ)) (field text : List ℕ) (taken : Read)
+    → next_record (delimited delimiter) s fields field text ≡ Some taken → IsTaken s text taken
 unfolding next_record
-next-taken s fields field [] taken h = elim (cases_Bool (ends_at_end s)) [
+next-taken delimiter s fields field [] taken h = elim (cases_Bool (ends_at_end s)) [
   | inr still ↦ absurd (let e = rw still at h in cc)
   | inl over ↦
       let e = rw over at h in
@@ -87,20 +95,21 @@ next-taken s fields field [] taken h = elim (cases_Bool (ends_at_end s)) [
         between = refl;
       })
 ]
-next-taken s fields field (c ∷ rest) taken h = elim (cases_Bool (is_end (step default_config s c).1)) [
+next-taken delimiter s fields field (c ∷ rest) taken h = elim (cases_Bool (is_end (step (delimited delimiter) s c).1)) [
   | inl ends ↦
       let e = rw ends at h in
       let is : taken ≡
-      (fields_after (step default_config s c).1 fields field, (step default_config s c).0, rest) = cc in
+      (fields_after (step (delimited delimiter) s c).1 fields field, (step (delimited delimiter) s c).0, rest) = cc in
       rw is (record {
-        some = ends_with_field (step default_config s c).1 fields field ends;
+        some = ends_with_field (step (delimited delimiter) s c).1 fields field ends;
         no_longer = omega arith;
         shorter = λ _. omega arith;
-        between = every_step s c ends;
+        between = every_step delimiter s c ends;
       })
   | inr goes ↦
-      let later = next-taken (step default_config s c).0 (fields_after (step default_config s c).1 fields field)
-      (field_after (step default_config s c).1 c field) rest taken (rw goes at h) in
+      let later = next-taken delimiter (step (delimited delimiter) s c).0
+      (fields_after (step (delimited delimiter) s c).1 fields field)
+      (field_after (step (delimited delimiter) s c).1 c field) rest taken (rw goes at h) in
       record {
         some = later.some;
         no_longer = omega (arith, later.no_longer);
@@ -111,25 +120,26 @@ next-taken s fields field (c ∷ rest) taken h = elim (cases_Bool (is_end (step 
 ]
 
 -- the records that were reached stand in front of those that are left
-record IsFront (rows all : List (List (List ℕ))) (s : State) (rest : List ℕ) : Type 0 where
+record IsFront (delimiter : ℕ) (rows all : List (List (List ℕ))) (s : State) (rest : List ℕ) : Type 0 where
   fuel : ℕ
   enough : length rest < fuel
   between : ends_at_end s ≡ false
-  front : all ≡ rows ++ records_from default_config fuel s rest
+  front : all ≡ rows ++ records_from (delimited delimiter) fuel s rest
 
 -- records that were reached stand in front, wherever the machine began between two
-reached_front : (fuel : ℕ) (s s2 : State) (text rest : List ℕ) (rows : List (List (List ℕ))) → ends_at_end s ≡ false
-    → length text < fuel → Reached default_config s text rows s2 rest
-    → IsFront rows (records_from default_config fuel s text) s2 rest
+reached_front : (delimiter fuel : ℕ) (s s2 : State) (text rest : List ℕ) (rows : List (List (List ℕ)))
+    → ends_at_end s ≡ false → length text < fuel → Reached (delimited delimiter) s text rows s2 rest
+    → IsFront delimiter rows (records_from (delimited delimiter) fuel s text) s2 rest
 unfolding Reached records_from
-reached_front zero s s2 text rest rows apart enough h = absurd (omega arith)
-reached_front (suc fuel) s s2 text rest [] apart enough h = rw (← h.0, ← h.1)
+reached_front delimiter zero s s2 text rest rows apart enough h = absurd (omega arith)
+reached_front delimiter (suc fuel) s s2 text rest [] apart enough h = rw (← h.0, ← h.1)
     (record { fuel = suc fuel; enough = enough; between = apart; front = refl })
-reached_front (suc fuel) s s2 text rest (row ∷ rows) apart enough h =
+reached_front delimiter (suc fuel) s s2 text rest (row ∷ rows) apart enough h =
     let (read, is, same, more) = h in
     let (fields, next, others) = read in
-    let taken = next-taken s [] [] text read is in
-    let later = reached_front fuel next s2 others rest rows taken.between (omega (arith, taken.shorter apart)) more in
+    let taken = next-taken delimiter s [] [] text read is in
+    let later = reached_front delimiter fuel next s2 others rest rows taken.between
+    (omega (arith, taken.shorter apart)) more in
     record {
       fuel = later.fuel;
       enough = later.enough;
@@ -138,35 +148,49 @@ reached_front (suc fuel) s s2 text rest (row ∷ rows) apart enough h =
     }
 
 -- of all records of a text
-records-reached : (text rest : List ℕ) (rows : List (List (List ℕ))) (s : State)
-    → Reached default_config st.StartRecord text rows s rest → IsFront rows (records default_config text) s rest
-records-reached text rest rows s h = reached_front (length text + 1) st.StartRecord s text rest rows refl
-    (omega arith) h
+records-reached : (delimiter : ℕ) (text rest : List ℕ) (rows : List (List (List ℕ))) (s : State)
+    → Reached (delimited delimiter) st.StartRecord text rows s rest
+    → IsFront delimiter rows (records (delimited delimiter) text) s rest
+records-reached delimiter text rest rows s h =
+    reached_front delimiter (length text + 1) st.StartRecord s text rest rows refl (omega arith) h
+
+-- so others follow them
+pub record HasLater (delimiter : ℕ) (text : List ℕ) (rows : List (List (List ℕ))) : Type 0 where
+  pub later : List (List (List ℕ))
+  pub records_are : records (delimited delimiter) text ≡ rows ++ later
+
+pub records-later : (delimiter : ℕ) (text rest : List ℕ) (rows : List (List (List ℕ))) (s : State)
+    → Reached (delimited delimiter) st.StartRecord text rows s rest → HasLater delimiter text rows
+records-later delimiter text rest rows s h =
+    let all = records-reached delimiter text rest rows s h in
+    record { later = records_from (delimited delimiter) all.fuel s rest; records_are = all.front }
 
 -- what holds however the records that were reached go on holds of all records
-pub records-however : {X : Type 0} (f : List (List (List ℕ)) → X) (x : X) (text rest : List ℕ)
+pub records-however : {X : Type 0} (f : List (List (List ℕ)) → X) (x : X) (delimiter : ℕ) (text rest : List ℕ)
     (rows : List (List (List ℕ))) (row : List (List ℕ)) (s : State)
-    → Reached default_config st.StartRecord text (rows ++ row ∷ []) s rest
-    → ((later : List (List (List ℕ))) → f (rows ++ row ∷ later) ≡ x) → f (records default_config text) ≡ x
-records-however f x text rest rows row s h however =
-    let all = records-reached text rest (rows ++ row ∷ []) s h in
-    let later = records_from default_config all.fuel s rest in
+    → Reached (delimited delimiter) st.StartRecord text (rows ++ row ∷ []) s rest
+    → ((later : List (List (List ℕ))) → f (rows ++ row ∷ later) ≡ x) → f (records (delimited delimiter) text) ≡ x
+records-however f x delimiter text rest rows row s h however =
+    let all = records-reached delimiter text rest (rows ++ row ∷ []) s h in
+    let later = records_from (delimited delimiter) all.fuel s rest in
     ap f (all.front ∙ append_assoc rows (row ∷ []) later) ∙ however later
 
 -- where there is no next record, none are left
-records_from-none : (fuel : ℕ) (s : State) (rest : List ℕ) → next_record default_config s [] [] rest ≡ None
-    → records_from default_config fuel s rest ≡ []
+records_from-none : (delimiter fuel : ℕ) (s : State) (rest : List ℕ)
+    → next_record (delimited delimiter) s [] [] rest ≡ None
+    → records_from (delimited delimiter) fuel s rest ≡ []
 unfolding records_from
-records_from-none zero s rest end = refl
-records_from-none (suc fuel) s rest end = rw end refl
+records_from-none delimiter zero s rest end = refl
+records_from-none delimiter (suc fuel) s rest end = rw end refl
 
 -- where no record is left, those that were reached are all
-pub records-end : (text rest : List ℕ) (rows : List (List (List ℕ))) (s : State)
-    → Reached default_config st.StartRecord text rows s rest → next_record default_config s [] [] rest ≡ None
-    → rows ≡ records default_config text
-records-end text rest rows s h end =
-    let all = records-reached text rest rows s h in
-    sym (all.front ∙ ap (λ more. rows ++ more) (records_from-none all.fuel s rest end) ∙ append-nil rows)
+pub records-end : (delimiter : ℕ) (text rest : List ℕ) (rows : List (List (List ℕ))) (s : State)
+    → Reached (delimited delimiter) st.StartRecord text rows s rest
+    → next_record (delimited delimiter) s [] [] rest ≡ None
+    → rows ≡ records (delimited delimiter) text
+records-end delimiter text rest rows s h end =
+    let all = records-reached delimiter text rest rows s h in
+    sym (all.front ∙ ap (λ more. rows ++ more) (records_from-none delimiter all.fuel s rest end) ∙ append-nil rows)
 
 -- a record and those behind it have fields where each has
 records_next-some : (next : Option Read) (more : State → List ℕ → List (List (List ℕ)))
@@ -178,13 +202,14 @@ records_next-some (Some (fields, next, rest)) more here later = All-cons (λ row
     (here (fields, next, rest) refl) (later next rest)
 
 -- each record from a state on has a field
-records_from-some : (fuel : ℕ) (s : State) (text : List ℕ)
-    → All (λ row. 1 ≤ length row) (records_from default_config fuel s text)
+records_from-some : (delimiter fuel : ℕ) (s : State) (text : List ℕ)
+    → All (λ row. 1 ≤ length row) (records_from (delimited delimiter) fuel s text)
 unfolding records_from
-records_from-some zero s text = All-nil (λ row. 1 ≤ length row)
-records_from-some (suc fuel) s text = records_next-some (next_record default_config s [] [] text)
-    (records_from default_config fuel) (λ taken is. (next-taken s [] [] text taken is).some) (records_from-some fuel)
+records_from-some delimiter zero s text = All-nil (λ row. 1 ≤ length row)
+records_from-some delimiter (suc fuel) s text = records_next-some (next_record (delimited delimiter) s [] [] text)
+    (records_from (delimited delimiter) fuel) (λ taken is. (next-taken delimiter s [] [] text taken is).some)
+    (records_from-some delimiter fuel)
 
 -- each record of a text has a field
-pub records-some : (text : List ℕ) → All (λ row. 1 ≤ length row) (records default_config text)
-records-some text = records_from-some (length text + 1) st.StartRecord text
+pub records-some : (delimiter : ℕ) (text : List ℕ) → All (λ row. 1 ≤ length row) (records (delimited delimiter) text)
+records-some delimiter text = records_from-some delimiter (length text + 1) st.StartRecord text

@@ -83,7 +83,8 @@ records-written : (rows : List (List (List ℕ))) → All (λ row. 1 ≤ length 
     → records default_config (flat_map (row_text default_writer) rows) ≡ rows
 unfolding next_record
 records-written rows some =
-    sym (records-end (flat_map (row_text default_writer) rows) [] rows st.StartRecord (written-reached rows some) refl)
+    sym (records-end 44 (flat_map (row_text default_writer) rows) [] rows st.StartRecord (written-reached rows some)
+    refl)
 
 -- a header that begins with a column as it stands
 bare-unmarked : (column : List ℕ) (columns : List (List ℕ)) (rest : List ℕ) → IsColumn column

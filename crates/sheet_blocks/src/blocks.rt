@@ -71,7 +71,8 @@ impl Blocks {
         ensures cause { IsErrOf result BlocksFault.Failed
             → Rose (S.read_faults source.old) (S.read_faults source.new) }
         ensures later { S.read_faults source.old ≤ S.read_faults source.new }
-        ensures steady { S.is_steady source.old → ¬ IsErrOf result BlocksFault.Failed }
+        ensures steady { S.is_steady source.old
+            → (¬ IsErrOf result BlocksFault.Failed) × S.is_steady source.new }
     {
         let front = front_of(alloc, source)?;
         Ok(Blocks::of_front(alloc, delimiter, front)?)
@@ -105,7 +106,8 @@ impl Blocks {
         ensures cause { IsErrOf result BlocksFault.Failed
             → Rose (S.read_faults source.old) (S.read_faults source.new) }
         ensures later { S.read_faults source.old ≤ S.read_faults source.new }
-        ensures steady { S.is_steady source.old → ¬ IsErrOf result BlocksFault.Failed }
+        ensures steady { S.is_steady source.old
+            → (¬ IsErrOf result BlocksFault.Failed) × S.is_steady source.new }
     {
         let Blocks {
             delimiter,

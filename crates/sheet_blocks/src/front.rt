@@ -25,7 +25,7 @@ pub(crate) fn front_of<S: Source>(alloc: Global, source: &mut S) -> Result<Front
     ensures cause { IsErrOf result BlocksFault.Failed
         → Rose (S.read_faults source.old) (S.read_faults source.new) }
     ensures later { S.read_faults source.old ≤ S.read_faults source.new }
-    ensures steady { S.is_steady source.old → ¬ IsErrOf result BlocksFault.Failed }
+    ensures steady { S.is_steady source.old → (¬ IsErrOf result BlocksFault.Failed) × S.is_steady source.new }
 {
     let mut bytes = Vec::new(alloc);
     let mut piece = [0u8; 3];

@@ -32,7 +32,7 @@ records-preserved c =
     let before = c.records.invariant in
     let (steps, fits, ends, flexible) = rw (c.in-Some.is, c.in-Ok.is)
     at (c.next.ensures.steps before.some before.untrimmed) in
-    rw c.in_ok-take-in-Ok.ensures.taken (GoesOn-next _ _ _ _ _ _ _ before (steps before.ready) flexible)
+    rw c.in_ok-take-in-Ok.ensures.taken (GoesOn-next 44 _ _ _ _ _ _ _ before (steps before.ready) flexible)
 
 pub stopped-requires : goal.stopped-requires
 stopped-requires c =
@@ -46,12 +46,12 @@ returns-in_err-take-in-Ok-clause-fault c =
     let before = c.records.invariant in
     let (steps, fits, ends, flexible) = rw (c.in-Some.is, c.in-Ok.is)
     at (c.next.ensures.steps before.some before.untrimmed) in
-    let after = GoesOn-next c.records.next-iterator.rdr c.next.new.self.rdr c.records.next-iterator.left
+    let after = GoesOn-next 44 c.records.next-iterator.rdr c.next.new.self.rdr c.records.next-iterator.left
     c.next.new.self.left
     c.args.sheet.now c.records.draft c.in-Ok.row before (steps before.ready) flexible in
     let fault = c.in_err-take-in-Ok.field-0.0 in
     let is : c.from_residual.result ≡ Err fault = search rules in
-    rw is (λ apart. records-however read_records (Err fault) (strip_bom c.args.sheet.now) after.rest c.records.draft
+    rw is (λ apart. records-however read_records (Err fault) 44 (strip_bom c.args.sheet.now) after.rest c.records.draft
     (fields_of c.in-Ok.row) (reader_state c.next.new.self.rdr) after.reached (c.in_err-take-in-Ok.ensures.fault apart))
 
 pub returns : goal.returns
@@ -61,7 +61,7 @@ returns c =
     let end = rows-end left_of c.records.next-iterator.rdr c.next.new.self.rdr [] default_config before.rest
     before.config before.source step in
     record {
-      taken = records-end (strip_bom c.args.sheet.now) before.rest c.records.draft
+      taken = records-end 44 (strip_bom c.args.sheet.now) before.rest c.records.draft
           (reader_state c.records.next-iterator.rdr) before.reached end;
       fault = tt;
     }

@@ -2,4 +2,4 @@ use Rattle.master_rows.proofs.Stops.{GoesOn}
 use Rattle.master_rows.proofs.draft.Draft.of_sheet.Given as goal
 
 abbrev pub invariant-records : goal.invariant-records
-invariant-records l = GoesOn l.next-iterator.rdr l.next-iterator.left l.sheet l.draft
+invariant-records l = GoesOn 44 l.next-iterator.rdr l.next-iterator.left l.sheet l.draft

@@ -10,4 +10,4 @@ pub returns-clause-sound : goal.returns-clause-sound
 returns-clause-sound c =
     let is = c.finish.ensures ∙ ap read_records c.in_ok-of_sheet.ensures.taken in
     rw is (IfOk-given IsMaster _
-    (λ master given. IsMaster-read_records _ master (records-some (strip_bom c.args.sheet.now)) given))
+    (λ master given. IsMaster-read_records _ master (records-some 44 (strip_bom c.args.sheet.now)) given))

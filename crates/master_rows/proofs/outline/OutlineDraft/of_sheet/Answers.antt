@@ -37,7 +37,7 @@ records-preserved c =
     let (steps, fits, ends, flexible) = rw (c.in-Some.is, c.in-Ok.is)
     at (c.next.ensures.steps before.some before.untrimmed) in (
       taken ++ fields_of c.in-Ok.row ∷ [],
-      GoesOn-next _ _ _ _ _ _ _ before (steps before.ready) flexible,
+      GoesOn-next 44 _ _ _ _ _ _ _ before (steps before.ready) flexible,
       c.in_ok-take-in-Ok.ensures.taken taken outlined,
     )
 
@@ -53,12 +53,12 @@ returns-in_err-take-in-Ok-clause-fault c =
     let (taken, before, outlined) = c.records.invariant in
     let (steps, fits, ends, flexible) = rw (c.in-Some.is, c.in-Ok.is)
     at (c.next.ensures.steps before.some before.untrimmed) in
-    let after = GoesOn-next c.records.next-iterator.rdr c.next.new.self.rdr c.records.next-iterator.left
+    let after = GoesOn-next 44 c.records.next-iterator.rdr c.next.new.self.rdr c.records.next-iterator.left
     c.next.new.self.left
     c.args.sheet.now taken c.in-Ok.row before (steps before.ready) flexible in
     let fault = c.in_err-take-in-Ok.field-0.0 in
     let is : c.from_residual.result ≡ Err fault = search rules in
-    rw is (λ apart. records-however read_records (Err fault) (strip_bom c.args.sheet.now) after.rest taken
+    rw is (λ apart. records-however read_records (Err fault) 44 (strip_bom c.args.sheet.now) after.rest taken
     (fields_of c.in-Ok.row) (reader_state c.next.new.self.rdr) after.reached (λ later.
     c.in_err-take-in-Ok.ensures.fault apart taken later outlined))
 
@@ -70,7 +70,7 @@ returns c =
     before.config before.source step in
     record {
       taken = subst (AreOutlined c.records.draft.columns c.records.draft.rows)
-          (records-end (strip_bom c.args.sheet.now) before.rest taken
+          (records-end 44 (strip_bom c.args.sheet.now) before.rest taken
           (reader_state c.records.next-iterator.rdr) before.reached end) outlined;
       fault = tt;
     }

@@ -5,5 +5,5 @@ use Rattle.master_rows.proofs.outline.OutlineDraft.of_sheet.Given as goal
 
 -- the reader goes on behind the records that are outlined
 abbrev pub invariant-records : goal.invariant-records
-invariant-records l = (taken : List (List (List ℕ))) × GoesOn l.next-iterator.rdr l.next-iterator.left l.sheet taken
+invariant-records l = (taken : List (List (List ℕ))) × GoesOn 44 l.next-iterator.rdr l.next-iterator.left l.sheet taken
     × AreOutlined l.draft.columns l.draft.rows taken

@@ -1,0 +1,18 @@
+//! How the cleaning of a sheet ends.
+use sheet_clean::{SheetFault, Summary};
+
+/// How the cleaning of a sheet ended. A summary is over the rows that were written, and there is one where a header
+/// was.
+#[derive(Clone, Copy, Debug, PartialEq, Eq)]
+pub enum End {
+    /// All rows were written.
+    Done(Summary),
+    /// The sheet has this fault. The rows before it were written.
+    Refused(SheetFault, Option<Summary>),
+    /// A read failed. The rows that had ended before were written.
+    ReadFault(Option<Summary>),
+    /// A write failed.
+    WriteFault,
+    /// There was no memory. It may come in place of any other end.
+    NoMemory,
+}
