@@ -5,6 +5,8 @@ use Rattle.desk_words.specs.declared.clerk_work.ClerkWork.{ClerkWork}
 use Rattle.desk_words.specs.declared.clerk_work.ClerkWork.TheVariants as clerk_works
 use Rattle.desk_words.specs.declared.command.Command.{Command}
 use Rattle.desk_words.specs.declared.command.Command.TheVariants as commands
+use Rattle.desk_words.specs.declared.desk_look.DeskLook.{DeskLook}
+use Rattle.desk_words.specs.declared.desk_look.DeskLook.TheVariants as desk_looks
 use Rattle.desk_words.specs.declared.look.Look.{Look}
 use Rattle.desk_words.specs.declared.look.Look.TheVariants as looks
 use Rattle.desk_words.specs.declared.rows.clerk.Digest.{Digest}
@@ -33,7 +35,7 @@ pub data Asked : Type 0 where
   by_steward : ℕ → Checked StewardWork → Asked
   by_clerk : List ℕ → ℕ → Checked ClerkWork → Asked
   seen_by : List ℕ → Checked Look → Asked
-  at_desk : Checked Command → Asked
+  at_desk : Checked DeskLook → Asked
 
 -- who asks for what by a route and a body
 abbrev pub asked_in : Route → List ℕ → Asked
@@ -60,7 +62,7 @@ asked_in (Records clerk edition version) body = seen_by clerk (Ok (looks.Records
 asked_in (Explain clerk session name) body = seen_by clerk (Ok (looks.Explain session name))
 asked_in (SeeCarry clerk session version) body = seen_by clerk (Ok (looks.Carry session version))
 asked_in (Sessions clerk from) body = seen_by clerk (Ok (looks.Sessions from))
-asked_in DeskReport body = at_desk (Ok commands.DeskReport)
+asked_in DeskReport body = at_desk (Ok desk_looks.Report)
 asked_in (DeskDerive edition version) body = at_desk (desk_derive edition version body)
 
 -- the command that is asked for, where a write has this digest
@@ -74,7 +76,9 @@ command_by digest (by_clerk clerk n read) = do
 command_by digest (seen_by clerk read) = do
   look ← read
   Ok (commands.Look clerk look)
-command_by digest (at_desk command) = command
+command_by digest (at_desk read) = do
+  look ← read
+  Ok (commands.Desk look)
 
 -- the command, or the first fault of the body
 abbrev pub command_in : Route → Digest → List ℕ → Checked Command

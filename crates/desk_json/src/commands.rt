@@ -19,7 +19,7 @@ use crate::bodies::withdraw::withdraw;
 use crate::fault::JsonFault;
 use crate::route::Route;
 use desk_base::{Duplicate, NoMemory, Str};
-use desk_words::{ClerkWork, Command, Digest, Look, StewardWork, Ticket};
+use desk_words::{ClerkWork, Command, DeskLook, Digest, Look, StewardWork, Ticket};
 use std::alloc::Global;
 
 /// The command that the route and the body are, or the first fault of the body (docs/api.md). A body that is TOML, CSV
@@ -104,8 +104,10 @@ pub fn command_of(
             version,
         } => seen_by(clerk, carry_seen(*session, *version)),
         Route::Sessions { clerk, from } => seen_by(clerk, Look::Sessions { from: *from }),
-        Route::DeskReport => Ok(Command::DeskReport),
-        Route::DeskDerive { edition, version } => desk_derive(alloc, edition, *version, body),
+        Route::DeskReport => Ok(Command::Desk(DeskLook::Report)),
+        Route::DeskDerive { edition, version } => {
+            Ok(Command::Desk(desk_derive(alloc, edition, *version, body)?))
+        }
     }
 }
 

@@ -1,9 +1,10 @@
 //! What a request asks.
 use crate::clerk_work::ClerkWork;
+use crate::desk_look::DeskLook;
 use crate::look::Look;
 use crate::rows::clerk::Digest;
 use crate::steward_work::StewardWork;
-use desk_base::{List, Str};
+use desk_base::Str;
 
 /// The number of a write among its caller's, 1 to 999,999,999,999, and the digest by which it is known when it
 /// comes again.
@@ -22,13 +23,6 @@ pub enum Command {
     Clerk(Str, Ticket, ClerkWork),
     /// A look of the clerk with this name, which changes nothing.
     Look(Str, Look),
-    /// The report over the sessions of all clerks, which changes nothing.
-    DeskReport,
-    /// The rows that a master of a version of an edition gives for pairs of an attribute and a column. Nothing changes.
-    DeskDerive {
-        edition: Str,
-        version: u32,
-        master: Str,
-        pairs: List<(Str, Str)>,
-    },
+    /// A look at the desk, by no clerk, which changes nothing.
+    Desk(DeskLook),
 }

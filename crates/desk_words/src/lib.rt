@@ -9,6 +9,7 @@
 mod change;
 mod clerk_work;
 mod command;
+mod desk_look;
 pub mod laws;
 mod limit;
 mod look;
@@ -24,6 +25,7 @@ mod view;
 pub use change::Change;
 pub use clerk_work::{Accept, ClerkWork};
 pub use command::{Command, Ticket};
+pub use desk_look::DeskLook;
 pub use limit::Which;
 pub use look::Look;
 pub use made::{Batched, Made};

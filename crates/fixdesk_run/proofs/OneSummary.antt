@@ -5,7 +5,8 @@ use Rattle.desk_made.specs.Made.{made_requests}
 use Rattle.desk_made.specs.Requests.{stream_of}
 use Rattle.desk_words.specs.declared.change.Change.{Change}
 use Rattle.desk_words.specs.declared.command.Command.{Command}
-use Rattle.desk_words.specs.declared.command.Command.TheVariants.{DeskReport}
+use Rattle.desk_words.specs.declared.command.Command.TheVariants.{Desk}
+use Rattle.desk_words.specs.declared.desk_look.DeskLook.TheVariants as desk_look
 use Rattle.desk_words.specs.declared.refusal.Refusal.{Refusal}
 use Rattle.desk_words.specs.declared.reply.Reply.{Reply}
 use Rattle.desk_words.specs.declared.reply.Reply.TheVariants as reply
@@ -79,7 +80,7 @@ one_sheet sheet other is =
 one_line : (rows : Rows) (counted other : ReportLine) → IsCounted rows counted → IsCounted rows other → counted ≡ other
 one_line rows counted other one two =
     let same : one.sheet ≡ two.sheet = one_sheet one.sheet two.sheet
-    (Gives-unique (machine rows DeskReport) _ _ one.gives two.gives) in
+    (Gives-unique (machine rows (Desk desk_look.Report)) _ _ one.gives two.gives) in
     let first = one.is in
     let second = two.is in
     cc

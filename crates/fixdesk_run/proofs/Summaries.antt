@@ -1,7 +1,8 @@
 -- The stream that `make` serves, and the summary that it makes of the report that the machine gives.
 use Rattle.std.proofs.Common.{◌≡◌, ◌∙◌, ◌++◌, ℕ, List, [], sym, subst}
 use Rattle.std.specs.Prelude.{Some, Result, Ok, Err, IfOk}
-use Rattle.desk_words.specs.declared.command.Command.TheVariants.{DeskReport}
+use Rattle.desk_words.specs.declared.command.Command.TheVariants.{Desk}
+use Rattle.desk_words.specs.declared.desk_look.DeskLook.TheVariants as desk_look
 use Rattle.desk_words.specs.declared.reply.Reply.TheVariants as reply
 use Rattle.desk_words.specs.declared.report.ReportSheet.{ReportSheet}
 use Rattle.desk_words.specs.Tables.{Rows}
@@ -47,7 +48,8 @@ tells_report sessions weighed sheet (Err why) is turn tells = tt
 
 -- and so of the tables over which it was weighed
 pub told_of : {E : Type 0} (sessions : ℕ) (rows : Rows) (weighed : Weighed) (result : Result (List ℕ) E)
-    → IsWeighed rows DeskReport weighed → IsSettleable rows weighed → IfOk result (TellsReport sessions weighed)
+    → IsWeighed rows (Desk desk_look.Report) weighed → IsSettleable rows weighed
+    → IfOk result (TellsReport sessions weighed)
     → IfOk result (IsTold sessions rows)
 told_of sessions rows weighed (Ok text) is_weighed settleable report =
     let (counted, found, shows) = report.tells in

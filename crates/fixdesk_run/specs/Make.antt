@@ -8,7 +8,8 @@ use Rattle.desk_made.specs.Requests.{stream_of}
 use Rattle.json_parts.specs.Shapes.{line}
 use Rattle.desk_valid.specs.Valid.{AreValid}
 use Rattle.desk_words.specs.declared.change.Change.{Change}
-use Rattle.desk_words.specs.declared.command.Command.TheVariants.{DeskReport}
+use Rattle.desk_words.specs.declared.command.Command.TheVariants.{Desk}
+use Rattle.desk_words.specs.declared.desk_look.DeskLook.TheVariants as desk_look
 use Rattle.desk_words.specs.declared.reply.Reply.{Reply}
 use Rattle.desk_words.specs.declared.reply.Reply.TheVariants as reply
 use Rattle.desk_words.specs.declared.report.ReportLine.{ReportLine}
@@ -59,7 +60,7 @@ pub record IsMade (sessions start : ℕ) (rows : Rows) : Type 0 where
 -- the numbers of the desk's report over these tables for the edition `e`
 pub record IsCounted (rows : Rows) (counted : ReportLine) : Type 0 where
   pub sheet : ReportSheet
-  pub gives : Gives (machine rows DeskReport) (Ok (reply.Report sheet, []))
+  pub gives : Gives (machine rows (Desk desk_look.Report)) (Ok (reply.Report sheet, []))
   pub is : find (λ line. bytes_eq line.edition (codes "e")) sheet.lines ≡ Some counted
 
 -- the line that tells them

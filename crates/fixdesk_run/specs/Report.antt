@@ -1,7 +1,8 @@
 -- What `report` leaves of the link and the keeper.
 use Rattle.std.specs.Prelude.{◌≡◌, ◌⊎◌, List, [], Option, Ok, ℕ}
 use Rattle.desk_sheets.specs.Report.{report_text}
-use Rattle.desk_words.specs.declared.command.Command.TheVariants.{DeskReport}
+use Rattle.desk_words.specs.declared.command.Command.TheVariants.{Desk}
+use Rattle.desk_words.specs.declared.desk_look.DeskLook.TheVariants as desk_look
 use Rattle.desk_words.specs.declared.reply.Reply.{Reply}
 use Rattle.desk_words.specs.declared.reply.Reply.TheVariants as reply
 use Rattle.desk_words.specs.declared.report.ReportSheet.{ReportSheet}
@@ -24,7 +25,7 @@ TellsReply replied text = (sheet : ReportSheet) × (replied ≡ reply.Report she
 -- the text of the desk's report over these tables
 pub record IsReport (rows : Rows) (text : List ℕ) : Type 0 where
   pub sheet : ReportSheet
-  pub gives : Gives (machine rows DeskReport) (Ok (reply.Report sheet, []))
+  pub gives : Gives (machine rows (Desk desk_look.Report)) (Ok (reply.Report sheet, []))
   pub is : text ≡ report_text sheet
 
 -- over the tables that were loaded from a keeper, which held such tables and told this before and that after

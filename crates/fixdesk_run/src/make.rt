@@ -16,7 +16,7 @@ use crate::status::Status;
 use desk_base::{Both, Failed, List, MemSource, NoMemory, Sink, Source, write_all};
 use desk_links::DropSink;
 use desk_made::made;
-use desk_words::{Command, Reply, ReportLine, ReportSheet, Tables};
+use desk_words::{Command, DeskLook, Reply, ReportLine, ReportSheet, Tables};
 use http_cut::PIECE;
 use http_desk::{Ended, serve_stream};
 use keeper_core::MemKeeper;
@@ -142,7 +142,7 @@ fn told<M: Machine>(alloc: Global, machine: &mut M, sessions: u32) -> Result<Lis
     requires { sessions ≤ 5000 }
     ensures { IfOk result (IsTold sessions (M.rows machine.old)) }
 {
-    let weighed = machine.weigh(&Command::DeskReport);
+    let weighed = machine.weigh(&Command::Desk(DeskLook::Report));
     let text = told_by(alloc, &weighed, sessions);
     drop(weighed);
     text

@@ -10,7 +10,7 @@ use crate::opening::stay_shut;
 use crate::status::Status;
 use desk_base::{Both, Failed, List, NoMemory, Sink, Source, write_all};
 use desk_sheets::report_text;
-use desk_words::{Command, Reply};
+use desk_words::{Command, DeskLook, Reply};
 use keeper_core::Keeper;
 use machine_core::Machine;
 use std::alloc::Global;
@@ -50,7 +50,7 @@ pub fn report<M: Machine + Drop, K: Keeper, S: Source, W: Sink>(
 fn report_of<M: Machine>(alloc: Global, machine: &mut M) -> Result<List<u8>, NoMemory>
     ensures { IfOk result (IsReport (M.rows machine.old)) }
 {
-    let weighed = machine.weigh(&Command::DeskReport);
+    let weighed = machine.weigh(&Command::Desk(DeskLook::Report));
     let text = reported(alloc, &weighed.reply);
     drop(weighed);
     text

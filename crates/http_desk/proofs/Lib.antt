@@ -3,7 +3,6 @@ pub mod Checked
 pub mod Counting
 pub mod Cutting
 pub mod Declining
-pub mod Deriving
 pub mod Ends
 pub mod Lengths
 pub mod Named

@@ -38,7 +38,6 @@ use Rattle.http_desk.specs.Parameters.{made_from, made_in, read_at, route_in, st
 use Rattle.http_desk.specs.Parameters as parameters
 use Rattle.http_desk.specs.Refusals.{asked}
 use Rattle.http_desk.proofs.Checked.{Ok-same, bind-Ok, or_bad_body-Ok}
-use Rattle.http_desk.proofs.Deriving.{derive_numbered}
 use Rattle.http_desk.proofs.Named.{parameters_of}
 
 -- ---- numbers
@@ -129,7 +128,7 @@ abbrev HasNumber : Asked → Type 0
 HasNumber (by_steward n read) = IsNumber n
 HasNumber (by_clerk clerk n read) = IsNumber n
 HasNumber (seen_by clerk read) = ⊤
-HasNumber (at_desk command) = (one : Command) → command ≡ Ok one → IsNumbered one
+HasNumber (at_desk read) = ⊤
 
 -- a write of the steward has the number that was read
 steward_form-number : (body : List ℕ) (number : ℕ) (asked : StewardRoute)
@@ -154,8 +153,8 @@ look_form-number body caller asked values = tt
 -- what is asked for at the desk has no number
 desk_form-number : (body : List ℕ) (asked : DeskRoute) (values : Values (parameters_of (desk_form asked)))
     → HasNumber (asked_in (form_with (desk_form asked) values) body)
-desk_form-number body of_desk.DeskReport values = λ command e. subst IsNumbered (Ok-same e) tt
-desk_form-number body of_desk.DeskDerive (edition, (version, none)) = derive_numbered edition version body
+desk_form-number body of_desk.DeskReport values = tt
+desk_form-number body asked values = tt
 
 -- a route that is made in a target has a good number, where it has one
 route_in-number : (body : List ℕ) (asked : Target) (parts : Parts) (route : Route) → route_in asked parts ≡ Ok route
@@ -192,7 +191,8 @@ command_by-numbered (by_clerk clerk n (Ok work)) digest command good e = subst I
 command_by-numbered (by_clerk clerk n (Err fault)) digest command good e = absurd cc
 command_by-numbered (seen_by clerk (Ok look)) digest command good e = subst IsNumbered (Ok-same e) tt
 command_by-numbered (seen_by clerk (Err fault)) digest command good e = absurd cc
-command_by-numbered (at_desk one) digest command good e = good command e
+command_by-numbered (at_desk (Ok look)) digest command good e = subst IsNumbered (Ok-same e) tt
+command_by-numbered (at_desk (Err fault)) digest command good e = absurd cc
 
 -- a command of a target has a number that it may have
 pub numbered : (found : Match) (route : Route) (digest : Digest) (body : List ℕ) (command : Command)

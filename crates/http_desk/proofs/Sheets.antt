@@ -9,8 +9,9 @@ use Rattle.std.proofs.lemmas.List.Elements.{All-cons, All-filter, All-map, filte
 use Rattle.desk_words.specs.declared.change.Change.{Change}
 use Rattle.desk_words.specs.declared.clerk_work.ClerkWork.{ClerkWork}
 use Rattle.desk_words.specs.declared.command.Command.{Command}
-use Rattle.desk_words.specs.declared.command.Command.TheVariants.{Steward, Clerk, Look, DeskReport, DeskDerive}
+use Rattle.desk_words.specs.declared.command.Command.TheVariants.{Steward, Clerk, Look, Desk}
 use Rattle.desk_words.specs.declared.command.Ticket.{Ticket}
+use Rattle.desk_words.specs.declared.desk_look.DeskLook.{DeskLook as DeskLookOf}
 use Rattle.desk_words.specs.declared.look.Look.{Look as LookOf}
 use Rattle.desk_words.specs.declared.refusal.Refusal.{Refusal}
 use Rattle.desk_words.specs.declared.reply.DerivedSheet.{DerivedSheet}
@@ -37,6 +38,7 @@ use Rattle.machine_core.specs.declared.deed.Deed.{Deed}
 use Rattle.machine_core.specs.Checked.{Gives, each}
 use Rattle.machine_core.specs.Content.{Content, advises, content_of, derives, plain, records, refuses, shows}
 use Rattle.machine_core.specs.Deriving.{derived_sheet}
+use Rattle.machine_core.specs.DeskLook.{desk_reply}
 use Rattle.machine_core.specs.Finding.{session_at}
 use Rattle.machine_core.specs.Kept.{kept_reply}
 use Rattle.machine_core.specs.Look.Records.{is_on, record_line, records_of}
@@ -44,6 +46,7 @@ use Rattle.machine_core.specs.Look.{look_reply}
 use Rattle.machine_core.specs.Machine.{answered, clerk_write_at, machine, steward_write}
 use Rattle.machine_core.specs.Own.{Own, after, own_of}
 use Rattle.machine_core.specs.Weighing.{IsSettleable, IsWeighed}
+use Rattle.machine_core.proofs.DeskLooks.{DeskFound, desk-found}
 use Rattle.machine_core.proofs.Looks.{Found, look-found}
 use Rattle.machine_core.proofs.Widths.{width-bound}
 use Rattle.machine_core.proofs.Deriving.{derived_sheet-full}
@@ -131,6 +134,25 @@ look_sheet rows place looked answer made first advises is never found = absurd n
 look_sheet rows place looked answer made first (refuses refusal) is never found = absurd never
 look_sheet rows place looked answer made first plain is never found = absurd never
 
+-- a look at the desk that replies a sheet asked for the rows that a master gives
+desk_sheet : (rows : Rows) (what : DeskLookOf) (answer made : Reply) → content_of answer ≡ content_of made
+    → (content : Content) → content_of made ≡ content → IsSheetOf content → DeskFound rows what content
+    → AreRows rows answer
+desk_sheet rows what answer made first (derives sheet) is printed (edition, version, master, pairs, _, gives) = record {
+  edition = edition;
+  version = version;
+  master = master;
+  pairs = pairs;
+  sheet = sheet;
+  is = first ∙ is;
+  gives = gives;
+}
+desk_sheet rows what answer made first (records sheet) is printed never = absurd never
+desk_sheet rows what answer made first (shows view) is never found = absurd never
+desk_sheet rows what answer made first advises is never found = absurd never
+desk_sheet rows what answer made first (refuses refusal) is never found = absurd never
+desk_sheet rows what answer made first plain is never found = absurd never
+
 -- so a request that is replied a sheet asked for it, and changes nothing
 sheet_asked : (rows : Rows) (command : Command) (answer : Reply) (changes : List Change) → IsSheet answer
     → Met (machine rows command) (Ok (answer, changes))
@@ -149,20 +171,13 @@ sheet_asked rows (Look name looked) answer changes is (place, _, (made, shown, s
       inl (look_sheet rows place looked answer made (ap content_of first) (content_of made) refl
           (subst IsSheet first is) (look-found published own looked made given)),
     )
-sheet_asked rows DeskReport answer changes is (made, _, same) =
-    absurd (subst IsSheet (ap (λ (both : Reply × List Change). both.0) same) is)
-sheet_asked rows (DeskDerive edition version master pairs) answer changes is (sheet, met, same) = (
-  ap (λ (both : Reply × List Change). both.1) same,
-  inr (record {
-    edition = edition;
-    version = version;
-    master = master;
-    pairs = pairs;
-    sheet = sheet;
-    is = ap (λ (both : Reply × List Change). content_of both.0) same;
-    gives = Gives-Met (derived_sheet (published_of rows) edition version master pairs) (Ok sheet) met;
-  }),
-)
+sheet_asked rows (Desk what) answer changes is (made, shown, same) =
+    let first : answer ≡ made = ap (λ (both : Reply × List Change). both.0) same in
+    let given = Gives-Met (desk_reply rows what) (Ok made) shown in (
+      ap (λ (both : Reply × List Change). both.1) same,
+      inr (desk_sheet rows what answer made (ap content_of first) (content_of made) refl (subst IsSheet first is)
+          (desk-found rows what made given)),
+    )
 
 -- ---- records
 

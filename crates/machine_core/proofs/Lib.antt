@@ -20,6 +20,7 @@ pub mod Distinct
 pub mod Deriving
 pub mod Answering
 pub mod Looks
+pub mod DeskLooks
 pub mod Pairs
 pub mod ReadRows
 pub mod SheetCells

@@ -17,6 +17,7 @@ pub mod Deriving
 pub mod Steward
 pub mod Clerk
 pub mod Look
+pub mod DeskLook
 pub mod Content
 pub mod Kept
 pub mod Machine

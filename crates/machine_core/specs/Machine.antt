@@ -1,6 +1,6 @@
 -- The session machine: what a request comes to, the dispatch alone.
-use Rattle.std.specs.Prelude.{◌≡◌, ℕ, ◌+◌, List, [], ◌∷◌, drop, flat_map, length, option_map, position, Option, Some}
-use Rattle.std.specs.Prelude.{None, Result, Ok, Err}
+use Rattle.std.specs.Prelude.{◌≡◌, ℕ, ◌+◌, List, [], ◌∷◌, drop, length, option_map, position, Option, Some, None}
+use Rattle.std.specs.Prelude.{Result, Ok, Err}
 use Rattle.std.specs.Str.{bytes_eq}
 use Rattle.desk_words.specs.declared.change.Change.{Change}
 use Rattle.desk_words.specs.declared.change.Change.TheVariants as change
@@ -8,7 +8,7 @@ use Rattle.desk_words.specs.declared.clerk_work.ClerkWork.{ClerkWork}
 use Rattle.desk_words.specs.declared.clerk_work.ClerkWork.TheVariants.{Enter, Confirm, Withdraw, Commit, Abandon, Batch}
 use Rattle.desk_words.specs.declared.clerk_work.ClerkWork.TheVariants.{Carry}
 use Rattle.desk_words.specs.declared.command.Command.{Command}
-use Rattle.desk_words.specs.declared.command.Command.TheVariants.{Steward, Clerk, Look, DeskReport, DeskDerive}
+use Rattle.desk_words.specs.declared.command.Command.TheVariants.{Steward, Clerk, Look, Desk}
 use Rattle.desk_words.specs.declared.command.Ticket.{Ticket}
 use Rattle.desk_words.specs.declared.refusal.Refusal.{Refusal}
 use Rattle.desk_words.specs.declared.refusal.Refusal.TheVariants.{NoClerk}
@@ -29,10 +29,9 @@ use Rattle.machine_core.specs.Clerk.Commit.{commit}
 use Rattle.machine_core.specs.Clerk.Confirm.{confirm}
 use Rattle.machine_core.specs.Clerk.Enter.{enter}
 use Rattle.machine_core.specs.Clerk.Withdraw.{withdraw}
-use Rattle.machine_core.specs.Deriving.{derived_sheet}
+use Rattle.machine_core.specs.DeskLook.{desk_reply}
 use Rattle.machine_core.specs.Kept.{kept_reply, kept_made}
 use Rattle.machine_core.specs.Look.{look_reply}
-use Rattle.machine_core.specs.Look.Report.{report_of}
 use Rattle.machine_core.specs.Own.{Own, after, changes_of, own_of}
 use Rattle.machine_core.specs.declared.deed.Deed.{Deed}
 use Rattle.machine_core.specs.declared.making.Making.{Making}
@@ -135,12 +134,9 @@ machine rows (Look name look) = do
   place ← clerk_of rows.clerks name
   answer ← look_reply (published_of rows) (own_of rows place) look
   done (answer, [])
-machine rows DeskReport = do
-  sheet ← report_of (published_of rows) None (flat_map (λ sessions. sessions) rows.sessions)
-  done (reply.Report sheet, [])
-machine rows (DeskDerive edition version master pairs) = do
-  sheet ← derived_sheet (published_of rows) edition version master pairs
-  done (reply.Derived sheet, [])
+machine rows (Desk look) = do
+  answer ← desk_reply rows look
+  done (answer, [])
 
 -- what is answered: the reply, or that the request is refused, which changes nothing
 abbrev pub answered : Result (Reply × List Change) Refusal → Reply × List Change

@@ -3,13 +3,14 @@ use Rattle.std.specs.Prelude.{ℕ, List, [], ◌++◌, Contains, map, zip, Optio
 use Rattle.desk_words.specs.declared.clerk_work.ClerkWork.TheVariants.{Enter, Confirm, Withdraw, Commit, Abandon, Batch}
 use Rattle.desk_words.specs.declared.clerk_work.ClerkWork.TheVariants.{Carry}
 use Rattle.desk_words.specs.declared.command.Command.{Command}
-use Rattle.desk_words.specs.declared.command.Command.TheVariants.{Steward, Clerk, Look, DeskDerive}
+use Rattle.desk_words.specs.declared.command.Command.TheVariants.{Steward, Clerk, Look, Desk}
 use Rattle.desk_words.specs.declared.steward_work.StewardWork.TheVariants.{AddClerk, AddMaster, AddRulebook, AddEdition}
 use Rattle.desk_words.specs.declared.steward_work.StewardWork.TheVariants.{AddRegion, AddDerived}
 use Rattle.master_rows.specs.declared.error.SheetFault.{SheetFault}
 use Rattle.master_rows.specs.declared.master.Master.{Master}
 use Rattle.master_rows.specs.Sheet.{read_sheet}
 use Rattle.machine_core.specs.Clerk.Batch.{word_of}
+use Rattle.machine_core.specs.DeskLook.{desk_named_by}
 use Rattle.machine_core.specs.Look.{named_by}
 
 -- the clerk's name; the steward has none
@@ -39,7 +40,7 @@ abbrev pub version_in : Command → Option (List ℕ × ℕ)
 version_in (Steward ticket (AddRegion edition version attributes rows)) = Some (edition, version)
 version_in (Steward ticket (AddDerived edition version master pairs from)) = Some (edition, version)
 version_in (Look name look) = (named_by look).edition
-version_in (DeskDerive edition version master pairs) = Some (edition, version)
+version_in (Desk look) = (desk_named_by look).edition
 version_in _ = None
 
 -- a version of a schema
@@ -67,7 +68,7 @@ attributes_in (Clerk name ticket (Confirm number cells)) = map (λ cell. cell.0)
 attributes_in (Clerk name ticket (Withdraw number names)) = names
 attributes_in (Clerk name ticket (Batch edition body)) = sheet_words (read_sheet body)
 attributes_in (Look name look) = (named_by look).attributes
-attributes_in (DeskDerive edition version master pairs) = map (λ pair. pair.0) pairs
+attributes_in (Desk look) = map (λ pair. pair.0) (desk_named_by look).pairs
 attributes_in _ = []
 
 -- masters, by their names and versions
@@ -78,13 +79,13 @@ masters_in _ = []
 -- one of the masters of an edition, by its name
 abbrev pub master_in : Command → Option (List ℕ)
 master_in (Steward ticket (AddDerived edition version master pairs from)) = Some master
-master_in (DeskDerive edition version master pairs) = Some master
+master_in (Desk look) = (desk_named_by look).master
 master_in _ = None
 
 -- columns of it, by their words
 abbrev pub columns_in : Command → List (List ℕ)
 columns_in (Steward ticket (AddDerived edition version master pairs from)) = map (λ pair. pair.1) pairs
-columns_in (DeskDerive edition version master pairs) = map (λ pair. pair.1) pairs
+columns_in (Desk look) = map (λ pair. pair.1) (desk_named_by look).pairs
 columns_in _ = []
 
 -- the version to which a session is to be carried, or might be

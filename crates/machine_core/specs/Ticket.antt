@@ -2,7 +2,7 @@
 use Rattle.std.specs.Prelude.{ℕ, ◌+◌, ◌≤◌, nat_le, ◌==◌, Bool, true, false, List, sum_by, ⊤}
 use Rattle.desk_base.specs.declared.limits.TheConstants.{MAX_REQUEST}
 use Rattle.desk_words.specs.declared.command.Command.{Command}
-use Rattle.desk_words.specs.declared.command.Command.TheVariants.{Steward, Clerk, Look, DeskReport, DeskDerive}
+use Rattle.desk_words.specs.declared.command.Command.TheVariants.{Steward, Clerk, Look, Desk}
 use Rattle.std.specs.Str.{bytes_eq}
 use Rattle.desk_words.specs.declared.command.Ticket.{Ticket}
 use Rattle.desk_words.specs.declared.refusal.Refusal.TheVariants.{Gap, Reused, Stale}
@@ -35,8 +35,7 @@ abbrev pub IsNumbered : Command → Type 0
 IsNumbered (Steward ticket work) = (1 ≤ ticket.number) × (ticket.number ≤ MAX_REQUEST)
 IsNumbered (Clerk name ticket work) = (1 ≤ ticket.number) × (ticket.number ≤ MAX_REQUEST)
 IsNumbered (Look name look) = ⊤
-IsNumbered DeskReport = ⊤
-IsNumbered (DeskDerive edition version master pairs) = ⊤
+IsNumbered (Desk look) = ⊤
 
 -- the turn of a desk: the numbers of all callers' last accepted requests, added up
 abbrev pub turn_of : List ClerkRow → ℕ

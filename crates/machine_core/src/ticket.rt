@@ -25,7 +25,7 @@ pub fn is_numbered(command: &Command) -> bool
         Command::Steward(ticket, _) | Command::Clerk(_, ticket, _) => {
             1 <= ticket.number && ticket.number <= MAX_REQUEST
         }
-        Command::Look(_, _) | Command::DeskReport | Command::DeskDerive { .. } => true,
+        Command::Look(_, _) | Command::Desk(_) => true,
     }
 }
 

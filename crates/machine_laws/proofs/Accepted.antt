@@ -9,7 +9,7 @@ use Rattle.desk_words.specs.declared.clerk_work.ClerkWork.{ClerkWork}
 use Rattle.desk_words.specs.declared.clerk_work.ClerkWork.TheVariants.{Enter, Confirm, Withdraw, Commit, Abandon, Batch}
 use Rattle.desk_words.specs.declared.clerk_work.ClerkWork.TheVariants.{Carry}
 use Rattle.desk_words.specs.declared.command.Command.{Command}
-use Rattle.desk_words.specs.declared.command.Command.TheVariants.{Steward, Clerk, Look, DeskReport, DeskDerive}
+use Rattle.desk_words.specs.declared.command.Command.TheVariants.{Steward, Clerk, Look, Desk}
 use Rattle.desk_words.specs.declared.command.Ticket.{Ticket}
 use Rattle.desk_words.specs.declared.refusal.Refusal.{Refusal}
 use Rattle.desk_words.specs.declared.reply.Reply.{Reply}
@@ -43,8 +43,7 @@ use Rattle.machine_laws.proofs.Makings.{IsSoundMaking, IsSoundMaking-add_clerk, 
 use Rattle.machine_laws.proofs.Makings.{IsSoundMaking-add_rulebook, IsSoundMaking-add_schema}
 use Rattle.machine_laws.proofs.Regions.{IsSoundMaking-add_region}
 use Rattle.machine_laws.proofs.Valid.{AreNoFewer-own, AreValid-own, own-rows, with_own}
-use Rattle.machine_laws.proofs.Writes.{clerk-written, derive-unchanged, look-unchanged, report-unchanged}
-use Rattle.machine_laws.proofs.Writes.{steward-written}
+use Rattle.machine_laws.proofs.Writes.{clerk-written, desk-unchanged, look-unchanged, steward-written}
 
 -- a caller's own rows in valid tables are good, and no list is too long
 pub good-own : (rows : Rows) (place : ℕ) → AreValid rows → place < length rows.clerks
@@ -243,9 +242,8 @@ made-valid rows (Clerk name ticket work) made valid numbered gives =
     ]
 made-valid rows (Look name look) made valid numbered gives =
     none-valid rows made.1 valid (look-unchanged rows name look made gives)
-made-valid rows DeskReport made valid numbered gives = none-valid rows made.1 valid (report-unchanged rows made gives)
-made-valid rows (DeskDerive edition version master pairs) made valid numbered gives =
-    none-valid rows made.1 valid (derive-unchanged rows edition version master pairs made gives)
+made-valid rows (Desk look) made valid numbered gives =
+    none-valid rows made.1 valid (desk-unchanged rows look made gives)
 
 outcome-valid : (rows : Rows) (command : Command) (outcome : Result (Reply × List Change) Refusal) → AreValid rows
     → IsNumbered command → Gives (machine rows command) outcome

@@ -10,7 +10,7 @@ use Rattle.std.proofs.lemmas.Slice.Eq.{bytes_eq-Decides}
 use Rattle.desk_words.specs.declared.change.Change.{Change}
 use Rattle.desk_words.specs.declared.change.Change.TheVariants as change
 use Rattle.desk_words.specs.declared.command.Command.{Command}
-use Rattle.desk_words.specs.declared.command.Command.TheVariants.{Steward, Clerk, Look, DeskReport, DeskDerive}
+use Rattle.desk_words.specs.declared.command.Command.TheVariants.{Steward, Clerk, Look, Desk}
 use Rattle.desk_words.specs.declared.command.Ticket.{Ticket}
 use Rattle.desk_words.specs.declared.refusal.Refusal.TheVariants.{NoClerk}
 use Rattle.desk_words.specs.declared.reply.Reply.{Reply}
@@ -36,8 +36,7 @@ use Rattle.machine_laws.proofs.Names.{clerk_of-begins, clerk_of-same, none-passe
 use Rattle.machine_laws.proofs.Staying.{after-steward, chain-done, clerk_of-named, step-kept, step-longer, with_making}
 use Rattle.machine_laws.proofs.Stewards.{AreAsToSteward, changed-names, changed-published, steward-machine}
 use Rattle.machine_laws.proofs.Unchanged.{step-unchanged}
-use Rattle.machine_laws.proofs.Writes.{IsStewardsNew, clerk_of-ok, derive-unchanged, look-unchanged, report-unchanged}
-use Rattle.machine_laws.proofs.Writes.{steward-cases}
+use Rattle.machine_laws.proofs.Writes.{IsStewardsNew, clerk_of-ok, desk-unchanged, look-unchanged, steward-cases}
 
 -- a clerk who comes with the steward's step has nothing yet
 behind-new : (rows : Rows) (valid : AreValid rows) (name : List ℕ) (ticket : Ticket) (work : StewardWork)
@@ -273,9 +272,7 @@ other-as name rows other (Steward ticket work) answer changes valid of_other ste
 other-as name rows other (Look named look) answer changes valid of_other step alike =
     none-alike name rows other changes [] (step-unchanged rows (Look named look) answer changes
     (look-unchanged rows named look) step) refl alike
-other-as name rows other DeskReport answer changes valid of_other step alike = absurd (cc)
-other-as name rows other (DeskDerive edition version master pairs) answer changes valid of_other step alike =
-    absurd (cc)
+other-as name rows other (Desk look) answer changes valid of_other step alike = absurd (cc)
 other-as name rows other (Clerk named ticket work) answer changes valid of_other step alike =
     let seen : LookAlike name rows (changed_all rows changes) =
     other-alike name rows named ticket work answer changes valid
@@ -309,23 +306,11 @@ own-step name rows other (Steward ticket work) answer answer_too changes others 
           step_too,
       steward-alike name rows other valid valid_too alike ticket work answer answer_too changes others step step_too,
     )
-own-step name rows other DeskReport answer answer_too changes others valid valid_too alike own step step_too = (
+own-step name rows other (Desk look) answer answer_too changes others valid valid_too alike own step step_too = (
   λ asked_it. absurd (cc),
-  none-alike name rows other changes others (step-unchanged rows DeskReport answer changes
-      (report-unchanged rows) step) (step-unchanged other DeskReport answer_too others (report-unchanged other)
-      step_too) alike,
+  none-alike name rows other changes others (step-unchanged rows (Desk look) answer changes (desk-unchanged rows look)
+      step) (step-unchanged other (Desk look) answer_too others (desk-unchanged other look) step_too) alike,
 )
-own-step name rows other (DeskDerive edition version master pairs) answer answer_too changes others valid valid_too
-    alike own
-    step step_too = (
-      λ asked_it. absurd (cc),
-      none-alike name rows other changes others
-          (step-unchanged rows (DeskDerive edition version master pairs) answer changes
-          (derive-unchanged rows edition version master pairs) step) (step-unchanged other
-          (DeskDerive edition version master pairs) answer_too others
-          (derive-unchanged other edition version master pairs)
-          step_too) alike,
-    )
 own-step name rows other (Look named look) answer answer_too changes others valid valid_too alike own step step_too =
     let same : named ≡ name = named-so named name own in
     let seen : LookAlike name rows other = record { published = alike.to_steward.published; own = alike.own } in (
@@ -402,8 +387,7 @@ answers-apart name rows other (event ∷ events) others valid valid_too alike st
         not-true : (told : Bool) → not told ≡ true → told ≡ false
         not-true true is = absurd (cc)
         not-true false is = refl
-    not-asked DeskReport is = refl
-    not-asked (DeskDerive edition version master pairs) is = refl
+    not-asked (Desk look) is = refl
 
     with-own : (others : List Event) → AreAnswered other others
         → commands_of others ≡ event.command ∷ commands_of (without_others name events)

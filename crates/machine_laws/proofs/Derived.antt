@@ -8,7 +8,8 @@ use Rattle.std.proofs.lemmas.Simd.{map-map}
 use Rattle.std.proofs.lemmas.Slice.Eq.{bytes_eq-Decides}
 use Rattle.desk_words.specs.declared.change.Change.{Change}
 use Rattle.desk_words.specs.declared.change.Change.TheVariants as change
-use Rattle.desk_words.specs.declared.command.Command.TheVariants.{Steward, DeskDerive}
+use Rattle.desk_words.specs.declared.command.Command.TheVariants.{Steward, Desk}
+use Rattle.desk_words.specs.declared.desk_look.DeskLook.TheVariants.{Derive}
 use Rattle.desk_words.specs.declared.command.Ticket.{Ticket}
 use Rattle.desk_words.specs.declared.reply.DerivedSheet.{DerivedSheet}
 use Rattle.desk_words.specs.declared.reply.Reply.{Reply}
@@ -128,15 +129,15 @@ module _ (rows : Rows) (valid : AreValid rows) (edition : List ℕ) (version : �
       }
 
   pub IsDerivedSheet-step : (sheet : DerivedSheet) (changes : List Change)
-      → IsStep rows (DeskDerive edition version master pairs) (reply.Derived sheet) changes
+      → IsStep rows (Desk (Derive edition version master pairs)) (reply.Derived sheet) changes
       → IsDerivedSheet (published_of rows) edition version master pairs sheet
   IsDerivedSheet-step sheet changes step =
       let published : Published = published_of rows in
-      let command : Command = DeskDerive edition version master pairs in
-      let (all, (derivation, derives, (found, are, is)), told_so) = Met-Gives (machine rows command)
+      let command : Command = Desk (Derive edition version master pairs) in
+      let (answer, (all, (derivation, derives, (found, are, is)), as_told), told_so) = Met-Gives (machine rows command)
       (Ok (reply.Derived sheet, changes)) (step-told rows command (reply.Derived sheet) changes
       (λ refusal same. cc) step) in
-      let whole = same-sheet sheet all (ap (λ (both : Reply × List Change). both.0) told_so) ∙ is in
+      let whole = same-sheet sheet all (ap (λ (both : Reply × List Change). both.0) told_so ∙ as_told) ∙ is in
       record {
         derivation = derivation;
         found = found;

@@ -1,12 +1,11 @@
 -- Over valid tables each request has a step.
-use Rattle.std.proofs.Common.{◌≡◌, ℕ, ◌<◌, ◌≤◌, Bool, true, false, List, [], length, None, refl, sym, subst, arith}
-use Rattle.std.specs.Prelude.{◌==◌, All, Ok, flat_map}
+use Rattle.std.proofs.Common.{◌≡◌, ℕ, ◌<◌, ◌≤◌, Bool, true, false, List, [], length, refl, sym, subst, arith}
+use Rattle.std.specs.Prelude.{◌==◌, Ok}
 use Rattle.std.proofs.lemmas.Bool.Decides.{nat_tests}
-use Rattle.std.proofs.lemmas.List.{get_or_default}
 use Rattle.desk_words.specs.declared.change.Change.{Change}
 use Rattle.desk_words.specs.declared.clerk_work.ClerkWork.{ClerkWork}
 use Rattle.desk_words.specs.declared.command.Command.{Command}
-use Rattle.desk_words.specs.declared.command.Command.TheVariants.{Steward, Clerk, Look, DeskReport, DeskDerive}
+use Rattle.desk_words.specs.declared.command.Command.TheVariants.{Steward, Clerk, Look, Desk}
 use Rattle.desk_words.specs.declared.command.Ticket.{Ticket}
 use Rattle.desk_words.specs.declared.reply.Reply.{Reply}
 use Rattle.desk_words.specs.declared.rows.act.Act.{Act}
@@ -21,19 +20,18 @@ use Rattle.machine_core.specs.Checked.{Gives}
 use Rattle.machine_core.specs.Machine.{IsStep, answered, clerk_of, clerk_write, clerk_write_at, machine, steward_write}
 use Rattle.machine_core.specs.Own.{after, own_of}
 use Rattle.machine_core.specs.OwnRows.{HasOwnTarget}
-use Rattle.machine_core.specs.Sessions.{IsSessionOf}
 use Rattle.machine_core.specs.declared.ticket.Use.{Use}
 use Rattle.machine_core.specs.declared.ticket.Use.TheVariants.{Fresh, Repeated}
 use Rattle.machine_core.specs.Ticket.{IsNumbered, use_of, use_at}
 use Rattle.machine_laws.proofs.Accepted.{deed-sound, making-sound}
 use Rattle.machine_laws.proofs.Callers.{IsDone}
 use Rattle.machine_laws.proofs.DeedOutcomes.{outcome-deed}
+use Rattle.machine_laws.proofs.DeskLooks.{outcome-desk}
 use Rattle.machine_laws.proofs.Looks.{outcome-look}
 use Rattle.machine_laws.proofs.Lists.{slice_get-read, slice_get-there}
-use Rattle.machine_laws.proofs.MadeOutcomes.{outcome-made, outcome-making, outcome-sheet}
+use Rattle.machine_laws.proofs.MadeOutcomes.{outcome-made, outcome-making}
 use Rattle.machine_laws.proofs.Outcomes.{HasOutcome, outcome-bind, outcome-done, outcome-unless, plain_tests}
-use Rattle.machine_laws.proofs.OwnOutcomes.{outcome-kept, outcome-report, sessions-of}
-use Rattle.machine_laws.proofs.Totals.{all-flat}
+use Rattle.machine_laws.proofs.OwnOutcomes.{outcome-kept}
 use Rattle.machine_laws.proofs.Valid.{own-rows}
 use Rattle.machine_laws.proofs.Writes.{IsPlaceOf, clerk_of-ok}
 use Rattle.machine_core.proofs.Walks.{Met, Met-Gives}
@@ -131,12 +129,6 @@ module _ (rows : Rows) (valid : AreValid rows) where
           outcome-bind (outcome-made (changed rows making.change) sound.valid making.act making.target sound.is_done)
           (λ made ok. outcome-done _))
 
-  -- the sessions of all clerks stand
-  all-sessions : All (IsSessionOf (published_of rows)) (flat_map (λ sessions. sessions) rows.sessions)
-  all-sessions = all-flat (IsSessionOf (published_of rows)) rows.sessions (λ clerk past inside.
-      subst (All (IsSessionOf (published_of rows))) (get_or_default rows.sessions clerk [] past inside)
-      (sessions-of rows valid (own_of rows clerk) (own-rows rows valid clerk)))
-
   -- each request
   outcome-machine : (command : Command) → IsNumbered command → HasOutcome (machine rows command)
   outcome-machine (Steward ticket work) numbered = outcome-steward ticket work numbered.0
@@ -146,10 +138,8 @@ module _ (rows : Rows) (valid : AreValid rows) where
   outcome-machine (Look name look) numbered = outcome-bind (outcome-place rows.clerks name) (λ place found.
       outcome-bind (outcome-look rows valid (own_of rows place) (own-rows rows valid place) look)
       (λ answer ok. outcome-done _))
-  outcome-machine DeskReport numbered = outcome-bind (outcome-report rows valid None
-      (flat_map (λ sessions. sessions) rows.sessions) all-sessions) (λ sheet ok. outcome-done _)
-  outcome-machine (DeskDerive edition version master pairs) numbered =
-      outcome-bind (outcome-sheet rows valid edition version master pairs) (λ sheet ok. outcome-done _)
+  outcome-machine (Desk look) numbered =
+      outcome-bind (outcome-desk rows valid look) (λ answer ok. outcome-done _)
 
 -- a request over valid tables has a reply and changes
 pub some-step : (rows : Rows) (command : Command) → AreValid rows → IsNumbered command

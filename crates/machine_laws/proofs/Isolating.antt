@@ -8,7 +8,8 @@ use Rattle.std.proofs.lemmas.Slice.Eq.{bytes_eq-Decides}
 use Rattle.desk_words.specs.declared.change.Change.{Change}
 use Rattle.desk_words.specs.declared.clerk_work.ClerkWork.{ClerkWork}
 use Rattle.desk_words.specs.declared.command.Command.{Command}
-use Rattle.desk_words.specs.declared.command.Command.TheVariants.{Clerk, Look, DeskDerive}
+use Rattle.desk_words.specs.declared.command.Command.TheVariants.{Clerk, Look, Desk}
+use Rattle.desk_words.specs.declared.desk_look.DeskLook.TheVariants.{Derive}
 use Rattle.desk_words.specs.declared.command.Ticket.{Ticket}
 use Rattle.desk_words.specs.declared.look.Look.{Look as LookOf}
 use Rattle.desk_words.specs.declared.refusal.Refusal.{Refusal}
@@ -23,7 +24,8 @@ use Rattle.machine_core.specs.Checked.{Checked, ComesTo, and_then, done, run, to
 use Rattle.machine_core.specs.Checked.{◌>>=◌, some_or, Gives}
 use Rattle.machine_core.specs.Deriving.{derived_sheet}
 use Rattle.machine_core.specs.Machine.{IsStep, answered, changes_if, clerk_of, clerk_write, clerk_write_at, deed_of}
-use Rattle.machine_core.specs.Look.{look_reply}
+use Rattle.machine_core.specs.Look.{look_reply, reply_of}
+use Rattle.machine_core.specs.Look as looks
 use Rattle.machine_core.specs.Machine.{machine}
 use Rattle.machine_core.specs.Own.{Own, after, changes_of, own_of}
 use Rattle.machine_core.specs.declared.ticket.Use.TheVariants.{Fresh}
@@ -148,13 +150,13 @@ module _ (name : List ℕ) (rows other : Rows) (alike : LookAlike name rows othe
 -- derived rows are made of what was published alone
 pub same-derived : (rows other : Rows) → published_of rows ≡ published_of other → (edition : List ℕ) (version : ℕ)
     (master : List ℕ) (pairs : List (List ℕ × List ℕ)) (answer answer_too : Reply) (changes others : List Change)
-    → IsStep rows (DeskDerive edition version master pairs) answer changes
-    → IsStep other (DeskDerive edition version master pairs) answer_too others → answer ≡ answer_too
+    → IsStep rows (Desk (Derive edition version master pairs)) answer changes
+    → IsStep other (Desk (Derive edition version master pairs)) answer_too others → answer ≡ answer_too
 same-derived rows other same edition version master pairs answer answer_too changes others step step_too =
-    let command : Command = DeskDerive edition version master pairs in
+    let command : Command = Desk (Derive edition version master pairs) in
     let of_published : Published → Checked Reply = λ published.
-    replied (derived_sheet published edition version master pairs
-    >>= (λ sheet. done (reply.Derived sheet, no_changes))) in
+    replied (reply_of (looks.told (derived_sheet published edition version master pairs) reply.Derived)
+    >>= (λ answer. done (answer, no_changes))) in
     same-answer (of_published (published_of rows)) rows other command answer answer_too changes others refl
     (ap (λ one. run (of_published one)) (sym same)) step step_too
 

@@ -47,6 +47,7 @@ pub mod OwnOutcomes
 pub mod DeedOutcomes
 pub mod Reasons
 pub mod Looks
+pub mod DeskLooks
 pub mod Refusing
 pub mod MadeOutcomes
 pub mod EveryStep

@@ -47,7 +47,7 @@ use Rattle.machine_laws.proofs.OwnOutcomes.{session-advised, sessions-of}
 use Rattle.machine_laws.proofs.Why.{active-why, carry_row-why, confirm-why, view-why}
 
 -- what comes to a result is told
-outcome-told : {A : Type 0} {found : Checked A} (as_reply : A → Reply) → HasOutcome found
+pub outcome-told : {A : Type 0} {found : Checked A} (as_reply : A → Reply) → HasOutcome found
     → HasOutcome (reply_of (told found as_reply))
 outcome-told as_reply has = outcome-bind has (λ value is. outcome-done (as_reply value))
 
@@ -111,7 +111,7 @@ view_at-why rows command own number asks names =
     (λ session ok. view-why P (published_of rows) number session)
 
 -- what is found is told: no refusal comes of that
-told-why : {A : Type 0} (P : Refusal → Type 0) (found : Checked A) (as_reply : A → Reply)
+pub told-why : {A : Type 0} (P : Refusal → Type 0) (found : Checked A) (as_reply : A → Reply)
     → ((refusal : Refusal) → Gives found (Err refusal) → P refusal) → (refusal : Refusal)
     → Gives (reply_of (told found as_reply)) (Err refusal) → P refusal
 told-why P found as_reply why =

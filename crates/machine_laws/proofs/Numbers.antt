@@ -6,7 +6,7 @@ use Rattle.std.proofs.lemmas.Bool.{cases_Bool}
 use Rattle.std.proofs.lemmas.Slice.Eq.{bytes_eq-Decides}
 use Rattle.desk_words.specs.declared.change.Change.{Change}
 use Rattle.desk_words.specs.declared.command.Command.{Command}
-use Rattle.desk_words.specs.declared.command.Command.TheVariants.{Steward, Clerk, Look, DeskReport, DeskDerive}
+use Rattle.desk_words.specs.declared.command.Command.TheVariants.{Steward, Clerk, Look, Desk}
 use Rattle.desk_words.specs.declared.refusal.Refusal.TheVariants.{Stale}
 use Rattle.desk_words.specs.declared.reply.Reply.{Reply}
 use Rattle.desk_words.specs.declared.reply.Reply.TheVariants as reply
@@ -153,8 +153,7 @@ stale-result rows steward (Steward ticket work) place asked_it found less some =
     (Stale (own_of rows 0).row.last) (subst Refused first stale))
 stale-result rows steward (Clerk name ticket work) place asked_it found less some = absurd (cc)
 stale-result rows steward (Look name look) place asked_it found less some = absurd (cc)
-stale-result rows steward DeskReport place asked_it found less some = absurd (cc)
-stale-result rows steward (DeskDerive edition version master pairs) place asked_it found less some = absurd (cc)
+stale-result rows steward (Desk look) place asked_it found less some = absurd (cc)
 stale-result rows (clerk named) (Steward ticket work) place asked_it found less some = absurd (cc)
 stale-result rows (clerk named) (Clerk name ticket work) place asked_it found less some =
     let same : name ≡ named = (bytes_eq-Decides name named).0 asked_it in
@@ -175,8 +174,7 @@ stale-result rows (clerk named) (Clerk name ticket work) place asked_it found le
           ticket both.1,
     )) (Stale own.row.last) refused_it)
 stale-result rows (clerk named) (Look name look) place asked_it found less some = absurd (omega (arith, some))
-stale-result rows (clerk named) DeskReport place asked_it found less some = absurd (cc)
-stale-result rows (clerk named) (DeskDerive edition version master pairs) place asked_it found less some = absurd (cc)
+stale-result rows (clerk named) (Desk look) place asked_it found less some = absurd (cc)
 
 -- it is answered so, and changes nothing
 pub stale-step : (rows : Rows) (caller : Caller) (command : Command) (answer : Reply) (changes : List Change)

@@ -1,14 +1,14 @@
 -- Each refusal of the machine has its cause.
 use Rattle.std.proofs.Common.{◌≡◌, ◌≢◌, ◌∙◌, ℕ, ◌+◌, ◌-◌, ◌<◌, Bool, true, false, List, [], length, get_or, drop, take}
 use Rattle.std.proofs.Common.{nat_le, Option, Some, None, inl, inr, refl, sym, ap, subst, arith}
-use Rattle.std.specs.Prelude.{◌==◌, All, Result, Ok, Err, ⊤, flat_map, if◌then◌else◌, option_map, position, slice_get}
+use Rattle.std.specs.Prelude.{◌==◌, All, Result, Ok, Err, ⊤, if◌then◌else◌, option_map, position, slice_get}
 use Rattle.std.specs.Str.{bytes_eq}
 use Rattle.std.proofs.lemmas.Bool.Decides.{nat_tests}
 use Rattle.std.proofs.lemmas.Slice.Eq.{bytes_eq-Decides}
 use Rattle.desk_words.specs.declared.change.Change.{Change}
 use Rattle.desk_words.specs.declared.clerk_work.ClerkWork.{ClerkWork}
 use Rattle.desk_words.specs.declared.command.Command.{Command}
-use Rattle.desk_words.specs.declared.command.Command.TheVariants.{Steward, Clerk, Look, DeskReport, DeskDerive}
+use Rattle.desk_words.specs.declared.command.Command.TheVariants.{Steward, Clerk, Look, Desk}
 use Rattle.desk_words.specs.declared.command.Ticket.{Ticket}
 use Rattle.desk_words.specs.declared.look.Look.{Look as LookOf}
 use Rattle.desk_words.specs.declared.refusal.Kind.TheVariants as kind
@@ -29,10 +29,10 @@ use Rattle.desk_valid.specs.Valid.{AreValid}
 use Rattle.fix_model.specs.Regions.{row_state}
 use Rattle.machine_core.specs.Causes.{Cause, WritesWith}
 use Rattle.machine_core.specs.Checked.{Answer, Checked, ◌>>=◌, answer_for, certainly, done, each, unless, Gives}
-use Rattle.machine_core.specs.Deriving.{derivation_of, derived_rows, derived_sheet}
+use Rattle.machine_core.specs.DeskLook.{desk_reply}
 use Rattle.machine_core.specs.Finding.{session_at}
 use Rattle.machine_core.specs.Kept.{kept_made, kept_reply}
-use Rattle.machine_core.specs.Look.Report.{assessment_of, report_of}
+use Rattle.machine_core.specs.Look.Report.{assessment_of}
 use Rattle.machine_core.specs.Look.View.{view_at}
 use Rattle.machine_core.specs.Look.{look_reply}
 use Rattle.machine_core.specs.Machine.{IsStep, answered, clerk_of, clerk_write, clerk_write_at, deed_of, machine}
@@ -43,13 +43,14 @@ use Rattle.machine_core.specs.declared.ticket.Use.{Use}
 use Rattle.machine_core.specs.declared.ticket.Use.TheVariants.{Fresh, Repeated}
 use Rattle.machine_core.specs.Ticket.{use_of, use_at}
 use Rattle.machine_core.proofs.Chains.{Gives-bind_ok, done-value}
+use Rattle.machine_core.proofs.DeskLooks.{desk-found}
 use Rattle.machine_core.proofs.Looks.{look-found}
 use Rattle.machine_core.proofs.Tested.{certainly-why, chain-why, done-why, each-why, some_or-why, unless-why}
 use Rattle.machine_core.specs.OwnRows.{HasOwnTarget}
 use Rattle.machine_laws.proofs.Accepted.{deed-sound}
-use Rattle.machine_laws.proofs.DerivingWhy.{derivation-why, derived_rows-why}
+use Rattle.machine_laws.proofs.DeskLooks.{desk-why}
 use Rattle.machine_laws.proofs.Lists.{slice_get-read, slice_get-there}
-use Rattle.machine_laws.proofs.Looks.{assessment-why, look-why, report-why}
+use Rattle.machine_laws.proofs.Looks.{assessment-why, look-why}
 use Rattle.machine_laws.proofs.Names.{none-passes}
 use Rattle.machine_laws.proofs.StewardWhy.{making-why}
 use Rattle.machine_laws.proofs.Unchanged.{kept-not_refused}
@@ -292,18 +293,9 @@ module _ (rows : Rows) (valid : AreValid rows) where
   refusal-why (Steward ticket work) = steward-why ticket work
   refusal-why (Clerk name ticket work) = write-why name ticket work
   refusal-why (Look name what) = looked-why name what
-  refusal-why DeskReport =
-      let P : Refusal → Type 0 = Cause rows DeskReport in
-      chain-why P (report_of (published_of rows) None (flat_map (λ sessions. sessions) rows.sessions)) _
-      (report-why P (published_of rows) None (flat_map (λ sessions. sessions) rows.sessions)) (λ sheet ok. done-why P _)
-  refusal-why (DeskDerive edition version master pairs) =
-      let command : Command = DeskDerive edition version master pairs in
-      let P : Refusal → Type 0 = Cause rows command in
-      chain-why P (derived_sheet (published_of rows) edition version master pairs) _
-      (chain-why P (derivation_of (published_of rows) edition version master pairs) _
-      (derivation-why rows command edition version master pairs refl refl refl refl) (λ derivation found.
-      chain-why P (derived_rows (published_of rows) derivation) _ (derived_rows-why P (published_of rows) derivation)
-      (λ all ok. done-why P _))) (λ sheet ok. done-why P _)
+  refusal-why (Desk what) =
+      let P : Refusal → Type 0 = Cause rows (Desk what) in
+      chain-why P (desk_reply rows what) _ (desk-why rows what) (λ answer ok. done-why P _)
 
 made-not_refused : (rows : Rows) (command : Command) (made : Reply × List Change) (refusal : Refusal)
     → Gives (machine rows command) (Ok made) → made.0 ≡ reply.Refused refusal → ⊥
@@ -333,19 +325,12 @@ made-not_refused rows (Look name look) made refusal gives is =
     sym (ap (λ (one : Reply × List Change). one.0) (done-value (answer.0, []) made answer.2)) ∙ is in
     look-found (published_of rows) (own_of rows place.0) look (reply.Refused refusal)
     (subst (λ one. Gives (look_reply (published_of rows) (own_of rows place.0) look) (Ok one)) same answer.1)
-made-not_refused rows DeskReport made refusal gives is =
-    let sheet = Gives-bind_ok (report_of (published_of rows) None (flat_map (λ sessions. sessions) rows.sessions))
-    (λ sheet.
-    done (reply.Report sheet, [])) made gives in
-    let same = sym (ap (λ (one : Reply × List Change). one.0) (done-value (reply.Report sheet.0, []) made sheet.2))
-    ∙ is in
-    cc
-made-not_refused rows (DeskDerive edition version master pairs) made refusal gives is =
-    let sheet = Gives-bind_ok (derived_sheet (published_of rows) edition version master pairs) (λ sheet.
-    done (reply.Derived sheet, [])) made gives in
-    let same = sym (ap (λ (one : Reply × List Change). one.0) (done-value (reply.Derived sheet.0, []) made sheet.2))
-    ∙ is in
-    cc
+made-not_refused rows (Desk what) made refusal gives is =
+    let last : Reply → Checked (Reply × List Change) = λ answer. done (answer, []) in
+    let answer = Gives-bind_ok (desk_reply rows what) last made gives in
+    let same : answer.0 ≡ reply.Refused refusal =
+    sym (ap (λ (one : Reply × List Change). one.0) (done-value (answer.0, []) made answer.2)) ∙ is in
+    desk-found rows what (reply.Refused refusal) (subst (λ one. Gives (desk_reply rows what) (Ok one)) same answer.1)
 
 -- a request that is answered by a refusal has its cause
 pub step-why : (rows : Rows) (command : Command) (refusal : Refusal) (changes : List Change) → AreValid rows

@@ -9,7 +9,7 @@ use Rattle.std.proofs.lemmas.Slice.Eq.{bytes_eq-Decides}
 use Rattle.desk_words.specs.declared.change.Change.{Change}
 use Rattle.desk_words.specs.declared.clerk_work.ClerkWork.{ClerkWork}
 use Rattle.desk_words.specs.declared.command.Command.{Command}
-use Rattle.desk_words.specs.declared.command.Command.TheVariants.{Steward, Clerk, Look, DeskReport, DeskDerive}
+use Rattle.desk_words.specs.declared.command.Command.TheVariants.{Steward, Clerk, Look, Desk}
 use Rattle.desk_words.specs.declared.command.Ticket.{Ticket}
 use Rattle.desk_words.specs.declared.refusal.Refusal.{Refusal}
 use Rattle.desk_words.specs.declared.reply.Reply.{Reply}
@@ -35,8 +35,8 @@ use Rattle.machine_laws.proofs.Lists.{map-set_same, slice_get-read, slice_get-th
 use Rattle.machine_laws.proofs.More.{AreMore, AreMore-same, AreMore-changed}
 use Rattle.machine_laws.proofs.Names.{clerk_of-begins, found-place}
 use Rattle.machine_laws.proofs.Valid.{with_own}
-use Rattle.machine_laws.proofs.Writes.{IsNew, IsPlaceOf, IsStewardsNew, clerk-written, clerk_of-ok, derive-unchanged}
-use Rattle.machine_laws.proofs.Writes.{look-unchanged, report-unchanged, steward-written}
+use Rattle.machine_laws.proofs.Writes.{IsNew, IsPlaceOf, IsStewardsNew, clerk-written, clerk_of-ok, desk-unchanged}
+use Rattle.machine_laws.proofs.Writes.{look-unchanged, steward-written}
 
 -- what an accepted request is: a new write of a clerk or of the steward
 pub data IsAccepted (rows : Rows) : Command → Reply → List Change → Type 0 where
@@ -56,9 +56,7 @@ made-cases rows (Clerk name ticket work) made gives = elim (clerk-written rows n
   | inr new ↦ inr (by_clerk name ticket work made.0 made.1 new)
 ]
 made-cases rows (Look name look) made gives = inl (look-unchanged rows name look made gives)
-made-cases rows DeskReport made gives = inl (report-unchanged rows made gives)
-made-cases rows (DeskDerive edition version master pairs) made gives =
-    inl (derive-unchanged rows edition version master pairs made gives)
+made-cases rows (Desk look) made gives = inl (desk-unchanged rows look made gives)
 
 -- a step changes nothing, or its request is accepted
 pub step-cases : (rows : Rows) (command : Command) (answer : Reply) (changes : List Change)

@@ -22,7 +22,8 @@ use Rattle.fix_model.specs.Rules.{rule_at}
 use Rattle.fix_model.specs.Run.{end_of}
 use Rattle.fix_model.specs.States.{confirmed_cell}
 use Rattle.desk_words.specs.declared.change.Change.{Change}
-use Rattle.desk_words.specs.declared.command.Command.TheVariants.{Look, DeskReport}
+use Rattle.desk_words.specs.declared.command.Command.TheVariants.{Look, Desk}
+use Rattle.desk_words.specs.declared.desk_look.DeskLook.TheVariants as desk_look
 use Rattle.desk_words.specs.declared.look.Look.TheVariants.{Report}
 use Rattle.desk_words.specs.declared.refusal.Refusal.{Refusal}
 use Rattle.desk_words.specs.declared.report.ReportLine.{ReportLine}
@@ -286,23 +287,23 @@ look-adds rows name sheet changes valid step =
         (Gives-Met (report_of (published_of rows) (Some own.row.name) own.sessions) (Ok report) reports))
 
 pub desk-adds : (rows : Rows) (sheet : ReportSheet) (changes : List Change) → AreValid rows
-    → IsStep rows DeskReport (reply.Report sheet) changes → AddsUp (published_of rows) sheet
+    → IsStep rows (Desk desk_look.Report) (reply.Report sheet) changes → AddsUp (published_of rows) sheet
 desk-adds rows sheet changes valid step =
     whole step.outcome step.gives (ap (λ (both : Reply × List Change). both.0) step.answers)
   where
-    whole : (outcome : Result (Reply × List Change) Refusal) → Gives (machine rows DeskReport) outcome
+    whole : (outcome : Result (Reply × List Change) Refusal) → Gives (machine rows (Desk desk_look.Report)) outcome
         → reply.Report sheet ≡ (answered outcome).0 → AddsUp (published_of rows) sheet
     whole (Err refusal) gives is = absurd (cc)
     whole (Ok made) gives is =
         let all : List SessionRow = flat_map (λ sessions. sessions) rows.sessions in
-        let (report, reports, told_so) =
-        Gives-bind_ok (report_of (published_of rows) None all) (λ one. done (reply.Report one, [])) made gives in
+        let (answer, (report, reports, told_so), made_so) =
+        Met-Gives (machine rows (Desk desk_look.Report)) (Ok made) gives in
         let same : reply.Report sheet ≡ reply.Report report =
-        is ∙ ap (λ (one : Reply × List Change). one.0) (done-value (reply.Report report, []) made told_so) in
+        is ∙ ap (λ (one : Reply × List Change). one.0) made_so ∙ told_so in
         let sheets : report ≡ sheet = cc in
         subst (AddsUp (published_of rows)) sheets (report-adds (published_of rows) None all report
         (all-flat (HasFlags (published_of rows)) rows.sessions (λ index past inside. at_list index past inside))
-        reports)
+        (Gives-Met (report_of (published_of rows) None all) (Ok report) reports))
       where
         at_list : (index : ℕ) (past : List SessionRow) → index < length rows.sessions
             → All (HasFlags (published_of rows)) (get_or rows.sessions index past)

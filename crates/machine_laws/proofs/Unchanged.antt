@@ -3,7 +3,7 @@ use Rattle.std.proofs.Common.{◌≡◌, ◌∙◌, ℕ, List, [], inl, inr, ref
 use Rattle.std.specs.Prelude.{Result, Ok, Err}
 use Rattle.desk_words.specs.declared.change.Change.{Change}
 use Rattle.desk_words.specs.declared.command.Command.{Command}
-use Rattle.desk_words.specs.declared.command.Command.TheVariants.{Steward, Clerk, Look, DeskReport, DeskDerive}
+use Rattle.desk_words.specs.declared.command.Command.TheVariants.{Steward, Clerk, Look, Desk}
 use Rattle.desk_words.specs.declared.refusal.Refusal.{Refusal}
 use Rattle.desk_words.specs.declared.reply.Reply.{Reply}
 use Rattle.desk_words.specs.declared.reply.Reply.TheVariants as reply
@@ -14,8 +14,7 @@ use Rattle.machine_core.specs.Checked.{Gives}
 use Rattle.machine_core.specs.Kept.{kept_reply}
 use Rattle.machine_core.specs.Machine.{IsStep, answered, machine}
 use Rattle.machine_core.specs.Own.{Own, after, own_of}
-use Rattle.machine_laws.proofs.Writes.{clerk-written, derive-unchanged, look-unchanged, report-unchanged}
-use Rattle.machine_laws.proofs.Writes.{steward-written}
+use Rattle.machine_laws.proofs.Writes.{clerk-written, desk-unchanged, look-unchanged, steward-written}
 use Rattle.machine_core.proofs.Walks.{Met-Gives}
 
 -- where what is answered changes nothing, a step does not
@@ -73,9 +72,7 @@ made-unchanged rows (Clerk name ticket work) made refusal gives is =
           new.deed.act new.deed.target) (Ok one)) (sym is) new.kept))
     ]
 made-unchanged rows (Look name look) made refusal gives is = look-unchanged rows name look made gives
-made-unchanged rows DeskReport made refusal gives is = report-unchanged rows made gives
-made-unchanged rows (DeskDerive edition version master pairs) made refusal gives is =
-    derive-unchanged rows edition version master pairs made gives
+made-unchanged rows (Desk look) made refusal gives is = desk-unchanged rows look made gives
 
 pub refused-unchanged : (rows : Rows) (command : Command) (refusal : Refusal) (changes : List Change)
     → IsStep rows command (reply.Refused refusal) changes → changes ≡ []

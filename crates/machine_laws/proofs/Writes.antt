@@ -7,8 +7,9 @@ use Rattle.std.proofs.lemmas.List.{length-drop}
 use Rattle.std.proofs.lemmas.List.Quantifiers.{position-Some}
 use Rattle.desk_words.specs.declared.change.Change.{Change}
 use Rattle.desk_words.specs.declared.clerk_work.ClerkWork.{ClerkWork}
-use Rattle.desk_words.specs.declared.command.Command.TheVariants.{Steward, Clerk, Look, DeskReport, DeskDerive}
+use Rattle.desk_words.specs.declared.command.Command.TheVariants.{Steward, Clerk, Look, Desk}
 use Rattle.desk_words.specs.declared.command.Ticket.{Ticket}
+use Rattle.desk_words.specs.declared.desk_look.DeskLook.{DeskLook as DeskLookOf}
 use Rattle.desk_words.specs.declared.look.Look.{Look as LookOf}
 use Rattle.desk_words.specs.declared.made.Made.{Made}
 use Rattle.desk_words.specs.declared.refusal.Refusal.TheVariants.{NoClerk}
@@ -188,19 +189,11 @@ look-unchanged rows name look made gives =
     let (place, is_place, (answer, answers, is)) = Met-Gives (machine rows (Look name look)) (Ok made) gives in
     ap (λ (one : Reply × List Change). one.1) is
 
--- nor does the desk's report
-pub report-unchanged : (rows : Rows) (made : Reply × List Change) → Gives (machine rows DeskReport) (Ok made)
-    → made.1 ≡ []
-report-unchanged rows made gives =
-    let (sheet, reports, is) = Met-Gives (machine rows DeskReport) (Ok made) gives in
-    ap (λ (one : Reply × List Change). one.1) is
-
--- nor do derived rows
-pub derive-unchanged : (rows : Rows) (edition : List ℕ) (version : ℕ) (master : List ℕ) (pairs : List (List ℕ × List ℕ))
-    (made : Reply × List Change) → Gives (machine rows (DeskDerive edition version master pairs)) (Ok made)
-    → made.1 ≡ []
-derive-unchanged rows edition version master pairs made gives =
-    let (sheet, derives, is) = Met-Gives (machine rows (DeskDerive edition version master pairs)) (Ok made) gives in
+-- nor does one at the desk
+pub desk-unchanged : (rows : Rows) (look : DeskLookOf) (made : Reply × List Change)
+    → Gives (machine rows (Desk look)) (Ok made) → made.1 ≡ []
+desk-unchanged rows look made gives =
+    let (answer, answers, is) = Met-Gives (machine rows (Desk look)) (Ok made) gives in
     ap (λ (one : Reply × List Change). one.1) is
 
 -- a write of the steward changes nothing, or is new

@@ -2,7 +2,7 @@
 use Rattle.std.specs.Prelude.{ℕ, not, Bool, true, false, List}
 use Rattle.std.specs.Str.{bytes_eq}
 use Rattle.desk_words.specs.declared.command.Command.{Command}
-use Rattle.desk_words.specs.declared.command.Command.TheVariants.{Steward, Clerk, Look, DeskReport, DeskDerive}
+use Rattle.desk_words.specs.declared.command.Command.TheVariants.{Steward, Clerk, Look, Desk}
 use Rattle.desk_words.specs.Tables.{Rows}
 use Rattle.machine_core.specs.Checked.{Checked, ◌>>=◌, done}
 use Rattle.machine_core.specs.Machine.{clerk_of}
@@ -18,29 +18,25 @@ abbrev pub asks : Caller → Command → Bool
 asks steward (Steward ticket work) = true
 asks steward (Clerk name ticket work) = false
 asks steward (Look name look) = false
-asks steward DeskReport = false
-asks steward (DeskDerive edition version master pairs) = false
+asks steward (Desk look) = false
 asks (clerk name) (Steward ticket work) = false
 asks (clerk name) (Clerk other ticket work) = bytes_eq other name
 asks (clerk name) (Look other look) = bytes_eq other name
-asks (clerk name) DeskReport = false
-asks (clerk name) (DeskDerive edition version master pairs) = false
+asks (clerk name) (Desk look) = false
 
 -- a clerk of another name asks this
 abbrev pub is_of_other : List ℕ → Command → Bool
 is_of_other name (Steward ticket work) = false
 is_of_other name (Clerk other ticket work) = not (bytes_eq other name)
 is_of_other name (Look other look) = not (bytes_eq other name)
-is_of_other name DeskReport = false
-is_of_other name (DeskDerive edition version master pairs) = false
+is_of_other name (Desk look) = false
 
 -- the number of a write; looks have none
 abbrev pub number_of : Command → ℕ
 number_of (Steward ticket work) = ticket.number
 number_of (Clerk name ticket work) = ticket.number
 number_of (Look name look) = 0
-number_of DeskReport = 0
-number_of (DeskDerive edition version master pairs) = 0
+number_of (Desk look) = 0
 
 -- the place of a caller in the clerks; refused where no clerk has the name
 abbrev pub place_of : Rows → Caller → Checked ℕ

@@ -12,7 +12,7 @@ ghost use Rattle.desk_valid.specs.Valid.{AreValid};
 ghost use Rattle.machine_core.specs.Machine.{IsStep};
 ghost use Rattle.machine_laws.specs.Derivations.{AddsDerived, IsDerivedSheet};
 
-use desk_words::{Command, Reply, StewardWork, Tables};
+use desk_words::{Command, DeskLook, Reply, StewardWork, Tables};
 
 /// The rows of a derived sheet are exactly those that are derived over the edition's kit, and the texts of these rows
 /// become a region, from the place on that was asked for.
@@ -20,7 +20,8 @@ pub fn derived_rows_are_certain(tables: &Tables)
     requires { AreValid (rows_of tables.now) }
     ensures sheet { (edition : List ℕ) (version : ℕ) (master : List ℕ) (pairs : List (List ℕ × List ℕ))
         (sheet : SheetOf) (changes : List ChangeOf)
-        → IsStep (rows_of tables.now) (Command.DeskDerive edition version master pairs) (Reply.Derived sheet) changes
+        → IsStep (rows_of tables.now) (Command.Desk (DeskLook.Derive edition version master pairs))
+        (Reply.Derived sheet) changes
         → IsDerivedSheet (published_of (rows_of tables.now)) edition version master pairs sheet }
     ensures region { (ticket : TicketOf) (edition : List ℕ) (version : ℕ) (master : List ℕ)
         (pairs : List (List ℕ × List ℕ)) (place : ℕ) (answer : ReplyOf) (changes : List ChangeOf)

@@ -13,7 +13,7 @@ ghost use Rattle.machine_laws.specs.Alike.{LookAlike};
 ghost use Rattle.machine_laws.specs.Events.{AreAnswered, Event, answers_to, commands_of, without_others};
 
 use desk_base::Str;
-use desk_words::{ClerkWork, Command, Look, Tables, Ticket};
+use desk_words::{ClerkWork, Command, DeskLook, Look, Tables, Ticket};
 
 /// The reply to a clerk's write is made of what was published and of the clerk's own rows: in tables that look alike to
 /// the clerk it is the same. So each limit that a clerk can meet counts that clerk's rows alone.
@@ -86,7 +86,7 @@ pub fn derived_rows_are_answered_by_what_was_published(tables: &Tables, other: &
     requires { published_of (rows_of tables.now) ≡ published_of (rows_of other.now) }
     ensures { (edition : List ℕ) (version : ℕ) (master : List ℕ) (pairs : List (List ℕ × List ℕ))
         (answer answer_too : ReplyOf) (changes others : List ChangeOf)
-        → IsStep (rows_of tables.now) (Command.DeskDerive edition version master pairs) answer changes
-        → IsStep (rows_of other.now) (Command.DeskDerive edition version master pairs) answer_too others
+        → IsStep (rows_of tables.now) (Command.Desk (DeskLook.Derive edition version master pairs)) answer changes
+        → IsStep (rows_of other.now) (Command.Desk (DeskLook.Derive edition version master pairs)) answer_too others
         → answer ≡ answer_too }
 {}

@@ -8,7 +8,7 @@ ghost use Rattle.machine_core.specs.Machine.{IsStep};
 ghost use Rattle.machine_laws.specs.Sums.{AddsUp};
 
 use desk_base::Str;
-use desk_words::{Command, Look, Reply, Tables};
+use desk_words::{Command, DeskLook, Look, Reply, Tables};
 
 /// In a clerk's report and in the desk's, each line adds up, and the lines add up to the total.
 pub fn reports_add_up(tables: &Tables, name: &Str)
@@ -17,6 +17,6 @@ pub fn reports_add_up(tables: &Tables, name: &Str)
         → IsStep (rows_of tables.now) (Command.Look name.now Look.Report) (Reply.Report sheet) changes
         → AddsUp (published_of (rows_of tables.now)) sheet }
     ensures desk { (sheet : SheetOf) (changes : List ChangeOf)
-        → IsStep (rows_of tables.now) Command.DeskReport (Reply.Report sheet) changes
+        → IsStep (rows_of tables.now) (Command.Desk DeskLook.Report) (Reply.Report sheet) changes
         → AddsUp (published_of (rows_of tables.now)) sheet }
 {}

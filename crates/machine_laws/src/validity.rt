@@ -1,5 +1,5 @@
 //! Valid tables stay valid.
-ghost use Rattle.std.specs.Prelude.{◌≡◌, ℕ, List, []};
+ghost use Rattle.std.specs.Prelude.{◌≡◌, List, []};
 ghost use Rattle.desk_words.specs.Changes.{FitAll, changed_all};
 ghost use Rattle.desk_words.specs.declared.change.Change.{Change as ChangeOf};
 ghost use Rattle.desk_words.specs.declared.refusal.Refusal.{Refusal as RefusalOf};
@@ -10,7 +10,7 @@ ghost use Rattle.machine_core.specs.Machine.{IsStep};
 ghost use Rattle.machine_core.specs.Ticket.{IsNumbered};
 
 use desk_base::Str;
-use desk_words::{Command, Look, Reply, Tables};
+use desk_words::{Command, DeskLook, Look, Reply, Tables};
 
 /// What a request changes fits the tables, and leaves valid ones.
 pub fn tables_stay_valid(tables: &Tables, command: &Command)
@@ -29,14 +29,10 @@ pub fn refusals_change_nothing(tables: &Tables, command: &Command)
         → IsStep (rows_of tables.now) command.now (Reply.Refused refusal) changes → changes ≡ [] }
 {}
 
-/// A look changes nothing, nor does the desk's report, nor do rows that are derived.
-pub fn looks_change_nothing(tables: &Tables, name: &Str, look: &Look)
+/// A look changes nothing, be it a clerk's or at the desk.
+pub fn looks_change_nothing(tables: &Tables, name: &Str, look: &Look, at_desk: &DeskLook)
     ensures look { (answer : ReplyOf) (changes : List ChangeOf)
         → IsStep (rows_of tables.now) (Command.Look name.now look.now) answer changes → changes ≡ [] }
-    ensures report { (answer : ReplyOf) (changes : List ChangeOf)
-        → IsStep (rows_of tables.now) Command.DeskReport answer changes → changes ≡ [] }
-    ensures derive { (edition : List ℕ) (version : ℕ) (master : List ℕ) (pairs : List (List ℕ × List ℕ))
-        (answer : ReplyOf) (changes : List ChangeOf)
-        → IsStep (rows_of tables.now) (Command.DeskDerive edition version master pairs) answer changes
-        → changes ≡ [] }
+    ensures desk { (answer : ReplyOf) (changes : List ChangeOf)
+        → IsStep (rows_of tables.now) (Command.Desk at_desk.now) answer changes → changes ≡ [] }
 {}

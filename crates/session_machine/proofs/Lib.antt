@@ -7,3 +7,4 @@ pub mod MakingTold
 pub mod Stewards
 pub mod Held
 pub mod Weighed
+pub mod DeskLooks

@@ -21,7 +21,7 @@ ghost use Rattle.session_machine.specs.Acting.{IsAct};
 ghost use Rattle.session_machine.specs.Booked.{IsBooked};
 
 use crate::clerk::{clerk_look, clerk_write};
-use crate::sheet::derived_reply;
+use crate::desk_look::desk_look;
 use crate::steward::steward_write;
 use desk_base::{List, MAX_ATTRIBUTES, MAX_RULES, NoMemory};
 use desk_totals::Totalled;
@@ -30,7 +30,6 @@ use desk_words::{Change, Command, Refusal, Reply, Tables};
 use fix_engine::Work;
 use keeper_core::{KeepFail, Keeper};
 use machine_core::{Machine, SettleFail, StartFail, Stop, Weighed, hold, shelved};
-use machine_views::desk_report;
 use master_index::{Shelf, Shelved};
 use std::alloc::Global;
 use std::marker::Model;
@@ -131,21 +130,7 @@ impl Desk {
             Command::Look(name, look) => {
                 clerk_look(self.alloc, totalled, shelf, room, name, look)
             }
-            Command::DeskReport => {
-                let sheet = desk_report(self.alloc, totalled.tables(), shelf, room)?;
-                Ok((Reply::Report(sheet), List::new(self.alloc)))
-            }
-            Command::DeskDerive {
-                edition,
-                version,
-                master,
-                pairs,
-            } => {
-                let (alloc, pairs) = (self.alloc, pairs.as_slice());
-                derived_reply(
-                    alloc, totalled, shelf, room, edition, *version, master, pairs,
-                )
-            }
+            Command::Desk(look) => desk_look(self.alloc, totalled, shelf, room, look),
         }
     }
 

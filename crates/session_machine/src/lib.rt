@@ -6,7 +6,7 @@
 
 mod clerk;
 mod desk;
-mod sheet;
+mod desk_look;
 mod steward;
 
 pub use desk::Desk;

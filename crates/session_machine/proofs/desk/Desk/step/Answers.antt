@@ -1,23 +1,19 @@
-use Rattle.std.proofs.Common.{◌≡◌, ap, subst, List, ◌∙◌, [], Ok}
-use Rattle.desk_words.specs.Tables.{Rows, published_of, rows_of}
-use Rattle.machine_core.specs.Shelves.{AreHeld}
+use Rattle.std.proofs.Common.{◌≡◌, ap, subst, List}
+use Rattle.desk_words.specs.Tables.{Rows}
 use Rattle.session_machine.specs.Seats.{Seat}
-use Rattle.session_machine.proofs.Weighed.{report-gives}
 use Rattle.session_machine.proofs.desk.Desk.step.Goals as goal
-use Rattle.session_machine.proofs.desk.Desk.step.Goals.{in-Steward, in-Clerk, in-Look, in-DeskDerive}
-use Rattle.session_machine.proofs.desk.Desk.step.Goals.{in-DeskReport+in_ok-sheet-in-DeskReport}
+use Rattle.session_machine.proofs.desk.Desk.step.Goals.{in-Steward, in-Clerk, in-Look, in-Desk}
 use Rattle.std.specs.Prelude.{Result}
 use Rattle.desk_words.specs.declared.change.Change.{Change}
 use Rattle.desk_words.specs.declared.command.Command.{Command}
-use Rattle.desk_words.specs.declared.command.Command.TheVariants.{Steward, Clerk, Look, DeskReport, DeskDerive}
+use Rattle.desk_words.specs.declared.command.Command.TheVariants.{Steward, Clerk, Look, Desk}
 use Rattle.desk_words.specs.declared.reply.Reply.{Reply}
 use Rattle.machine_core.specs.Machine.{machine}
 use Rattle.machine_core.specs.Outcomes.{Answers}
 use Rattle.machine_core.specs.declared.stop.Stop.{Stop}
-use Rattle.desk_words.specs.declared.reply.Reply.TheVariants.{Report}
 
-pub invariant_of-self-2 : goal.invariant_of-self-2
-invariant_of-self-2 c = elim c.match-command.branch [
+pub invariant_of-self : goal.invariant_of-self
+invariant_of-self c = elim c.match-command.branch [
   | in-Steward w ↦ rw w.self-inside-is (record {
     valid = c.self.invariant.valid;
     held = w.steward_write.ensures.held;
@@ -33,17 +29,10 @@ invariant_of-self-2 c = elim c.match-command.branch [
     held = w.clerk_look.ensures.held;
     room = w.clerk_look.ensures.room;
   })
-  | in-DeskReport+in_ok-sheet-in-DeskReport w ↦
-      let Held : Rows → Type 0 = λ rows. AreHeld (published_of rows) w.desk_report.new.shelf in
-      rw w.self-inside-is (record {
-        valid = c.self.invariant.valid;
-        held = subst Held w.tables.ensures.tables w.desk_report.ensures.held;
-        room = w.desk_report.ensures.room;
-      })
-  | in-DeskDerive w ↦ rw w.self-inside-is (record {
+  | in-Desk w ↦ rw w.self-inside-is (record {
     valid = c.self.invariant.valid;
-    held = w.derived_reply.ensures.held;
-    room = w.derived_reply.ensures.room;
+    held = w.desk_look.ensures.held;
+    room = w.desk_look.ensures.room;
   })
 ]
 
@@ -64,14 +53,6 @@ returns-clause-answers c =
           w.clerk_write.ensures.answers)
       | in-Look w ↦ rw (w.result-is, w.in-Look.is) (Answers-over w.clerk_look.result c.self.inside.totalled
           c.args.self.now.rows (Look w.in-Look.name w.in-Look.look) same w.clerk_look.ensures.answers)
-      | in-DeskReport+in_ok-sheet-in-DeskReport w ↦
-          let sheet = w.in_ok-sheet-in-DeskReport.sheet in
-          let gives = report-gives (rows_of w.tables.result.now) sheet w.in_ok-sheet-in-DeskReport.ensures.report in
-          rw (w.result-is, w.in-DeskReport.is, w.new.ensures) (Answers-over (Ok (Report sheet, []))
-          (rows_of w.tables.result.now) c.args.self.now.rows DeskReport (w.tables.ensures.tables ∙ same) gives)
-      | in-DeskDerive w ↦
-          let answers = rw w.as_slice-pairs.ensures at w.derived_reply.ensures.answers in
-          rw (w.result-is, w.in-DeskDerive.is) (Answers-over w.derived_reply.result c.self.inside.totalled
-          c.args.self.now.rows (DeskDerive w.in-DeskDerive.edition w.in-DeskDerive.version w.in-DeskDerive.master
-          w.in-DeskDerive.pairs) same answers)
+      | in-Desk w ↦ rw (w.result-is, w.in-Desk.is) (Answers-over w.desk_look.result c.self.inside.totalled
+          c.args.self.now.rows (Desk w.in-Desk.look) same w.desk_look.ensures.answers)
     ]

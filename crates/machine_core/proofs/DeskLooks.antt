@@ -1,0 +1,36 @@
+-- What a look at the desk has found, by the content of its reply.
+use Rattle.std.proofs.Common.{◌≡◌, ℕ, List, None, refl}
+use Rattle.std.specs.Prelude.{Ok, flat_map, ⊤}
+use Rattle.desk_words.specs.declared.desk_look.DeskLook.{DeskLook as DeskLookOf}
+use Rattle.desk_words.specs.declared.desk_look.DeskLook.TheVariants as look
+use Rattle.desk_words.specs.declared.reply.Reply.{Reply}
+use Rattle.desk_words.specs.declared.reply.Reply.TheVariants as reply
+use Rattle.desk_words.specs.Tables.{Rows, published_of}
+use Rattle.machine_core.specs.Checked.{Gives}
+use Rattle.machine_core.specs.Content.{Content, advises, content_of, derives, plain, records, refuses, shows}
+use Rattle.machine_core.specs.Deriving.{derived_sheet}
+use Rattle.machine_core.specs.DeskLook.{desk_reply}
+use Rattle.machine_core.specs.Look.Report.{report_of}
+use Rattle.machine_core.proofs.Looks.{told-each}
+
+-- what a look at the desk has found, where its reply has this content
+abbrev pub DeskFound : Rows → DeskLookOf → Content → Type 0
+DeskFound rows what (derives sheet) = (edition : List ℕ) × (version : ℕ) × (master : List ℕ)
+    × (pairs : List (List ℕ × List ℕ)) × (what ≡ look.Derive edition version master pairs)
+    × Gives (derived_sheet (published_of rows) edition version master pairs) (Ok sheet)
+DeskFound rows what plain = ⊤
+DeskFound rows what (shows view) = ⊥
+DeskFound rows what advises = ⊥
+DeskFound rows what (records sheet) = ⊥
+DeskFound rows what (refuses refusal) = ⊥
+
+-- a reply is told of what its look has found
+pub desk-found : (rows : Rows) (what : DeskLookOf) (answer : Reply) → Gives (desk_reply rows what) (Ok answer)
+    → DeskFound rows what (content_of answer)
+desk-found rows look.Report = told-each (report_of (published_of rows) None
+    (flat_map (λ sessions. sessions) rows.sessions)) reply.Report
+    (λ answer. DeskFound rows look.Report (content_of answer)) (λ sheet given. tt)
+desk-found rows (look.Derive edition version master pairs) =
+    told-each (derived_sheet (published_of rows) edition version master pairs) reply.Derived
+    (λ answer. DeskFound rows (look.Derive edition version master pairs) (content_of answer))
+    (λ sheet given. (edition, version, master, pairs, refl, given))

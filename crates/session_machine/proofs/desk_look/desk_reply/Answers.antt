@@ -1,0 +1,41 @@
+use Rattle.std.proofs.Common.{None, Ok, subst, sym}
+use Rattle.std.specs.Prelude.{flat_map}
+use Rattle.desk_words.specs.declared.desk_look.DeskLook.{DeskLook as DeskLookOf}
+use Rattle.desk_words.specs.declared.reply.Reply.TheVariants as reply
+use Rattle.desk_words.specs.Tables.{published_of, rows_of}
+use Rattle.machine_core.specs.Checked.{Gives, done}
+use Rattle.machine_core.specs.Deriving.{derived_sheet}
+use Rattle.machine_core.specs.DeskLook.{desk_reply}
+use Rattle.machine_core.specs.Look.Report.{report_of}
+use Rattle.machine_core.specs.Outcomes.{Answers}
+use Rattle.machine_core.proofs.Answering.{Answers-stopped}
+use Rattle.session_machine.proofs.ClerkLooks.{reply-gives}
+use Rattle.session_machine.proofs.desk_look.desk_reply.Goals as goal
+
+pub returns-in_ok-desk_report-in-Report-clause-answers : goal.returns-in_ok-desk_report-in-Report-clause-answers
+returns-in_ok-desk_report-in-Report-clause-answers c =
+    let rows = rows_of c.args.tables.now in
+    let found = c.in_ok-desk_report-in-Report.field-0 in
+    let Shown : DeskLookOf → Type 0 = λ look. Gives (desk_reply rows look) (Ok (reply.Report found)) in
+    subst Shown (sym c.in-Report.is) (reply-gives (report_of (published_of rows) None
+    (flat_map (λ sessions. sessions) rows.sessions)) reply.Report found c.in_ok-desk_report-in-Report.ensures.report)
+
+pub returns-in_ok-derived_sheet-in-Derive-clause-answers : goal.returns-in_ok-derived_sheet-in-Derive-clause-answers
+returns-in_ok-derived_sheet-in-Derive-clause-answers c =
+    let rows = rows_of c.args.tables.now in
+    let found = c.in_ok-derived_sheet-in-Derive.field-0 in
+    let Shown : DeskLookOf → Type 0 = λ look. Gives (desk_reply rows look) (Ok (reply.Derived found)) in
+    subst Shown (sym c.in-Derive.is) (reply-gives (derived_sheet (published_of rows) c.in-Derive.edition
+    c.in-Derive.version c.in-Derive.master c.in-Derive.pairs) reply.Derived found
+    (rw c.as_slice-pairs.ensures at c.in_ok-derived_sheet-in-Derive.ensures.sheet))
+
+pub returns-in_err-derived_sheet-in-Derive-clause-answers : goal.returns-in_err-derived_sheet-in-Derive-clause-answers
+returns-in_err-derived_sheet-in-Derive-clause-answers c =
+    let rows = rows_of c.args.tables.now in
+    let result = c.from_residual-in_err-derived_sheet-in-Derive.result in
+    let stop = c.in_err-derived_sheet-in-Derive.field-0.0 in
+    let Shown : DeskLookOf → Type 0 = λ look. Answers result (desk_reply rows look) in
+    subst Shown (sym c.in-Derive.is) (Answers-stopped (derived_sheet (published_of rows) c.in-Derive.edition
+    c.in-Derive.version c.in-Derive.master c.in-Derive.pairs) (λ one. done (reply.Derived one)) stop result
+    c.from_residual-in_err-derived_sheet-in-Derive.ensures.1
+    (rw c.as_slice-pairs.ensures at c.in_err-derived_sheet-in-Derive.ensures.sheet))

@@ -1,0 +1,71 @@
+//! What is looked at at the desk, one look a case.
+ghost use Rattle.std.specs.Prelude.{IfOk};
+ghost use Rattle.desk_words.specs.Tables.{published_of, rows_of};
+ghost use Rattle.desk_words.specs.declared.command.Command.TheVariants.{Desk};
+ghost use Rattle.desk_valid.specs.Valid.{AreValid};
+ghost use Rattle.machine_core.specs.DeskLook.{desk_reply};
+ghost use Rattle.machine_core.specs.Machine.{machine};
+ghost use Rattle.machine_core.specs.Outcomes.{Answers};
+ghost use Rattle.machine_core.specs.Shelves.{AreHeld, IsFullRoom};
+ghost use Rattle.session_machine.specs.Booked.{IsBooked};
+
+use desk_base::List;
+use desk_totals::Totalled;
+use desk_words::{Change, DeskLook, Reply, Tables};
+use fix_engine::Work;
+use machine_core::Stop;
+use machine_views::{derived_sheet, desk_report};
+use master_index::Shelf;
+use std::alloc::Global;
+
+/// What a look at the desk comes to. It changes nothing.
+pub fn desk_look(
+    alloc: Global,
+    totalled: &Totalled,
+    shelf: &mut Shelf,
+    room: &mut Work,
+    look: &DeskLook,
+) -> Result<(Reply, List<Change>), Stop>
+    requires valid { AreValid totalled.now }
+    requires held { AreHeld (published_of totalled.now) shelf.old }
+    requires room { IsFullRoom room.old }
+    ensures answers { Answers result (machine totalled.now (Desk look.now)) }
+    ensures booked { IfOk result (λ made. IsBooked totalled.now (Desk look.now) made.0 shelf.new) }
+    ensures held { AreHeld (published_of totalled.now) shelf.new }
+    ensures room { IsFullRoom room.new }
+{
+    let tables = totalled.tables();
+    let reply = desk_reply(alloc, tables, shelf, room, look)?;
+    Ok((reply, List::new(alloc)))
+}
+
+/// The reply to a look at the desk.
+fn desk_reply(
+    alloc: Global,
+    tables: &Tables,
+    shelf: &mut Shelf,
+    room: &mut Work,
+    look: &DeskLook,
+) -> Result<Reply, Stop>
+    requires valid { AreValid (rows_of tables.now) }
+    requires held { AreHeld (published_of (rows_of tables.now)) shelf.old }
+    requires room { IsFullRoom room.old }
+    ensures answers { Answers result (desk_reply (rows_of tables.now) look.now) }
+    ensures held { AreHeld (published_of (rows_of tables.now)) shelf.new }
+    ensures room { IsFullRoom room.new }
+{
+    match look {
+        DeskLook::Report => Ok(Reply::Report(desk_report(alloc, tables, shelf, room)?)),
+        DeskLook::Derive {
+            edition,
+            version,
+            master,
+            pairs,
+        } => {
+            let pairs = pairs.as_slice();
+            Ok(Reply::Derived(derived_sheet(
+                alloc, tables, shelf, room, edition, *version, master, pairs,
+            )?))
+        }
+    }
+}
