@@ -11,5 +11,6 @@ pub mod Seeking
 pub mod Segments
 pub mod Spelling
 pub mod Table
+pub mod Listed
 pub mod Waiting
 pub mod Walking

@@ -1,7 +1,8 @@
 -- The route of a target, and its parameters: what `matchit` states for one table of patterns.
-use Rattle.std.specs.Prelude.{◌≡◌, ◌≢◌, ◌<◌, ◌++◌, false, ℕ, Bool, true, ◌&&◌, List, [], ◌∷◌, codes, map, Contains}
+use Rattle.std.specs.Prelude.{◌≡◌, ◌≢◌, ◌<◌, ◌++◌, false, ℕ, Bool, true, List, [], ◌∷◌, map, Contains}
 use Rattle.std.specs.Prelude.{Option, Some, None, is_some, option_map, Result, Ok, Err, if◌then◌else◌}
 use Rattle.std.specs.Borrow.{Bor}
+use Rattle.std.specs.List.{list_all}
 use Rattle.std.specs.Str.{is_utf8}
 use Rattle.desk_base.specs.declared.limits.TheConstants.{MAX_LONG_BODY, MAX_BATCH_BODY, MAX_BODY}
 use Rattle.matchit.specs.Rows.{RowsOf, param_token}
@@ -11,7 +12,6 @@ use Rattle.matchit.specs.Router.{RouteOf, route_from}
 use Rattle.matchit.specs.Seek.{first, has_slash}
 use Rattle.matchit.specs.Params.{walk, named}
 use Rattle.matchit.specs.declared.error.InsertError.{InsertError}
-use Rattle.http_cut.specs.declared.digits.TheConstants.{WRITE_DIGITS, NUMBER_DIGITS}
 use Rattle.http_cut.specs.declared.route.Method.{Method}
 use Rattle.http_cut.specs.declared.route.Method.TheVariants.{Get, Post}
 use Rattle.http_cut.specs.declared.route.Route.{Route}
@@ -20,7 +20,7 @@ use Rattle.http_cut.specs.declared.route.StewardRoute.TheVariants.{AddMaster, Ad
 use Rattle.http_cut.specs.declared.route.ClerkRoute.TheVariants.{Batch}
 use Rattle.http_cut.specs.declared.route.LookRoute.TheVariants.{Preview}
 use Rattle.http_cut.specs.declared.route.DeskRoute.TheVariants.{DeskDerive}
-use Rattle.http_cut.specs.declared.route.TheConstants.{PATTERNS}
+use Rattle.http_cut.specs.declared.route.TheConstants.{NUMBERS, PATTERNS}
 use Rattle.http_cut.specs.Numbers.{positive}
 
 -- ---- the table
@@ -87,18 +87,26 @@ parts_of found target = walk found.pattern found.text target found.names 0 0
 abbrev pub match_of : List ℕ → Option Match
 match_of target = option_map (λ found. (found.value, parts_of found target)) (first route_rows target)
 
+-- the parameters that are to be numbers, each with the most digits that it has
+abbrev pub numbers : List (List ℕ × ℕ)
+numbers = map (λ row. (row.0.now, row.1)) NUMBERS
+
+-- the same of those that a slice lends
+abbrev pub numbers_of : List (Bor (List ℕ) × ℕ) → List (List ℕ × ℕ)
+numbers_of rows = map (λ row. (row.0.now, row.1)) rows
+
 -- a parameter that is to be a number has at most so many digits, if there is one
 abbrev pub is_good_number : ℕ → Option (List ℕ) → Bool
 is_good_number most (Some text) = is_some (positive most text)
 is_good_number most None = true
 
+-- a parameter that is to be a number is, in the parts of a target
+abbrev pub is_good_in : List (List ℕ × List ℕ) → List ℕ × ℕ → Bool
+is_good_in parts number = is_good_number number.1 (named number.0 parts)
+
 -- the parameters that are to be numbers are
 abbrev pub has_good_numbers : List (List ℕ × List ℕ) → Bool
-has_good_numbers parts =
-    is_good_number WRITE_DIGITS (named (codes "n") parts)
-    && is_good_number NUMBER_DIGITS (named (codes "version") parts)
-    && is_good_number NUMBER_DIGITS (named (codes "session") parts)
-    && is_good_number NUMBER_DIGITS (named (codes "from") parts)
+has_good_numbers parts = list_all (is_good_in parts) numbers
 
 -- a match whose numbers are good
 abbrev pub with_good_numbers : Option Match → Option Match

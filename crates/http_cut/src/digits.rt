@@ -8,7 +8,7 @@ ghost use Rattle.http_cut.specs.Numbers.{number, positive};
 /// The most digits of the number of a write.
 pub const WRITE_DIGITS: usize = 12;
 
-/// The most digits of a version, and of the number of a session.
+/// The most digits of a version, of the number of a session, and of other numbers that targets name.
 pub const NUMBER_DIGITS: usize = 9;
 
 /// The number that 1 to `most` decimal digits write, and nothing for other bytes.

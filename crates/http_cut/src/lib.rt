@@ -20,7 +20,7 @@ mod window;
 pub use digits::{NUMBER_DIGITS, WRITE_DIGITS, number, positive};
 pub use httparse::spans::Span;
 pub use intake::{Intake, IntakeFault, PIECE, next_step};
-pub use route::{ClerkRoute, DeskRoute, LookRoute, Method, PATTERNS, Route, StewardRoute};
+pub use route::{ClerkRoute, DeskRoute, LookRoute, Method, NUMBERS, PATTERNS, Route, StewardRoute};
 pub use route_match::RouteMatch;
 pub use routes::Routes;
 pub use step::{BadRest, Request, Step, first_step};

@@ -3,6 +3,7 @@ ghost use Rattle.std.specs.Prelude.{◌≡◌, ◌≤◌};
 ghost use Rattle.desk_base.specs.declared.limits.TheConstants.{MAX_LONG_BODY};
 ghost use Rattle.http_cut.specs.Routes.{method_of, route_limit};
 
+use crate::digits::{NUMBER_DIGITS, WRITE_DIGITS};
 use desk_base::{MAX_BATCH_BODY, MAX_BODY, MAX_LONG_BODY};
 
 /// The methods that routes have.
@@ -158,6 +159,16 @@ pub const PATTERNS: [(&str, Route); 24] = [
         Route::Desk(DeskRoute::DeskDerive),
     ),
     ("/see/{clerk}/list/{from}", Route::Look(LookRoute::Sessions)),
+];
+
+/// The parameters of patterns that are numbers, each with the most digits that it has.
+pub const NUMBERS: [(&str, usize); 6] = [
+    ("n", WRITE_DIGITS),
+    ("version", NUMBER_DIGITS),
+    ("session", NUMBER_DIGITS),
+    ("from", NUMBER_DIGITS),
+    ("row", NUMBER_DIGITS),
+    ("region", NUMBER_DIGITS),
 ];
 
 impl Route {

@@ -1,10 +1,11 @@
 //! The route of a target, with its parameters.
-ghost use Rattle.std.specs.Prelude.{◌≡◌, ◌≤◌, Some, None, MatchOption};
+ghost use Rattle.std.specs.Prelude.{◌≡◌, ◌≤◌, All, Some, None, MatchOption};
+ghost use Rattle.std.specs.List.{list_all};
 ghost use Rattle.matchit.specs.Params.{named};
-ghost use Rattle.http_cut.specs.Routes.{is_good_number, has_good_numbers};
+ghost use Rattle.http_cut.specs.Routes.{has_good_numbers, is_good_in, is_good_number, numbers_of};
 
-use crate::digits::{NUMBER_DIGITS, WRITE_DIGITS, positive};
-use crate::route::Route;
+use crate::digits::positive;
+use crate::route::{NUMBERS, Route};
 use matchit::Params;
 use std::marker::Model;
 
@@ -51,10 +52,19 @@ impl<'r, 'p> RouteMatch<'r, 'p> {
     pub(crate) fn has_good_numbers(&self) -> bool
         ensures { result ≡ has_good_numbers self.now.1 }
     {
-        self.has_good_number("n", WRITE_DIGITS)
-            && self.has_good_number("version", NUMBER_DIGITS)
-            && self.has_good_number("session", NUMBER_DIGITS)
-            && self.has_good_number("from", NUMBER_DIGITS)
+        self.are_good(&NUMBERS)
+    }
+
+    fn are_good(&self, numbers: &[(&str, usize)]) -> bool
+        requires { All (λ number. number.1 ≤ 19) numbers.now }
+        ensures { result ≡ list_all (is_good_in self.now.1) (numbers_of numbers.now) }
+    {
+        'numbers: for (name, most) in numbers {
+            if !self.has_good_number(name, *most) {
+                return false;
+            }
+        }
+        true
     }
 
     fn has_good_number(&self, name: &str, most: usize) -> bool

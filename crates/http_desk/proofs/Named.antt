@@ -1,17 +1,17 @@
 -- The parameters of a matched target: each that its route wants is there, in its form.
 use Rattle.std.proofs.Common.{◌≡◌, ℕ, List, [], ◌∷◌, Bool, true, false, cond, Option, Some, None, Ok, refl, sym, subst}
 use Rattle.std.proofs.Common.{inl, inr}
-use Rattle.std.specs.Prelude.{⊤, codes, is_some, option_and_then, option_map, if◌then◌else◌}
+use Rattle.std.specs.Prelude.{◌==◌, ◌&&◌, ⊤, is_some, option_and_then, option_map, if◌then◌else◌}
 use Rattle.std.specs.List.{list_all}
-use Rattle.std.specs.Str.{is_utf8}
-use Rattle.std.proofs.lemmas.Bool.{and_parts}
+use Rattle.std.specs.Str.{bytes_eq, is_utf8}
+use Rattle.std.proofs.lemmas.Bool.{and_parts, eqb-true}
+use Rattle.std.proofs.lemmas.Slice.Eq.{bytes_eq-Decides}
 use Rattle.matchit.specs.Level.{IsText}
 use Rattle.matchit.specs.Params.{walk, named, part_of}
 use Rattle.matchit.specs.Router.{RouteOf}
 use Rattle.matchit.specs.Rows.{RowsOf}
 use Rattle.matchit.specs.Seek.{first, same_text}
 use Rattle.matchit.proofs.OnLiterals.{matchit_on_literals}
-use Rattle.http_cut.specs.declared.digits.TheConstants.{WRITE_DIGITS, NUMBER_DIGITS}
 use Rattle.http_cut.specs.declared.route.Route.{Route as Target}
 use Rattle.http_cut.specs.declared.route.Route.TheVariants as target
 use Rattle.http_cut.specs.declared.route.StewardRoute.{StewardRoute}
@@ -21,8 +21,8 @@ use Rattle.http_cut.specs.declared.route.ClerkRoute.TheVariants as of_clerk
 use Rattle.http_cut.specs.declared.route.LookRoute.{LookRoute}
 use Rattle.http_cut.specs.declared.route.LookRoute.TheVariants as of_look
 use Rattle.http_cut.specs.Numbers.{positive}
-use Rattle.http_cut.specs.Routes.{Match, has_good_numbers, is_good_number, match_of, parts_of, route_of, route_rows}
-use Rattle.http_cut.specs.Routes.{with_good_numbers}
+use Rattle.http_cut.specs.Routes.{Match, has_good_numbers, is_good_in, is_good_number, match_of, numbers, parts_of}
+use Rattle.http_cut.specs.Routes.{route_of, route_rows, with_good_numbers}
 use Rattle.http_cut.proofs.Seeking.{Has, seek_found}
 use Rattle.desk_json.specs.declared.route.Route.{Route}
 use Rattle.desk_json.specs.Checked.{◌>>=◌}
@@ -50,9 +50,20 @@ wanted (target.Clerk asked) = parameters.clerk ∷ parameters.n ∷ parameters_o
 wanted (target.Look asked) = parameters.clerk ∷ parameters_of (look_form [] asked)
 wanted (target.Desk asked) = parameters_of (desk_form asked)
 
+-- a number of this name has at most so many digits by one of these rows
+abbrev is_listed : ℕ → List ℕ → List (List ℕ × ℕ) → Bool
+is_listed most name [] = false
+is_listed most name (row ∷ rows) = cond (bytes_eq row.0 name && row.1 == most) true (is_listed most name rows)
+
+-- a parameter that is a number is listed
+abbrev is_known : Parameter → Bool
+is_known (parameters.text name) = true
+is_known (parameters.numeral most name) = is_listed most name numbers
+
 -- a row of the table has the names of the parameters that its route is made of
 abbrev has_wanted : RouteOf Target → Bool
-has_wanted row = list_all (λ parameter. is_among (name_of parameter) row.text row.names) (wanted row.value)
+has_wanted row =
+    list_all (λ parameter. is_among (name_of parameter) row.text row.names && is_known parameter) (wanted row.value)
 
 -- each row has them
 table_wanted : list_all (λ (row : List ℕ × RouteOf Target). has_wanted row.1) route_rows ≡ true
@@ -83,20 +94,28 @@ named_some key pattern text path (name ∷ names) token at e =
     either (same_text (part_of text name.0 name.1) key) (is_among key text names) _ _ e
     (λ among. named_some key pattern text path names _ _ among)
 
+-- the parameter is there, and listed where it is a number
+record IsThere (parts : Parts) (parameter : Parameter) : Type 0 where
+  there : is_some (named (name_of parameter) parts) ≡ true
+  known : is_known parameter ≡ true
+
 -- all of these parameters are there
 abbrev AreThere : Parts → List Parameter → Type 0
 AreThere parts [] = ⊤
-AreThere parts (parameter ∷ parameters) =
-    (is_some (named (name_of parameter) parts) ≡ true) × AreThere parts parameters
+AreThere parts (parameter ∷ parameters) = IsThere parts parameter × AreThere parts parameters
 
 -- the parameters whose names a row has are there
 row_there : (row : RouteOf Target) (path : List ℕ) (parameters : List Parameter)
-    → list_all (λ parameter. is_among (name_of parameter) row.text row.names) parameters ≡ true
+    → list_all (λ parameter. is_among (name_of parameter) row.text row.names && is_known parameter) parameters ≡ true
     → AreThere (parts_of row path) parameters
 row_there row path [] e = tt
 row_there row path (parameter ∷ parameters) e =
-    let (here, others) = and_parts _ _ e in (
-      named_some (name_of parameter) row.pattern row.text path row.names 0 0 here,
+    let (here, others) = and_parts _ _ e in
+    let (named_so, known) = and_parts _ _ here in (
+      record {
+        there = named_some (name_of parameter) row.pattern row.text path row.names 0 0 named_so;
+        known = known;
+      },
       row_there row path parameters others,
     )
 
@@ -128,18 +147,33 @@ number_made most key parts there good = by (named key parts) there good
     by None none good = absurd cc
     by (Some text) some good = made_some (positive most text) good
 
+-- a number that is listed is good where all that are listed are
+listed_good : (most : ℕ) (name : List ℕ) (rows : List (List ℕ × ℕ)) (parts : Parts) → is_listed most name rows ≡ true
+    → list_all (is_good_in parts) rows ≡ true → is_good_number most (named name parts) ≡ true
+listed_good most name [] parts listed good = absurd cc
+listed_good most name (row ∷ rows) parts listed good =
+    let (first, others) = and_parts _ _ good in
+    by (bytes_eq row.0 name && row.1 == most) refl listed first
+    (λ later. listed_good most name rows parts later others)
+  where
+    by : (here : Bool) → (bytes_eq row.0 name && row.1 == most) ≡ here
+        → cond here true (is_listed most name rows) ≡ true → is_good_in parts row ≡ true
+        → (is_listed most name rows ≡ true → is_good_number most (named name parts) ≡ true)
+        → is_good_number most (named name parts) ≡ true
+    by true is listed first later =
+        let (names, digits) = and_parts (bytes_eq row.0 name) (row.1 == most) is in
+        let same_name : row.0 ≡ name = (bytes_eq-Decides row.0 name).0 names in
+        let same_most : row.1 ≡ most = eqb-true row.1 most digits in
+        subst (λ (one : List ℕ). is_good_number most (named one parts) ≡ true) same_name
+        (subst (λ (one : ℕ). is_good_number one (named row.0 parts) ≡ true) same_most first)
+    by false is listed first later = later listed
+
 -- a parameter that is there is read, where the numbers are good
-read_at-made : (parameter : Parameter) (parts : Parts) → has_good_numbers parts ≡ true
-    → is_some (named (name_of parameter) parts) ≡ true → IsMade (read_at parameter parts)
-read_at-made parameters.n parts good there =
-    number_made WRITE_DIGITS (codes "n") parts there (and_parts _ _ (and_parts _ _ (and_parts _ _ good).0).0).0
-read_at-made parameters.version parts good there =
-    number_made NUMBER_DIGITS (codes "version") parts there (and_parts _ _ (and_parts _ _ (and_parts _ _ good).0).0).1
-read_at-made parameters.session parts good there =
-    number_made NUMBER_DIGITS (codes "session") parts there (and_parts _ _ (and_parts _ _ good).0).1
-read_at-made parameters.from parts good there =
-    number_made NUMBER_DIGITS (codes "from") parts there (and_parts _ _ good).1
-read_at-made parameter parts good there = made_some (named (name_of parameter) parts) there
+read_at-made : (parameter : Parameter) (parts : Parts) → has_good_numbers parts ≡ true → IsThere parts parameter
+    → IsMade (read_at parameter parts)
+read_at-made (parameters.text name) parts good is = made_some (named name parts) is.there
+read_at-made (parameters.numeral most name) parts good is =
+    number_made most name parts is.there (listed_good most name numbers parts is.known good)
 
 -- a value comes of a chain where one comes of its first part, and then of the rest
 chain : {A B : Type 0} (front : Checked A) (next : A → Checked B) → IsMade front

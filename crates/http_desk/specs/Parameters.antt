@@ -35,45 +35,57 @@ number_at most name parts = or_no_route (option_and_then (positive most) (named 
 
 -- ---- the parameters
 
--- what targets tell: who asks, the number of a write among its caller's, the name of what a new version is of or of the
--- attribute that is asked about, the schema that a rulebook is over, the edition, the version and the session that it
--- is about, and the session from which on others are listed
+-- what a pattern names: a text, or a number of at most so many digits
 pub data Parameter : Type 0 where
-  clerk : Parameter
-  n : Parameter
-  name : Parameter
-  schema : Parameter
-  edition : Parameter
-  version : Parameter
-  session : Parameter
-  from : Parameter
+  text : List ℕ → Parameter
+  numeral : ℕ → List ℕ → Parameter
 
 -- its name in a pattern
 abbrev pub name_of : Parameter → List ℕ
-name_of clerk = codes "clerk"
-name_of n = codes "n"
-name_of name = codes "name"
-name_of schema = codes "schema"
-name_of edition = codes "edition"
-name_of version = codes "version"
-name_of session = codes "session"
-name_of from = codes "from"
+name_of (text name) = name
+name_of (numeral most name) = name
 
--- what is read there: a number or a text
+-- what is read there
 abbrev pub Read : Parameter → Type 0
-Read n = ℕ
-Read version = ℕ
-Read session = ℕ
-Read from = ℕ
-Read parameter = List ℕ
+Read (text name) = List ℕ
+Read (numeral most name) = ℕ
 
 -- what is read at a parameter in the parts of a target
 abbrev pub read_at : (parameter : Parameter) → Parts → Checked (Read parameter)
-read_at n parts = number_at WRITE_DIGITS (name_of n) parts
-read_at version parts = number_at NUMBER_DIGITS (name_of version) parts
-read_at session parts = number_at NUMBER_DIGITS (name_of session) parts
-read_at from parts = number_at NUMBER_DIGITS (name_of from) parts
-read_at parameter parts = text_at (name_of parameter) parts
+read_at (text name) parts = text_at name parts
+read_at (numeral most name) parts = number_at most name parts
+
+-- who asks
+abbrev pub clerk : Parameter
+clerk = text (codes "clerk")
+
+-- the number of a write among its caller's
+abbrev pub n : Parameter
+n = numeral WRITE_DIGITS (codes "n")
+
+-- the name of what a new version is of, or of the attribute that is asked about
+abbrev pub name : Parameter
+name = text (codes "name")
+
+-- the schema that a rulebook is over
+abbrev pub schema : Parameter
+schema = text (codes "schema")
+
+-- the edition that it is about
+abbrev pub edition : Parameter
+edition = text (codes "edition")
+
+-- the version that it is about
+abbrev pub version : Parameter
+version = numeral NUMBER_DIGITS (codes "version")
+
+-- the session that it is about
+abbrev pub session : Parameter
+session = numeral NUMBER_DIGITS (codes "session")
+
+-- the session from which on others are listed
+abbrev pub from : Parameter
+from = numeral NUMBER_DIGITS (codes "from")
 
 -- the number of a write
 abbrev pub write_in : Parts → Checked ℕ
