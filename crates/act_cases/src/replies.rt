@@ -58,6 +58,10 @@ fn word_of(reply: &Reply) -> &'static str {
         Reply::Derived(_) => "derived ",
         Reply::Carried(_) => "carried ",
         Reply::Sessions(_) => "sessions ",
+        Reply::Catalogue(_) => "catalogue ",
+        Reply::Edition(_) => "edition ",
+        Reply::MasterRow(_) => "row ",
+        Reply::Region(_) => "region ",
         Reply::Refused(_) => "refused ",
     }
 }

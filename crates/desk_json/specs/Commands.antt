@@ -29,6 +29,7 @@ use Rattle.desk_json.specs.declared.route.Route.TheVariants.{AddClerk, AddSchema
 use Rattle.desk_json.specs.declared.route.Route.TheVariants.{AddRegion, Enter, Confirm, Withdraw, Commit, Abandon}
 use Rattle.desk_json.specs.declared.route.Route.TheVariants.{Batch, View, Suggest, Preview, Report, Records, DeskReport}
 use Rattle.desk_json.specs.declared.route.Route.TheVariants.{Explain, DeskDerive, AddDerived, SeeCarry, Carry, Sessions}
+use Rattle.desk_json.specs.declared.route.Route.TheVariants.{DeskPublished, DeskEdition, DeskRow, DeskRegion}
 
 -- who asks for what, or the first fault of the body
 pub data Asked : Type 0 where
@@ -64,6 +65,10 @@ asked_in (SeeCarry clerk session version) body = seen_by clerk (Ok (looks.Carry 
 asked_in (Sessions clerk from) body = seen_by clerk (Ok (looks.Sessions from))
 asked_in DeskReport body = at_desk (Ok desk_looks.Report)
 asked_in (DeskDerive edition version) body = at_desk (desk_derive edition version body)
+asked_in DeskPublished body = at_desk (Ok desk_looks.Published)
+asked_in (DeskEdition edition version) body = at_desk (Ok (desk_looks.Edition edition version))
+asked_in (DeskRow master version row) body = at_desk (Ok (desk_looks.Row master version row))
+asked_in (DeskRegion edition version region) body = at_desk (Ok (desk_looks.Region edition version region))
 
 -- the command that is asked for, where a write has this digest
 abbrev pub command_by : Digest → Asked → Checked Command

@@ -6,6 +6,7 @@ pub mod Commands
 pub mod Words
 pub mod Viewed
 pub mod Carried
+pub mod Published
 pub mod Replies
 pub mod Refusals
 pub mod Faults

@@ -15,7 +15,8 @@ use Rattle.desk_words.specs.declared.report.SessionPage.{SessionPage}
 use Rattle.desk_json.specs.Carried.{carried_shown}
 use Rattle.desk_json.specs.Refusals.{refusal_shown}
 use Rattle.json_parts.specs.Shapes.{list_of, object_of, or_null, whole}
-use Rattle.desk_json.specs.Viewed.{run_shown, view_shown}
+use Rattle.desk_json.specs.Published.{catalogue_shown, edition_shown, master_row_shown, region_sheet_shown}
+use Rattle.desk_json.specs.Viewed.{number_shown, run_shown, view_shown}
 use Rattle.desk_json.specs.Words.{kind_word, stage_word}
 
 -- a clerk
@@ -66,14 +67,10 @@ batched_shown batch = object_of (
 abbrev pub offer_shown : ℕ × ℕ → Data
 offer_shown offer = list_of (whole offer.0 ∷ whole offer.1 ∷ [])
 
--- an attribute with its gain: `[name,gain]`
-abbrev pub gain_shown : List ℕ × ℕ → Data
-gain_shown gain = list_of (string gain.0 ∷ whole gain.1 ∷ [])
-
 -- a suggestion
 abbrev pub suggested_shown : Suggested → Data
 suggested_shown suggested = object_of (
-    (codes "gains", list_of (map gain_shown suggested.gains))
+    (codes "gains", list_of (map number_shown suggested.gains))
     ∷ (codes "need", list_of (map string suggested.need))
     ∷ (codes "regions", list_of (map offer_shown suggested.regions))
     ∷ [])
@@ -112,4 +109,8 @@ reply_shown (replies.Explained explained) = Some (explained_shown explained)
 reply_shown (replies.Derived sheet) = None
 reply_shown (replies.Carried carried) = Some (carried_shown carried)
 reply_shown (replies.Sessions page) = Some (page_shown page)
+reply_shown (replies.Catalogue catalogue) = Some (catalogue_shown catalogue)
+reply_shown (replies.Edition sheet) = Some (edition_shown sheet)
+reply_shown (replies.MasterRow sheet) = Some (master_row_shown sheet)
+reply_shown (replies.Region sheet) = Some (region_sheet_shown sheet)
 reply_shown (replies.Refused refusal) = Some (refusal_shown refusal)

@@ -10,13 +10,13 @@ use Rattle.desk_words.specs.declared.view.ViewCell.{ViewCell}
 use Rattle.json_parts.specs.Shapes.{list_of, object_of, or_null, whole}
 use Rattle.desk_json.specs.Words.{stage_word}
 
--- a step: `[rule,row]`, by the name of the rule
-abbrev pub step_shown : List ℕ × ℕ → Data
-step_shown step = list_of (string step.0 ∷ whole step.1 ∷ [])
+-- a name with its number: `[name,number]`
+abbrev pub number_shown : List ℕ × ℕ → Data
+number_shown named = list_of (string named.0 ∷ whole named.1 ∷ [])
 
 -- a run
 abbrev pub run_shown : List (List ℕ × ℕ) → Data
-run_shown run = list_of (map step_shown run)
+run_shown run = list_of (map number_shown run)
 
 -- an attribute with its value, which no rule fixes: `[name,value,word]`
 abbrev pub plain_shown : ViewCell → List ℕ → Data
@@ -47,7 +47,7 @@ fix_shown session certain dissent = object_of (
     (codes "answer", string (codes "fix"))
     ∷ (codes "cells", cells_shown session.cells)
     ∷ (codes "certain", boolean certain)
-    ∷ (codes "dissent", or_null step_shown dissent)
+    ∷ (codes "dissent", or_null number_shown dissent)
     ∷ (codes "edition", string session.edition)
     ∷ (codes "first", run_shown session.first)
     ∷ (codes "session", whole session.session)

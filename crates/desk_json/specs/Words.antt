@@ -5,11 +5,13 @@ use Rattle.desk_words.specs.declared.limit.Which.TheVariants.{Clerks, Schemas, M
 use Rattle.desk_words.specs.declared.limit.Which.TheVariants.{EditionMasters, Editions, RegionRows, Regions}
 use Rattle.desk_words.specs.declared.limit.Which.TheVariants.{ActiveSessions, Sessions, Bytes, BatchRows, Batches}
 use Rattle.desk_words.specs.declared.refusal.Kind.{Kind}
-use Rattle.desk_words.specs.declared.refusal.Kind.TheVariants.{Schema, Master, Rulebook, Edition, Session}
+use Rattle.desk_words.specs.declared.refusal.Kind.TheVariants as kind
 use Rattle.desk_words.specs.declared.refusal.Reader.{Reader}
 use Rattle.desk_words.specs.declared.refusal.Reader.TheVariants as readers
 use Rattle.desk_words.specs.declared.rows.session.Stage.{Stage}
 use Rattle.desk_words.specs.declared.rows.session.Stage.TheVariants.{Active, Committed, Abandoned}
+use Rattle.fix_model.specs.declared.region.RowVerdict.{RowVerdict}
+use Rattle.fix_model.specs.declared.region.RowVerdict.TheVariants.{Certain, Partial, Conflict}
 
 -- the stage of a session
 abbrev pub stage_word : Stage → List ℕ
@@ -19,11 +21,19 @@ stage_word Abandoned = codes "abandoned"
 
 -- what is not there
 abbrev pub kind_word : Kind → List ℕ
-kind_word Schema = codes "schema"
-kind_word Master = codes "master"
-kind_word Rulebook = codes "rulebook"
-kind_word Edition = codes "edition"
-kind_word Session = codes "session"
+kind_word kind.Schema = codes "schema"
+kind_word kind.Master = codes "master"
+kind_word kind.Rulebook = codes "rulebook"
+kind_word kind.Edition = codes "edition"
+kind_word kind.Session = codes "session"
+kind_word kind.Region = codes "region"
+kind_word kind.Row = codes "row"
+
+-- the verdict on a row of a region
+abbrev pub verdict_word : RowVerdict → List ℕ
+verdict_word Certain = codes "certain"
+verdict_word Partial = codes "partial"
+verdict_word Conflict = codes "conflict"
 
 -- what a limit counts
 abbrev pub limit_word : Which → List ℕ

@@ -1,5 +1,6 @@
 //! The command that a route and a body are.
 ghost use Rattle.std.specs.Prelude.{◌≡◌, ◌≢◌, Ok, Err, IfOk, IfErr};
+ghost use Rattle.desk_words.specs.declared.desk_look.DeskLook.TheVariants as desk_looks;
 ghost use Rattle.desk_words.specs.declared.look.Look.TheVariants as looks;
 ghost use Rattle.desk_words.specs.declared.command.Command.TheVariants as commands;
 ghost use Rattle.desk_json.specs.Commands.{command_in};
@@ -108,6 +109,20 @@ pub fn command_of(
         Route::DeskDerive { edition, version } => {
             Ok(Command::Desk(desk_derive(alloc, edition, *version, body)?))
         }
+        Route::DeskPublished => Ok(Command::Desk(DeskLook::Published)),
+        Route::DeskEdition { edition, version } => {
+            Ok(Command::Desk(desk_edition(edition, *version)?))
+        }
+        Route::DeskRow {
+            master,
+            version,
+            row,
+        } => Ok(Command::Desk(desk_row(master, *version, *row)?)),
+        Route::DeskRegion {
+            edition,
+            version,
+            region,
+        } => Ok(Command::Desk(desk_region(edition, *version, *region)?)),
     }
 }
 
@@ -161,4 +176,36 @@ fn carry_seen(session: u32, version: u32) -> Look
     ensures { result ≡ looks.Carry session version }
 {
     Look::Carry { session, version }
+}
+
+/// A look at an edition.
+fn desk_edition(edition: &Str, version: u32) -> Result<DeskLook, NoMemory>
+    ensures { IfOk result (λ look. look ≡ desk_looks.Edition edition.now version) }
+{
+    Ok(DeskLook::Edition {
+        edition: edition.copy()?,
+        version,
+    })
+}
+
+/// A look at a row of a master.
+fn desk_row(master: &Str, version: u32, row: u32) -> Result<DeskLook, NoMemory>
+    ensures { IfOk result (λ look. look ≡ desk_looks.Row master.now version row) }
+{
+    Ok(DeskLook::Row {
+        master: master.copy()?,
+        version,
+        row,
+    })
+}
+
+/// A look at a region.
+fn desk_region(edition: &Str, version: u32, region: u32) -> Result<DeskLook, NoMemory>
+    ensures { IfOk result (λ look. look ≡ desk_looks.Region edition.now version region) }
+{
+    Ok(DeskLook::Region {
+        edition: edition.copy()?,
+        version,
+        region,
+    })
 }

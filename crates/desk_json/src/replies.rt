@@ -43,6 +43,10 @@ pub fn text_of(alloc: Global, reply: &Reply) -> Result<List<u8>, NoMemory>
         Reply::Explained(explained) => text(alloc, explained),
         Reply::Carried(carried) => text(alloc, carried),
         Reply::Sessions(page) => text(alloc, page),
+        Reply::Catalogue(catalogue) => text(alloc, catalogue),
+        Reply::Edition(sheet) => text(alloc, sheet),
+        Reply::MasterRow(sheet) => text(alloc, sheet),
+        Reply::Region(sheet) => text(alloc, sheet),
         Reply::Refused(refusal) => text(alloc, refusal),
         Reply::Report(_) | Reply::Records(_) | Reply::Derived(_) => unreachable!(),
     }

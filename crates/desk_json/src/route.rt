@@ -109,4 +109,19 @@ pub enum Route {
         clerk: Str,
         from: u32,
     },
+    DeskPublished,
+    DeskEdition {
+        edition: Str,
+        version: u32,
+    },
+    DeskRow {
+        master: Str,
+        version: u32,
+        row: u32,
+    },
+    DeskRegion {
+        edition: Str,
+        version: u32,
+        region: u32,
+    },
 }

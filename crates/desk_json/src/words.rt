@@ -1,10 +1,11 @@
 //! The words that replies and refusals have for stages, kinds, limits and readers.
 ghost use Rattle.std.specs.Prelude.{◌≡◌};
 ghost use Rattle.serde_json.specs.Data.{string};
-ghost use Rattle.desk_json.specs.Words.{kind_word, limit_word, reader_word, stage_word};
+ghost use Rattle.desk_json.specs.Words.{kind_word, limit_word, reader_word, stage_word, verdict_word};
 
 use crate::shown::Show;
 use desk_words::{Kind, Reader, Stage, Which};
+use fix_model::RowVerdict;
 use json_parts::JsonText;
 use std::alloc::AllocError;
 
@@ -21,6 +22,14 @@ impl Show for Kind {
 
     fn show(&self, out: &mut JsonText) -> Result<(), AllocError> {
         out.string(kind_word(*self))
+    }
+}
+
+impl Show for RowVerdict {
+    ghost shown = { λ verdict. string (verdict_word verdict) };
+
+    fn show(&self, out: &mut JsonText) -> Result<(), AllocError> {
+        out.string(verdict_word(*self))
     }
 }
 
@@ -59,6 +68,18 @@ fn kind_word(kind: Kind) -> &'static str
         Kind::Rulebook => "rulebook",
         Kind::Edition => "edition",
         Kind::Session => "session",
+        Kind::Region => "region",
+        Kind::Row => "row",
+    }
+}
+
+fn verdict_word(verdict: RowVerdict) -> &'static str
+    ensures { result.now ≡ verdict_word verdict }
+{
+    match verdict {
+        RowVerdict::Certain => "certain",
+        RowVerdict::Partial => "partial",
+        RowVerdict::Conflict => "conflict",
     }
 }
 

@@ -30,7 +30,7 @@ use Rattle.desk_valid.proofs.Named.{AreMasters-whole, rules_at-sound}
 use Rattle.desk_valid.proofs.Unrowed.{bound-parts}
 
 -- what is there is a value
-value-from : {A : Type 0} (found : Option A) → is_some found ≡ true → (value : A) × (found ≡ Some value)
+pub value-from : {A : Type 0} (found : Option A) → is_some found ≡ true → (value : A) × (found ≡ Some value)
 value-from None there = absurd (cc)
 value-from (Some value) there = (value, refl)
 

@@ -34,6 +34,6 @@ pub use checking::valid;
 pub use damage::{Bad, Damage};
 pub use lists::own_list;
 pub use parts::Parts;
-pub use published::{masters_of, rules_of, schema_of};
+pub use published::{master_of, masters_of, rules_of, schema_of};
 pub use reading::Rules;
 pub use versions::Versioned;

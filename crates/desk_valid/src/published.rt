@@ -1,5 +1,6 @@
 //! What was published in valid tables, as it reads.
 ghost use Rattle.std.specs.Prelude.{◌≡◌, ◌<◌, ◌≤◌, All, length, map, Some, IfOk, OnOk};
+ghost use Rattle.master_rows.specs.Master.{IsMaster};
 ghost use Rattle.desk_base.specs.declared.limits.TheConstants.{MAX_MASTERS};
 ghost use Rattle.desk_words.specs.Tables.{published_of, rows_of};
 ghost use Rattle.rule_text.specs.Binding.{AreMasters};
@@ -10,8 +11,8 @@ ghost use Rattle.desk_valid.specs.Rows.Edition.{AreNamedApart};
 ghost use Rattle.desk_valid.specs.Valid.{AreValid};
 
 use crate::parts::{masters_at, rules_at};
-use crate::reading::{Rules, schema_in};
-use desk_base::{List, NoMemory, Text};
+use crate::reading::{Rules, schema_in, sheet_in};
+use desk_base::{Duplicate, List, NoMemory, Text};
 use desk_words::Tables;
 use master_rows::Master;
 use schema_core::Schema;
@@ -45,6 +46,21 @@ pub fn rules_of(alloc: Global, tables: &Tables, place: u32) -> Result<Rules, NoM
         unreachable!()
     };
     Ok(rules)
+}
+
+/// The master at a place, counted from 0, under its name.
+pub fn master_of(alloc: Global, tables: &Tables, place: u32) -> Result<(Text, Master), NoMemory>
+    requires valid { AreValid (rows_of tables.now) }
+    requires place { place < length tables.now.masters.items }
+    ensures master { IfOk result (λ named. master_at (published_of (rows_of tables.now)) place ≡ Some named) }
+    ensures sound { IfOk result (λ named. IsMaster named.1) }
+{
+    let row = &tables.masters.as_slice()[place as usize];
+    let Some(master) = sheet_in(alloc, row)? else {
+        // In valid tables a master reads.
+        unreachable!()
+    };
+    Ok((row.name.copy()?, master))
 }
 
 /// The masters at these places, counted from 0, under their names.

@@ -13,4 +13,23 @@ pub enum DeskLook {
         master: Str,
         pairs: List<(Str, Str)>,
     },
+    /// What stands, by its names.
+    Published,
+    /// What a version of an edition was made of.
+    Edition {
+        edition: Str,
+        version: u32,
+    },
+    /// A row of a version of a master, counted from 1.
+    Row {
+        master: Str,
+        version: u32,
+        row: u32,
+    },
+    /// A region of a version of an edition, counted from 1 among those of the edition.
+    Region {
+        edition: Str,
+        version: u32,
+        region: u32,
+    },
 }

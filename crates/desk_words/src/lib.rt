@@ -14,6 +14,7 @@ pub mod laws;
 mod limit;
 mod look;
 mod made;
+mod published;
 mod refusal;
 mod reply;
 mod report;
@@ -29,6 +30,7 @@ pub use desk_look::DeskLook;
 pub use limit::Which;
 pub use look::Look;
 pub use made::{Batched, Made};
+pub use published::{Catalogue, EditionSheet, MasterRowSheet, RegionSheet, RuleSummary};
 pub use refusal::{Kind, Reader, Refusal};
 pub use reply::{Carried, DerivedSheet, Explained, Reply, Suggested};
 pub use report::{

@@ -11,6 +11,8 @@ pub enum Kind {
     Rulebook,
     Edition,
     Session,
+    Region,
+    Row,
 }
 
 /// Which reader refuses a body.

@@ -1,5 +1,6 @@
 //! What is answered.
 use crate::made::{Batched, Made};
+use crate::published::{Catalogue, EditionSheet, MasterRowSheet, RegionSheet};
 use crate::refusal::Refusal;
 use crate::report::{RecordSheet, ReportSheet, SessionPage};
 use crate::view::View;
@@ -69,5 +70,9 @@ pub enum Reply {
     Derived(DerivedSheet),
     Carried(Carried),
     Sessions(SessionPage),
+    Catalogue(Catalogue),
+    Edition(EditionSheet),
+    MasterRow(MasterRowSheet),
+    Region(RegionSheet),
     Refused(Refusal),
 }

@@ -68,10 +68,14 @@ pub enum LookRoute {
 pub enum DeskRoute {
     DeskReport,
     DeskDerive,
+    DeskPublished,
+    DeskEdition,
+    DeskRow,
+    DeskRegion,
 }
 
 /// The table: each pattern with what it asks for (`docs/formats.md`, *Routes*).
-pub const PATTERNS: [(&str, Route); 24] = [
+pub const PATTERNS: [(&str, Route); 28] = [
     (
         "/steward/{n}/clerks",
         Route::Steward(StewardRoute::AddClerk),
@@ -159,6 +163,19 @@ pub const PATTERNS: [(&str, Route); 24] = [
         Route::Desk(DeskRoute::DeskDerive),
     ),
     ("/see/{clerk}/list/{from}", Route::Look(LookRoute::Sessions)),
+    ("/desk/published", Route::Desk(DeskRoute::DeskPublished)),
+    (
+        "/desk/editions/{edition}/{version}",
+        Route::Desk(DeskRoute::DeskEdition),
+    ),
+    (
+        "/desk/rows/{master}/{version}/{row}",
+        Route::Desk(DeskRoute::DeskRow),
+    ),
+    (
+        "/desk/regions/{edition}/{version}/{region}",
+        Route::Desk(DeskRoute::DeskRegion),
+    ),
 ];
 
 /// The parameters of patterns that are numbers, each with the most digits that it has.

@@ -18,6 +18,7 @@ use Rattle.desk_json.specs.declared.route.Route.TheVariants.{AddClerk, AddSchema
 use Rattle.desk_json.specs.declared.route.Route.TheVariants.{AddRegion, Enter, Confirm, Withdraw, Commit, Abandon}
 use Rattle.desk_json.specs.declared.route.Route.TheVariants.{Batch, View, Suggest, Preview, Report, Records, DeskReport}
 use Rattle.desk_json.specs.declared.route.Route.TheVariants.{Explain, DeskDerive, AddDerived, SeeCarry, Carry, Sessions}
+use Rattle.desk_json.specs.declared.route.Route.TheVariants.{DeskPublished, DeskEdition, DeskRow, DeskRegion}
 use Rattle.desk_json.specs.Checked.{◌>>=◌}
 use Rattle.http_desk.specs.Checked.{Checked, or_no_route}
 
@@ -87,6 +88,18 @@ session = numeral NUMBER_DIGITS (codes "session")
 abbrev pub from : Parameter
 from = numeral NUMBER_DIGITS (codes "from")
 
+-- the master that it is about
+abbrev pub master : Parameter
+master = text (codes "master")
+
+-- the row of the master that it is about
+abbrev pub row : Parameter
+row = numeral NUMBER_DIGITS (codes "row")
+
+-- the region of the edition that it is about
+abbrev pub region : Parameter
+region = numeral NUMBER_DIGITS (codes "region")
+
 -- the number of a write
 abbrev pub write_in : Parts → Checked ℕ
 write_in = read_at n
@@ -148,6 +161,10 @@ look_form caller of_look.Sessions = form (from ∷ []) (Sessions caller)
 abbrev pub desk_form : DeskRoute → Form
 desk_form of_desk.DeskReport = form [] DeskReport
 desk_form of_desk.DeskDerive = form (edition ∷ version ∷ []) DeskDerive
+desk_form of_desk.DeskPublished = form [] DeskPublished
+desk_form of_desk.DeskEdition = form (edition ∷ version ∷ []) DeskEdition
+desk_form of_desk.DeskRow = form (master ∷ version ∷ row ∷ []) DeskRow
+desk_form of_desk.DeskRegion = form (edition ∷ version ∷ region ∷ []) DeskRegion
 
 -- the route that a target asks for, with its parameters
 abbrev pub route_in : Target → Parts → Checked Route

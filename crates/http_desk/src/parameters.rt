@@ -174,6 +174,21 @@ fn desk_route(
             edition: text_at(alloc, found, "edition")?,
             version: number_at(found, "version")?,
         }),
+        DeskRoute::DeskPublished => Ok(Route::DeskPublished),
+        DeskRoute::DeskEdition => Ok(Route::DeskEdition {
+            edition: text_at(alloc, found, "edition")?,
+            version: number_at(found, "version")?,
+        }),
+        DeskRoute::DeskRow => Ok(Route::DeskRow {
+            master: text_at(alloc, found, "master")?,
+            version: number_at(found, "version")?,
+            row: number_at(found, "row")?,
+        }),
+        DeskRoute::DeskRegion => Ok(Route::DeskRegion {
+            edition: text_at(alloc, found, "edition")?,
+            version: number_at(found, "version")?,
+            region: number_at(found, "region")?,
+        }),
     }
 }
 

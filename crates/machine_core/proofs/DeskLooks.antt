@@ -10,6 +10,10 @@ use Rattle.machine_core.specs.Checked.{Gives}
 use Rattle.machine_core.specs.Content.{Content, advises, content_of, derives, plain, records, refuses, shows}
 use Rattle.machine_core.specs.Deriving.{derived_sheet}
 use Rattle.machine_core.specs.DeskLook.{desk_reply}
+use Rattle.machine_core.specs.DeskLook.Edition.{edition_shown}
+use Rattle.machine_core.specs.DeskLook.Published.{catalogue}
+use Rattle.machine_core.specs.DeskLook.Region.{region_shown}
+use Rattle.machine_core.specs.DeskLook.Row.{row_shown}
 use Rattle.machine_core.specs.Look.Report.{report_of}
 use Rattle.machine_core.proofs.Looks.{told-each}
 
@@ -34,3 +38,13 @@ desk-found rows (look.Derive edition version master pairs) =
     told-each (derived_sheet (published_of rows) edition version master pairs) reply.Derived
     (λ answer. DeskFound rows (look.Derive edition version master pairs) (content_of answer))
     (λ sheet given. (edition, version, master, pairs, refl, given))
+desk-found rows look.Published = told-each (catalogue rows) reply.Catalogue
+    (λ answer. DeskFound rows look.Published (content_of answer)) (λ names given. tt)
+desk-found rows (look.Edition edition version) = told-each (edition_shown (published_of rows) edition version)
+    reply.Edition (λ answer. DeskFound rows (look.Edition edition version) (content_of answer)) (λ sheet given. tt)
+desk-found rows (look.Row master version number) = told-each (row_shown (published_of rows) master version number)
+    reply.MasterRow (λ answer. DeskFound rows (look.Row master version number) (content_of answer))
+    (λ sheet given. tt)
+desk-found rows (look.Region edition version number) =
+    told-each (region_shown (published_of rows) edition version number) reply.Region
+    (λ answer. DeskFound rows (look.Region edition version number) (content_of answer)) (λ sheet given. tt)

@@ -25,7 +25,7 @@ words-bound published edition words is =
     option_map-Some (λ bound. bound.names.attributes) (bound_at published edition) words is
 
 -- the rules of an edition's parts are those that its row names
-parts-rules : (published : Published) (row : EditionRow) (parts : Parts) → parts_of published row ≡ Some parts
+pub parts-rules : (published : Published) (row : EditionRow) (parts : Parts) → parts_of published row ≡ Some parts
     → rules_at published row.rulebook ≡ Some parts.rules
 parts-rules published row parts is =
     let whole : Rules → Option Parts = λ rules. option_map (λ masters. record { rules = rules; masters = masters })

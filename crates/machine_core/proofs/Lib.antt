@@ -13,6 +13,7 @@ pub mod Masters
 pub mod FullRows
 pub mod Widths
 pub mod EditionWords
+pub mod Editions
 pub mod EditionRows
 pub mod GoodRows
 pub mod Placing

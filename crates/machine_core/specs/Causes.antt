@@ -30,7 +30,7 @@ use Rattle.desk_words.specs.declared.steward_work.StewardWork.TheVariants.{AddEd
 use Rattle.desk_words.specs.Tables.{Rows, published_of}
 use Rattle.desk_valid.specs.declared.bound.Bound.{Bound}
 use Rattle.desk_valid.specs.Bindings.{binding, bound_at, parts_of}
-use Rattle.desk_valid.specs.Readings.{all_of, rules_at, schema_at}
+use Rattle.desk_valid.specs.Readings.{all_of, master_at, rules_at, schema_at}
 use Rattle.desk_valid.specs.Tallies.{active_count, bytes_in, cell_count, master_cells, text_bytes, typed_bytes}
 use Rattle.fix_engine.specs.declared.verdict.Verdict.TheVariants.{Conflict}
 use Rattle.fix_explain.specs.Reasons.{IsFixed}
@@ -58,12 +58,13 @@ use Rattle.machine_core.specs.Clerk.Enter.{typed_over}
 use Rattle.machine_core.specs.Deriving.{master_of}
 use Rattle.machine_core.specs.Faults.{bind_refusal, rules_refusal, schema_refusal, sheet_refusal}
 use Rattle.machine_core.specs.Finding.{edition_named, master_named, newest_edition, rulebook_named, schema_named}
-use Rattle.machine_core.specs.Finding.{session_at}
+use Rattle.machine_core.specs.Finding.{numbered, session_at}
 use Rattle.machine_core.specs.Limits.{limit_of}
+use Rattle.machine_core.specs.Look.Suggest.{regions_of}
 use Rattle.machine_core.specs.Machine.{clerk_of}
 use Rattle.machine_core.specs.Named.{GivesText, attributes_in, carried_in, clerk_in, columns_in, edition_in, master_in}
-use Rattle.machine_core.specs.Named.{masters_in, new_name_in, reason_in, rulebook_in, schema_in, session_in}
-use Rattle.machine_core.specs.Named.{version_in}
+use Rattle.machine_core.specs.Named.{masters_in, new_name_in, reason_in, region_in, row_in, rulebook_in, schema_in}
+use Rattle.machine_core.specs.Named.{session_in, version_in}
 use Rattle.machine_core.specs.Own.{Own, own_of}
 use Rattle.machine_core.specs.Steward.AddEdition.{master_name}
 use Rattle.machine_core.specs.Steward.AddRegion.{region_count}
@@ -307,6 +308,15 @@ Cause rows command (NoSuch kind.Edition) =
 Cause rows command (NoSuch kind.Session) =
     (own : Own) × (number : ℕ) × AsksWith rows command own × (session_in command ≡ Some number)
     × (session_at own.sessions number ≡ None)
+Cause rows command (NoSuch kind.Region) =
+    (version : List ℕ × ℕ) × (edition : ℕ) × (number : ℕ) × (version_in command ≡ Some version)
+    × (edition_named rows.editions version.0 version.1 ≡ Some edition) × (region_in command ≡ Some number)
+    × (numbered (regions_of rows.regions edition) number ≡ None)
+Cause rows command (NoSuch kind.Row) =
+    (version : List ℕ × ℕ) × (place : ℕ) × (master : List ℕ × Master) × (number : ℕ)
+    × Contains (masters_in command) version × (master_named rows.masters version.0 version.1 ≡ Some place)
+    × (master_at (published_of rows) place ≡ Some master) × (row_in command ≡ Some number)
+    × (numbered master.1.grid.rows number ≡ None)
 Cause rows command (Closed stage) =
     (session : SessionRow) × Names rows command session × (session.stage ≡ stage) × (stage ≢ Active)
 Cause rows command (UnknownAttr word) =

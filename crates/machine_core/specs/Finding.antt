@@ -44,6 +44,10 @@ edition_named editions name version = place_of (λ row. row.name) (λ row. row.v
 abbrev pub newest_edition : List EditionRow → List ℕ → Option ℕ
 newest_edition editions name = newest_of (λ row. row.name) (λ row. row.version) editions name
 
--- the session with this number, counted from 1
+-- the item with this number, counted from 1
+abbrev pub numbered : {T : Type 0} → List T → ℕ → Option T
+numbered items number = if number == 0 then None else slice_get items (number - 1)
+
+-- the session with this number
 abbrev pub session_at : List SessionRow → ℕ → Option SessionRow
-session_at sessions number = if number == 0 then None else slice_get sessions (number - 1)
+session_at sessions number = numbered sessions number

@@ -1,5 +1,6 @@
 -- What a command names.
 use Rattle.std.specs.Prelude.{ℕ, List, [], ◌++◌, Contains, map, zip, Option, Some, None, Result, Ok, Err}
+use Rattle.std.specs.Option.{option_to_list}
 use Rattle.desk_words.specs.declared.clerk_work.ClerkWork.TheVariants.{Enter, Confirm, Withdraw, Commit, Abandon, Batch}
 use Rattle.desk_words.specs.declared.clerk_work.ClerkWork.TheVariants.{Carry}
 use Rattle.desk_words.specs.declared.command.Command.{Command}
@@ -74,6 +75,7 @@ attributes_in _ = []
 -- masters, by their names and versions
 abbrev pub masters_in : Command → List (List ℕ × ℕ)
 masters_in (Steward ticket (AddEdition name rulebook masters folded)) = masters
+masters_in (Desk look) = option_to_list (desk_named_by look).sheet
 masters_in _ = []
 
 -- one of the masters of an edition, by its name
@@ -87,6 +89,16 @@ abbrev pub columns_in : Command → List (List ℕ)
 columns_in (Steward ticket (AddDerived edition version master pairs from)) = map (λ pair. pair.1) pairs
 columns_in (Desk look) = map (λ pair. pair.1) (desk_named_by look).pairs
 columns_in _ = []
+
+-- a region of the edition, by its number among those of the edition
+abbrev pub region_in : Command → Option ℕ
+region_in (Desk look) = (desk_named_by look).region
+region_in _ = None
+
+-- a row of a master, by its number
+abbrev pub row_in : Command → Option ℕ
+row_in (Desk look) = (desk_named_by look).row
+row_in _ = None
 
 -- the version to which a session is to be carried, or might be
 abbrev pub carried_in : Command → Option ℕ

@@ -5,6 +5,7 @@ use Rattle.std.specs.Prelude.{◌==◌, All, Ok, find, option_and_then, option_m
 use Rattle.std.specs.Str.{bytes_eq}
 use Rattle.std.proofs.lemmas.List.Elements.{All-cons, All-nil}
 use Rattle.master_rows.specs.declared.master.Master.{Master}
+use Rattle.fix_model.specs.declared.region.Region.{Region}
 use Rattle.fix_model.specs.Regions.{row_state}
 use Rattle.fix_engine.proofs.Lists.{All-Contains}
 use Rattle.fix_engine.proofs.Rows.{Fits-row}
@@ -27,11 +28,12 @@ use Rattle.desk_valid.specs.Bindings.{bound_at, parts_of}
 use Rattle.desk_valid.specs.Readings.{all_of, master_at, rules_at, schema_at, schema_in}
 use Rattle.desk_valid.specs.Valid.{AreValid}
 use Rattle.desk_valid.proofs.Kits.{masters-read, rules-read}
-use Rattle.machine_core.specs.Checked.{certainly, each_behind, Gives}
+use Rattle.machine_core.specs.Checked.{certainly, each_behind, Gives, some_or}
+use Rattle.machine_core.specs.DeskLook.Region.{row_answers}
 use Rattle.machine_core.specs.declared.derivation.Derivation.{Derivation}
 use Rattle.machine_core.specs.Deriving.{another_master_column, another_pair, derivation_of, derived_rows}
 use Rattle.machine_core.specs.Deriving.{derived_sheet, master_of}
-use Rattle.machine_core.specs.Finding.{edition_named, rulebook_named, schema_named}
+use Rattle.machine_core.specs.Finding.{edition_named, master_named, rulebook_named, schema_named}
 use Rattle.machine_core.specs.Kept.{kept_made, region_made}
 use Rattle.machine_core.specs.Machine.{making_of}
 use Rattle.machine_core.specs.Steward.AddEdition.{AreOthers, another_master, bindable, in_order, master_name, narrow}
@@ -106,8 +108,17 @@ module _ (rows : Rows) (valid : AreValid rows) where
       outcome-certainly (schema_at (published_of rows) place) good.schema
       (ap (option_and_then schema_in) row.1 ∙ good.reads)
 
+  -- a master that was found by its name and version stands
+  pub master-within : (name : List ℕ) (version place : ℕ)
+      → Gives (some_or (master_named rows.masters name version) (NoSuch kind.Master)) (Ok place)
+      → place < length rows.masters
+  master-within name version place gives =
+      let past : MasterRow = record { name = []; version = 0; body = [] } in
+      place_of-within (λ row. row.name) (λ row. row.version) rows.masters name version place past
+      (some_or-ok (master_named rows.masters name version) (NoSuch kind.Master) place gives)
+
   -- and so does a master
-  master-there : (place : ℕ) → place < length rows.masters
+  pub master-there : (place : ℕ) → place < length rows.masters
       → HasOutcome (certainly (master_at (published_of rows) place))
   master-there place within =
       let Within : ℕ → Type 0 = λ one. one < length rows.masters in
@@ -151,15 +162,19 @@ module _ (rows : Rows) (valid : AreValid rows) where
       }) gives in
       others.stand
 
+  -- the rows of a region of an edition
+  pub outcome-rows_of : (place : ℕ) (bound : Bound) (region : Region) → bound_at (published_of rows) place ≡ Some bound
+      → HasOutcome (row_answers bound.kit region)
+  outcome-rows_of place bound region binds = outcome-all _ region.rows (λ texts. outcome-answer bound.kit
+      (row_state bound.kit.width region.attrs texts) (named-kit rows place bound valid binds).valid
+      (Fits-row bound.kit region.attrs texts))
+
   -- a region that stands
   outcome-region : (place : ℕ) (row : RegionRow) → row.edition < length rows.editions
       → HasOutcome (region_made (published_of rows) place row)
   outcome-region place row within = outcome-bind (outcome-bound rows valid row.edition within) (λ bound binds.
-      outcome-bind (outcome-all _ row.region.rows (λ texts. outcome-answer bound.kit
-      (row_state bound.kit.width row.region.attrs texts)
-      (named-kit rows row.edition bound valid
-      (certainly-ok (bound_at (published_of rows) row.edition) bound binds)).valid
-      (Fits-row bound.kit row.region.attrs texts))) (λ answers ok. outcome-done _))
+      outcome-bind (outcome-rows_of row.edition bound row.region
+      (certainly-ok (bound_at (published_of rows) row.edition) bound binds)) (λ answers ok. outcome-done _))
 
   -- a master of an edition by its name
   outcome-master_of : (edition : ℕ) (bound : Bound) (name : List ℕ) → bound_at (published_of rows) edition ≡ Some bound

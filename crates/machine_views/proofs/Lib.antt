@@ -5,6 +5,7 @@ pub mod Keeping
 pub mod Advising
 pub mod Making
 pub mod Numbered
+pub mod Publishing
 pub mod Recording
 pub mod Reporting
 pub mod Few

@@ -1,5 +1,5 @@
 -- Sessions and rows, counted by the verdicts on them.
-use Rattle.std.specs.Prelude.{◌≡◌, ℕ, ◌+◌, ◌≤◌, List, count_by, Ok, if◌then◌else◌}
+use Rattle.std.specs.Prelude.{◌≡◌, ℕ, ◌+◌, ◌≤◌, List, count_by, map, Ok, if◌then◌else◌}
 use Rattle.desk_words.specs.declared.made.Batched.{Batched}
 use Rattle.desk_words.specs.declared.rows.batch.BatchRow.{BatchRow}
 use Rattle.desk_words.specs.declared.rows.session.SessionRow.{SessionRow}
@@ -7,8 +7,10 @@ use Rattle.desk_words.specs.Tables.{Published}
 use Rattle.fix_engine.specs.declared.verdict.Verdict.{Verdict}
 use Rattle.fix_engine.specs.declared.verdict.Verdict.TheVariants.{Fix, Conflict}
 use Rattle.fix_model.specs.declared.kit.Kit.{Kit}
+use Rattle.fix_model.specs.declared.region.RowVerdict.{RowVerdict}
 use Rattle.fix_model.specs.Regions.{row_state}
-use Rattle.machine_core.specs.Checked.{Checked, answer_for, each, Gives}
+use Rattle.machine_core.specs.Checked.{Answer, Checked, answer_for, each, Gives}
+use Rattle.machine_core.specs.DeskLook.Region.{row_verdict}
 use Rattle.machine_core.specs.Look.Report.{Assessment, assessment_of, is_certain_fix, is_conflict, is_partial_fix}
 use Rattle.machine_views.specs.declared.answers.Answered.{Answered}
 use Rattle.machine_views.specs.declared.counting.Verdicts.{Verdicts}
@@ -52,6 +54,13 @@ AreSessionVerdicts published = AreCounted (assessment_of published) (λ one. one
 abbrev pub AreRowVerdicts : Kit → List ℕ → List (List (List ℕ)) → Verdicts → Type 0
 AreRowVerdicts kit attributes =
     AreCounted (λ texts. answer_for kit (row_state kit.width attributes texts)) (λ one. one.verdict)
+
+-- the verdicts on rows of texts for some attributes, by their names in the rows' order
+pub record AreVerdictsOn (kit : Kit) (attributes : List ℕ) (rows : List (List (List ℕ))) (verdicts : List RowVerdict)
+    : Type 0 where
+  pub all : List Answer
+  pub given : Gives (each (λ texts. answer_for kit (row_state kit.width attributes texts)) rows) (Ok all)
+  pub named : verdicts ≡ map (λ answer. row_verdict answer.verdict) all
 
 -- what is told of a batch of this number, whose sessions have these verdicts
 abbrev pub batched : ℕ → BatchRow → Verdicts → Batched

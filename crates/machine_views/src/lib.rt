@@ -11,8 +11,8 @@ mod views;
 
 pub use kept::{deed_reply, kept_reply};
 pub use looks::{
-    carrying, clerk_report, derived_sheet, desk_report, explain, records_of, sessions_from,
-    suggestion_of, view_at,
+    carrying, catalogue, clerk_report, derived_sheet, desk_report, edition_shown, explain,
+    records_of, region_shown, row_shown, sessions_from, suggestion_of, view_at,
 };
 pub use made::{kept_made, region_made};
 pub use views::view_of;

@@ -138,7 +138,7 @@ fn row_verdicts(
 }
 
 /// The verdict on a row of texts for these attributes. The runs are left in the work.
-fn row_verdict(
+pub(crate) fn row_verdict(
     alloc: Global,
     work: &mut Work,
     book: &SortedBook,

@@ -14,7 +14,9 @@ use desk_totals::Totalled;
 use desk_words::{Change, DeskLook, Reply, Tables};
 use fix_engine::Work;
 use machine_core::Stop;
-use machine_views::{derived_sheet, desk_report};
+use machine_views::{
+    catalogue, derived_sheet, desk_report, edition_shown, region_shown, row_shown,
+};
 use master_index::Shelf;
 use std::alloc::Global;
 
@@ -67,5 +69,21 @@ fn desk_reply(
                 alloc, tables, shelf, room, edition, *version, master, pairs,
             )?))
         }
+        DeskLook::Published => Ok(Reply::Catalogue(catalogue(alloc, tables)?)),
+        DeskLook::Edition { edition, version } => {
+            Ok(Reply::Edition(edition_shown(alloc, tables, edition, *version)?))
+        }
+        DeskLook::Row {
+            master,
+            version,
+            row,
+        } => Ok(Reply::MasterRow(row_shown(alloc, tables, master, *version, *row)?)),
+        DeskLook::Region {
+            edition,
+            version,
+            region,
+        } => Ok(Reply::Region(region_shown(
+            alloc, tables, shelf, room, edition, *version, *region,
+        )?)),
     }
 }

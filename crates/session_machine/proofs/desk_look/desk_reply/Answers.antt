@@ -1,14 +1,17 @@
 use Rattle.std.proofs.Common.{None, Ok, subst, sym}
-use Rattle.std.specs.Prelude.{flat_map}
+use Rattle.std.specs.Prelude.{Err, flat_map}
 use Rattle.desk_words.specs.declared.desk_look.DeskLook.{DeskLook as DeskLookOf}
 use Rattle.desk_words.specs.declared.reply.Reply.TheVariants as reply
 use Rattle.desk_words.specs.Tables.{published_of, rows_of}
 use Rattle.machine_core.specs.Checked.{Gives, done}
 use Rattle.machine_core.specs.Deriving.{derived_sheet}
 use Rattle.machine_core.specs.DeskLook.{desk_reply}
+use Rattle.machine_core.specs.DeskLook.Edition.{edition_shown}
+use Rattle.machine_core.specs.DeskLook.Region.{region_shown}
+use Rattle.machine_core.specs.DeskLook.Row.{row_shown}
 use Rattle.machine_core.specs.Look.Report.{report_of}
 use Rattle.machine_core.specs.Outcomes.{Answers}
-use Rattle.machine_core.proofs.Answering.{Answers-stopped}
+use Rattle.machine_core.proofs.Answering.{Answers-found, Answers-stopped}
 use Rattle.session_machine.proofs.ClerkLooks.{reply-gives}
 use Rattle.session_machine.proofs.desk_look.desk_reply.Goals as goal
 
@@ -39,3 +42,63 @@ returns-in_err-derived_sheet-in-Derive-clause-answers c =
     c.in-Derive.version c.in-Derive.master c.in-Derive.pairs) (λ one. done (reply.Derived one)) stop result
     c.from_residual-in_err-derived_sheet-in-Derive.ensures.1
     (rw c.as_slice-pairs.ensures at c.in_err-derived_sheet-in-Derive.ensures.sheet))
+
+pub returns-in_ok-edition_shown-in-Edition-clause-answers : goal.returns-in_ok-edition_shown-in-Edition-clause-answers
+returns-in_ok-edition_shown-in-Edition-clause-answers c =
+    let rows = rows_of c.args.tables.now in
+    let found = c.in_ok-edition_shown-in-Edition.field-0 in
+    let checked = edition_shown (published_of rows) c.in-Edition.edition c.in-Edition.version in
+    let Shown : DeskLookOf → Type 0 = λ look. Gives (desk_reply rows look) (Ok (reply.Edition found)) in
+    subst Shown (sym c.in-Edition.is) (reply-gives checked reply.Edition found
+    (Answers-found checked (Ok found) c.in_ok-edition_shown-in-Edition.ensures.sheet))
+
+pub returns-in_err-edition_shown-in-Edition-clause-answers : goal.returns-in_err-edition_shown-in-Edition-clause-answers
+returns-in_err-edition_shown-in-Edition-clause-answers c =
+    let rows = rows_of c.args.tables.now in
+    let result = c.from_residual-in_err-edition_shown-in-Edition.result in
+    let stop = c.in_err-edition_shown-in-Edition.field-0.0 in
+    let checked = edition_shown (published_of rows) c.in-Edition.edition c.in-Edition.version in
+    let Shown : DeskLookOf → Type 0 = λ look. Answers result (desk_reply rows look) in
+    subst Shown (sym c.in-Edition.is) (Answers-stopped checked (λ one. done (reply.Edition one)) stop result
+    c.from_residual-in_err-edition_shown-in-Edition.ensures.1
+    (Answers-found checked (Err stop) c.in_err-edition_shown-in-Edition.ensures.sheet))
+
+pub returns-in_ok-row_shown-in-Row-clause-answers : goal.returns-in_ok-row_shown-in-Row-clause-answers
+returns-in_ok-row_shown-in-Row-clause-answers c =
+    let rows = rows_of c.args.tables.now in
+    let found = c.in_ok-row_shown-in-Row.field-0 in
+    let checked = row_shown (published_of rows) c.in-Row.master c.in-Row.version c.in-Row.row in
+    let Shown : DeskLookOf → Type 0 = λ look. Gives (desk_reply rows look) (Ok (reply.MasterRow found)) in
+    subst Shown (sym c.in-Row.is) (reply-gives checked reply.MasterRow found
+    (Answers-found checked (Ok found) c.in_ok-row_shown-in-Row.ensures.row))
+
+pub returns-in_err-row_shown-in-Row-clause-answers : goal.returns-in_err-row_shown-in-Row-clause-answers
+returns-in_err-row_shown-in-Row-clause-answers c =
+    let rows = rows_of c.args.tables.now in
+    let result = c.from_residual-in_err-row_shown-in-Row.result in
+    let stop = c.in_err-row_shown-in-Row.field-0.0 in
+    let checked = row_shown (published_of rows) c.in-Row.master c.in-Row.version c.in-Row.row in
+    let Shown : DeskLookOf → Type 0 = λ look. Answers result (desk_reply rows look) in
+    subst Shown (sym c.in-Row.is) (Answers-stopped checked (λ one. done (reply.MasterRow one)) stop result
+    c.from_residual-in_err-row_shown-in-Row.ensures.1
+    (Answers-found checked (Err stop) c.in_err-row_shown-in-Row.ensures.row))
+
+pub returns-in_ok-region_shown-in-Region-clause-answers : goal.returns-in_ok-region_shown-in-Region-clause-answers
+returns-in_ok-region_shown-in-Region-clause-answers c =
+    let rows = rows_of c.args.tables.now in
+    let found = c.in_ok-region_shown-in-Region.field-0 in
+    let checked = region_shown (published_of rows) c.in-Region.edition c.in-Region.version c.in-Region.region in
+    let Shown : DeskLookOf → Type 0 = λ look. Gives (desk_reply rows look) (Ok (reply.Region found)) in
+    subst Shown (sym c.in-Region.is) (reply-gives checked reply.Region found
+    c.in_ok-region_shown-in-Region.ensures.region)
+
+pub returns-in_err-region_shown-in-Region-clause-answers : goal.returns-in_err-region_shown-in-Region-clause-answers
+returns-in_err-region_shown-in-Region-clause-answers c =
+    let rows = rows_of c.args.tables.now in
+    let result = c.from_residual-in_err-region_shown-in-Region.result in
+    let stop = c.in_err-region_shown-in-Region.field-0.0 in
+    let checked = region_shown (published_of rows) c.in-Region.edition c.in-Region.version c.in-Region.region in
+    let Shown : DeskLookOf → Type 0 = λ look. Answers result (desk_reply rows look) in
+    subst Shown (sym c.in-Region.is) (Answers-stopped checked (λ one. done (reply.Region one)) stop result
+    c.from_residual-in_err-region_shown-in-Region.ensures.1
+    c.in_err-region_shown-in-Region.ensures.region)
