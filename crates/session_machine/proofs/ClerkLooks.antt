@@ -30,7 +30,7 @@ use Rattle.machine_laws.proofs.Sessions.{active_session-ok}
 use Rattle.machine_views.proofs.Keeping.{session-stands}
 
 -- what is shown, with no changes
-abbrev shown : Reply → Checked (Reply × List Change)
+abbrev pub shown : Reply → Checked (Reply × List Change)
 shown answer = done (answer, [])
 
 module _ (rows : Rows) (name : List ℕ) (look : LookOf) where

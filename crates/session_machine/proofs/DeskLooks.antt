@@ -7,7 +7,7 @@ use Rattle.desk_words.specs.declared.desk_look.DeskLook.{DeskLook}
 use Rattle.desk_words.specs.declared.reply.Reply.{Reply}
 use Rattle.desk_words.specs.Tables.{Rows}
 use Rattle.master_index.specs.declared.shelf.Shelved.{Shelved}
-use Rattle.machine_core.specs.Checked.{Checked, Gives, done}
+use Rattle.machine_core.specs.Checked.{Gives}
 use Rattle.machine_core.specs.Content.{Content, advises, content_of, derives, plain, records, refuses, shows}
 use Rattle.machine_core.specs.DeskLook.{desk_reply}
 use Rattle.machine_core.specs.Machine.{machine}
@@ -17,10 +17,7 @@ use Rattle.machine_core.proofs.Answering.{Answers-stopped}
 use Rattle.machine_core.proofs.Chains.{Gives-bind}
 use Rattle.machine_core.proofs.DeskLooks.{DeskFound, desk-found}
 use Rattle.session_machine.specs.Booked.{IsBooked, IsBookedFor}
-
--- what is shown, with no changes
-abbrev shown : Reply → Checked (Reply × List Change)
-shown answer = done (answer, [])
+use Rattle.session_machine.proofs.ClerkLooks.{shown}
 
 module _ (rows : Rows) (look : DeskLook) where
   -- where nothing is shown, a look stops there
