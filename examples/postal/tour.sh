@@ -13,7 +13,7 @@ set -eu
 here=$(dirname "$0")
 port=${PORT:-8765}
 desk="http://127.0.0.1:$port"
-connections=17
+connections=20
 
 "$@" "$port" "$connections" &
 program=$!
@@ -50,13 +50,21 @@ ask POST /do/amy/2/confirm/1 '{"cells":{"street":"12 Easter Road"}}'
 echo "== the master has two towns for this zip: a conflict, and two orders of the rules that end otherwise"
 ask POST /do/amy/3/open/postal '{"cells":{"street":"1 Main Street","zip":"KA6 7PD"},"confirmed":["zip"]}'
 
+echo "== what is it about? the two towns, each with the rule and the row that it comes from"
+ask GET /see/amy/choices/2
+
 echo "== nothing is confirmed yet: what would help?"
 ask POST /do/amy/4/open/postal '{"cells":{"zip":"G1 1XQ"},"confirmed":[]}'
 ask GET /see/amy/suggest/3
 
+echo "== a zip that is in no master: what stands in the way of the town?"
+ask POST /do/amy/5/open/postal \
+    '{"cells":{"street":"1 Main Street","zip":"ZZ1 1ZZ"},"confirmed":["street","zip"]}'
+ask GET /see/amy/blocked/4
+
 echo "== the first address is kept; the same request again is answered the same, and keeps nothing twice"
-ask POST /do/amy/5/commit/1 '{"accept":"certain"}'
-ask POST /do/amy/5/commit/1 '{"accept":"certain"}'
+ask POST /do/amy/6/commit/1 '{"accept":"certain"}'
+ask POST /do/amy/6/commit/1 '{"accept":"certain"}'
 
 echo "== the records and the report"
 ask GET /see/amy/records/postal/1

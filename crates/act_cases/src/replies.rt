@@ -62,6 +62,8 @@ fn word_of(reply: &Reply) -> &'static str {
         Reply::Edition(_) => "edition ",
         Reply::MasterRow(_) => "row ",
         Reply::Region(_) => "region ",
+        Reply::Choices(_) => "choices ",
+        Reply::Blocked(_) => "blocked ",
         Reply::Refused(_) => "refused ",
     }
 }

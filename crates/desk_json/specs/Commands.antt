@@ -30,6 +30,7 @@ use Rattle.desk_json.specs.declared.route.Route.TheVariants.{AddRegion, Enter, C
 use Rattle.desk_json.specs.declared.route.Route.TheVariants.{Batch, View, Suggest, Preview, Report, Records, DeskReport}
 use Rattle.desk_json.specs.declared.route.Route.TheVariants.{Explain, DeskDerive, AddDerived, SeeCarry, Carry, Sessions}
 use Rattle.desk_json.specs.declared.route.Route.TheVariants.{DeskPublished, DeskEdition, DeskRow, DeskRegion}
+use Rattle.desk_json.specs.declared.route.Route.TheVariants.{Choices, Blocked}
 
 -- who asks for what, or the first fault of the body
 pub data Asked : Type 0 where
@@ -64,6 +65,8 @@ asked_in (Explain clerk session name) body = seen_by clerk (Ok (looks.Explain se
 asked_in (SeeCarry clerk session version) body = seen_by clerk (Ok (looks.Carry session version))
 asked_in (Sessions clerk from) body = seen_by clerk (Ok (looks.Sessions from))
 asked_in DeskReport body = at_desk (Ok desk_looks.Report)
+asked_in (Choices clerk session) body = seen_by clerk (Ok (looks.Choices session))
+asked_in (Blocked clerk session) body = seen_by clerk (Ok (looks.Blocked session))
 asked_in (DeskDerive edition version) body = at_desk (desk_derive edition version body)
 asked_in DeskPublished body = at_desk (Ok desk_looks.Published)
 asked_in (DeskEdition edition version) body = at_desk (Ok (desk_looks.Edition edition version))

@@ -7,6 +7,8 @@ pub mod Words
 pub mod Viewed
 pub mod Carried
 pub mod Published
+pub mod Choices
+pub mod Blocked
 pub mod Replies
 pub mod Refusals
 pub mod Faults

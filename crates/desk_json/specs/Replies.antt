@@ -12,7 +12,9 @@ use Rattle.desk_words.specs.declared.reply.Reply.TheVariants as replies
 use Rattle.desk_words.specs.declared.reply.Suggested.{Suggested}
 use Rattle.desk_words.specs.declared.report.SessionLine.{SessionLine}
 use Rattle.desk_words.specs.declared.report.SessionPage.{SessionPage}
+use Rattle.desk_json.specs.Blocked.{blocked_shown}
 use Rattle.desk_json.specs.Carried.{carried_shown}
+use Rattle.desk_json.specs.Choices.{choices_shown}
 use Rattle.desk_json.specs.Refusals.{refusal_shown}
 use Rattle.json_parts.specs.Shapes.{list_of, object_of, or_null, whole}
 use Rattle.desk_json.specs.Published.{catalogue_shown, edition_shown, master_row_shown, region_sheet_shown}
@@ -113,4 +115,6 @@ reply_shown (replies.Catalogue catalogue) = Some (catalogue_shown catalogue)
 reply_shown (replies.Edition sheet) = Some (edition_shown sheet)
 reply_shown (replies.MasterRow sheet) = Some (master_row_shown sheet)
 reply_shown (replies.Region sheet) = Some (region_sheet_shown sheet)
+reply_shown (replies.Choices told) = Some (choices_shown told)
+reply_shown (replies.Blocked told) = Some (blocked_shown told)
 reply_shown (replies.Refused refusal) = Some (refusal_shown refusal)

@@ -123,6 +123,8 @@ pub fn command_of(
             version,
             region,
         } => Ok(Command::Desk(desk_region(edition, *version, *region)?)),
+        Route::Choices { clerk, session } => seen_by(clerk, Look::Choices { session: *session }),
+        Route::Blocked { clerk, session } => seen_by(clerk, Look::Blocked { session: *session }),
     }
 }
 

@@ -1,13 +1,16 @@
 //! JSON as the desk reads and prints it: the bodies of requests, and replies.
 //!
 //! `specs/Commands.antt` says which command a route and a body are, `specs/Bodies` what each body reads as or which
-//! fault it has first; `specs/Replies.antt`, `Viewed.antt`, `Carried.antt`, `Published.antt`, `Refusals.antt` and
-//! `Faults.antt` how replies and faults are printed. `docs/api.md` says the same to a client.
+//! fault it has first; `specs/Replies.antt`, `Viewed.antt`, `Carried.antt`, `Choices.antt`, `Blocked.antt`,
+//! `Published.antt`, `Refusals.antt` and `Faults.antt` how replies and faults are printed. `docs/api.md` says the same
+//! to a client.
 #![tactic(auto)]
 
+mod blocked;
 mod bodies;
 mod body;
 mod carried;
+mod choices;
 mod commands;
 mod fault;
 mod forms;

@@ -47,6 +47,8 @@ pub fn text_of(alloc: Global, reply: &Reply) -> Result<List<u8>, NoMemory>
         Reply::Edition(sheet) => text(alloc, sheet),
         Reply::MasterRow(sheet) => text(alloc, sheet),
         Reply::Region(sheet) => text(alloc, sheet),
+        Reply::Choices(told) => text(alloc, told),
+        Reply::Blocked(told) => text(alloc, told),
         Reply::Refused(refusal) => text(alloc, refusal),
         Reply::Report(_) | Reply::Records(_) | Reply::Derived(_) => unreachable!(),
     }

@@ -124,4 +124,12 @@ pub enum Route {
         version: u32,
         region: u32,
     },
+    Choices {
+        clerk: Str,
+        session: u32,
+    },
+    Blocked {
+        clerk: Str,
+        session: u32,
+    },
 }

@@ -6,7 +6,9 @@
 //! and which changes fit. `docs/tables.md` explains each table.
 #![tactic(auto)]
 
+mod blocked;
 mod change;
+mod choices;
 mod clerk_work;
 mod command;
 mod desk_look;
@@ -23,7 +25,9 @@ mod steward_work;
 mod tables;
 mod view;
 
+pub use blocked::{Blocked, ShownBlocked, ShownBlocker, ShownRule};
 pub use change::Change;
+pub use choices::{Choices, ShownChoice, ShownDissent, ShownEnd, ShownStep};
 pub use clerk_work::{Accept, ClerkWork};
 pub use command::{Command, Ticket};
 pub use desk_look::DeskLook;

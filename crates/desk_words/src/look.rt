@@ -36,4 +36,12 @@ pub enum Look {
     Sessions {
         from: u32,
     },
+    /// What the session's conflict, or the dissent from its fix, is about.
+    Choices {
+        session: u32,
+    },
+    /// What stands in the way of each attribute that is not covered.
+    Blocked {
+        session: u32,
+    },
 }

@@ -1,4 +1,6 @@
 //! What is answered.
+use crate::blocked::Blocked;
+use crate::choices::Choices;
 use crate::made::{Batched, Made};
 use crate::published::{Catalogue, EditionSheet, MasterRowSheet, RegionSheet};
 use crate::refusal::Refusal;
@@ -74,5 +76,7 @@ pub enum Reply {
     Edition(EditionSheet),
     MasterRow(MasterRowSheet),
     Region(RegionSheet),
+    Choices(Choices),
+    Blocked(Blocked),
     Refused(Refusal),
 }

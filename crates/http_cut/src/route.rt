@@ -61,6 +61,8 @@ pub enum LookRoute {
     Explain,
     SeeCarry,
     Sessions,
+    Choices,
+    Blocked,
 }
 
 /// What is asked for at the desk, by no clerk.
@@ -75,7 +77,7 @@ pub enum DeskRoute {
 }
 
 /// The table: each pattern with what it asks for (`docs/formats.md`, *Routes*).
-pub const PATTERNS: [(&str, Route); 28] = [
+pub const PATTERNS: [(&str, Route); 30] = [
     (
         "/steward/{n}/clerks",
         Route::Steward(StewardRoute::AddClerk),
@@ -175,6 +177,14 @@ pub const PATTERNS: [(&str, Route); 28] = [
     (
         "/desk/regions/{edition}/{version}/{region}",
         Route::Desk(DeskRoute::DeskRegion),
+    ),
+    (
+        "/see/{clerk}/choices/{session}",
+        Route::Look(LookRoute::Choices),
+    ),
+    (
+        "/see/{clerk}/blocked/{session}",
+        Route::Look(LookRoute::Blocked),
     ),
 ];
 

@@ -1,4 +1,5 @@
 pub mod Alike
+pub mod Asked
 pub mod Checked
 pub mod Counting
 pub mod Cutting

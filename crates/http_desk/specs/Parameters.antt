@@ -19,6 +19,7 @@ use Rattle.desk_json.specs.declared.route.Route.TheVariants.{AddRegion, Enter, C
 use Rattle.desk_json.specs.declared.route.Route.TheVariants.{Batch, View, Suggest, Preview, Report, Records, DeskReport}
 use Rattle.desk_json.specs.declared.route.Route.TheVariants.{Explain, DeskDerive, AddDerived, SeeCarry, Carry, Sessions}
 use Rattle.desk_json.specs.declared.route.Route.TheVariants.{DeskPublished, DeskEdition, DeskRow, DeskRegion}
+use Rattle.desk_json.specs.declared.route.Route.TheVariants.{Choices, Blocked}
 use Rattle.desk_json.specs.Checked.{◌>>=◌}
 use Rattle.http_desk.specs.Checked.{Checked, or_no_route}
 
@@ -156,6 +157,8 @@ look_form caller of_look.Records = form (edition ∷ version ∷ []) (Records ca
 look_form caller of_look.Explain = form (session ∷ name ∷ []) (Explain caller)
 look_form caller of_look.SeeCarry = form (session ∷ version ∷ []) (SeeCarry caller)
 look_form caller of_look.Sessions = form (from ∷ []) (Sessions caller)
+look_form caller of_look.Choices = form (session ∷ []) (Choices caller)
+look_form caller of_look.Blocked = form (session ∷ []) (Blocked caller)
 
 -- what is asked for at the desk
 abbrev pub desk_form : DeskRoute → Form

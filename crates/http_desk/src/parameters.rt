@@ -157,6 +157,14 @@ fn look_route(
             clerk,
             from: number_at(found, "from")?,
         }),
+        LookRoute::Choices => Ok(Route::Choices {
+            clerk,
+            session: number_at(found, "session")?,
+        }),
+        LookRoute::Blocked => Ok(Route::Blocked {
+            clerk,
+            session: number_at(found, "session")?,
+        }),
     }
 }
 

@@ -10,7 +10,9 @@ use Rattle.desk_words.specs.Tables.{Published}
 use Rattle.machine_core.specs.Checked.{Checked, Gives, done}
 use Rattle.machine_core.specs.Content.{Content, advises, content_of, derives, plain, records, refuses, shows}
 use Rattle.machine_core.specs.Look.{look_reply, reply_of, told}
+use Rattle.machine_core.specs.Look.Blocked.{blocked_at}
 use Rattle.machine_core.specs.Look.Carry.{carrying}
+use Rattle.machine_core.specs.Look.Choices.{choices_at}
 use Rattle.machine_core.specs.Look.Explain.{explain}
 use Rattle.machine_core.specs.Look.Preview.{preview}
 use Rattle.machine_core.specs.Look.Records.{records_of}
@@ -67,3 +69,7 @@ module _ (published : Published) (own : Own) where
       (λ answer. Found published own (look.Carry number version) (content_of answer)) (λ carried given. tt)
   look-found (look.Sessions from) = told-each (sessions_from published own from) reply.Sessions
       (λ answer. Found published own (look.Sessions from) (content_of answer)) (λ page given. tt)
+  look-found (look.Choices number) = told-each (choices_at published own number) reply.Choices
+      (λ answer. Found published own (look.Choices number) (content_of answer)) (λ choices given. tt)
+  look-found (look.Blocked number) = told-each (blocked_at published own number) reply.Blocked
+      (λ answer. Found published own (look.Blocked number) (content_of answer)) (λ blocked given. tt)

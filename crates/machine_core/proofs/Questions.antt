@@ -1,5 +1,5 @@
--- Why an attribute is fixed, which rows a grid gives, and which cells two views show otherwise: there is one answer to
--- each at most.
+-- Why an attribute is fixed, which rows a grid gives, which cells two views show otherwise, and what is blocked: there is
+-- one answer to each at most.
 use Rattle.std.proofs.Common.{◌≡◌, ℕ, ◌<◌, List, inl, inr, sym, arith}
 use Rattle.desk_base.specs.Grid.{GridRows}
 use Rattle.desk_carry.specs.Changes.{AreChanged}
@@ -10,9 +10,10 @@ use Rattle.fix_model.specs.declared.kit.Kit.{Kit}
 use Rattle.fix_model.specs.declared.state.State.{State}
 use Rattle.fix_model.specs.declared.state.Step.{Step}
 use Rattle.region_derive.specs.Derived.{AreDerived}
+use Rattle.fix_blockers.proofs.OneList.{AreBlocked-one}
 use Rattle.fix_engine.proofs.Once.{IsAnswer-unique}
 use Rattle.machine_core.specs.Checked.{AnswerTo, Explanation, IsAnswered, IsExplanation, Question, advises, compares}
-use Rattle.machine_core.specs.Checked.{decides, derives, explains}
+use Rattle.machine_core.specs.Checked.{blocks, decides, derives, explains}
 use Rattle.machine_core.proofs.Suggestions.{IsSuggestion-unique, same-in_order}
 
 -- of two reasons neither is shorter
@@ -82,3 +83,4 @@ IsAnswered-unique (explains kit state run attribute) one other is is_too =
 IsAnswered-unique (derives kit grid attributes columns) one other is is_too =
     AreDerived-unique kit grid attributes columns one other is is_too
 IsAnswered-unique (compares before after) one other is is_too = AreChanged-unique before after one other is is_too
+IsAnswered-unique (blocks kit state) one other is is_too = AreBlocked-one kit state one other is is_too

@@ -9,9 +9,10 @@ use Rattle.desk_words.specs.declared.clerk_work.Accept.{Accept}
 use Rattle.desk_words.specs.declared.clerk_work.Accept.TheVariants.{Certain}
 use Rattle.desk_words.specs.declared.clerk_work.ClerkWork.TheVariants.{Enter, Confirm, Withdraw, Commit, Batch}
 use Rattle.desk_words.specs.declared.command.Command.{Command}
-use Rattle.desk_words.specs.declared.command.Command.TheVariants.{Steward, Clerk}
+use Rattle.desk_words.specs.declared.command.Command.TheVariants.{Steward, Clerk, Look}
 use Rattle.desk_words.specs.declared.command.Ticket.{Ticket}
 use Rattle.desk_words.specs.declared.limit.Which.{Which}
+use Rattle.desk_words.specs.declared.look.Look.TheVariants.{Blocked}
 use Rattle.desk_words.specs.declared.limit.Which.TheVariants as which
 use Rattle.desk_words.specs.declared.refusal.Kind.TheVariants as kind
 use Rattle.desk_words.specs.declared.refusal.Reader.TheVariants as reader
@@ -137,6 +138,16 @@ pub record Commits (rows : Rows) (command : Command) (accept : Accept) (session 
 pub record Explains (rows : Rows) (command : Command) (word : List ℕ) (session : SessionRow) (bound : Bound)
     (answer : Answer) : Type 0 where
   pub asks : reason_in command ≡ Some word
+  pub names : Names rows command session
+  pub binds : bound_at (published_of rows) session.edition ≡ Some bound
+  pub answers : IsAnswer bound.kit (state_of session) answer.first answer.second answer.verdict
+
+-- the command asks what is blocked in this session, and the rules make this of it
+pub record AsksBlocked (rows : Rows) (command : Command) (session : SessionRow) (bound : Bound) (answer : Answer)
+    : Type 0 where
+  pub name : List ℕ
+  pub number : ℕ
+  pub is : command ≡ Look name (Blocked number)
   pub names : Names rows command session
   pub binds : bound_at (published_of rows) session.edition ≡ Some bound
   pub answers : IsAnswer bound.kit (state_of session) answer.first answer.second answer.verdict
@@ -329,7 +340,8 @@ Cause rows command (NotCertain count) =
 Cause rows command InConflict =
     (session : SessionRow) × (bound : Bound) × (answer : Answer) × (answer.verdict ≡ Conflict)
     × (((accept : Accept) × Commits rows command accept session bound answer)
-    ⊎ ((word : List ℕ) × Explains rows command word session bound answer))
+    ⊎ ((word : List ℕ) × Explains rows command word session bound answer)
+    ⊎ AsksBlocked rows command session bound answer)
 Cause rows command (NotConfirmed word) =
     (session : SessionRow) × (place : ℕ) × Withdraws rows command word session place
     × (slice_index_or session.confirmed place false ≡ false)

@@ -4,6 +4,8 @@ use Rattle.desk_base.specs.Grid.{GridRows}
 use Rattle.desk_carry.specs.Changes.{AreChanged}
 use Rattle.desk_words.specs.declared.refusal.Refusal.{Refusal}
 use Rattle.desk_words.specs.declared.view.View.{View}
+use Rattle.fix_blockers.specs.declared.blocked_attribute.BlockedAttribute.{BlockedAttribute}
+use Rattle.fix_blockers.specs.Blocked.{AreBlocked}
 use Rattle.fix_explain.specs.Reasons.{IsReason}
 use Rattle.fix_explain.specs.Uses.{AreUses}
 use Rattle.fix_model.specs.declared.kit.Kit.{Kit}
@@ -34,13 +36,15 @@ pub record IsExplanation (kit : Kit) (state : State) (run : List Step) (attribut
   pub uses : AreUses kit state explanation.steps explanation.uses
 
 -- what is asked of the engine on the way: what the rules make of a state, what is suggested for it, why a run fixes an
--- attribute, which rows a grid gives for attributes and columns, or which cells two views show otherwise
+-- attribute, which rows a grid gives for attributes and columns, which cells two views show otherwise, or what is blocked
+-- at a state where nothing fires
 pub data Question : Type 0 where
   decides : Kit → State → Question
   advises : Kit → State → List Region → Question
   explains : Kit → State → List Step → ℕ → Question
   derives : Kit → GridRows → List ℕ → List ℕ → Question
   compares : View → View → Question
+  blocks : Kit → State → Question
 
 -- what is answered to a question
 abbrev pub AnswerTo : Question → Type 0
@@ -49,6 +53,7 @@ AnswerTo (advises kit state regions) = Suggestion
 AnswerTo (explains kit state run attribute) = Explanation
 AnswerTo (derives kit grid attributes columns) = List (ℕ × List (List ℕ))
 AnswerTo (compares before after) = List (ℕ × ℕ)
+AnswerTo (blocks kit state) = List BlockedAttribute
 
 -- the question is answered as it is defined
 abbrev pub IsAnswered : (question : Question) → AnswerTo question → Type 0
@@ -57,6 +62,7 @@ IsAnswered (advises kit state regions) suggestion = IsSuggestion kit state regio
 IsAnswered (explains kit state run attribute) explanation = IsExplanation kit state run attribute explanation
 IsAnswered (derives kit grid attributes columns) rows = AreDerived kit grid attributes columns rows
 IsAnswered (compares before after) pairs = AreChanged before after pairs
+IsAnswered (blocks kit state) blocked = AreBlocked kit state blocked
 
 infixl 10 ◌>>=◌
 -- tests in their order: a value is found, what is refused ends them, a question is asked; or valid tables rule it out
@@ -115,6 +121,10 @@ rows_for kit grid attributes columns = asked (derives kit grid attributes column
 -- the places of the cells that two views show otherwise
 abbrev pub changes_for : View → View → Checked (List (ℕ × ℕ))
 changes_for before after = asked (compares before after)
+
+-- what stands in the way of each attribute that is not covered at a state
+abbrev pub blockers_for : Kit → State → Checked (List BlockedAttribute)
+blockers_for kit state = asked (blocks kit state)
 
 -- ---- what comes of tests
 

@@ -7,6 +7,8 @@ pub mod Records
 pub mod Explain
 pub mod Carry
 pub mod Sessions
+pub mod Choices
+pub mod Blocked
 use Rattle.std.specs.Prelude.{ℕ, List, [], ◌∷◌, map, Option, Some, None}
 use Rattle.desk_words.specs.declared.look.Look.{Look}
 use Rattle.desk_words.specs.declared.look.Look.TheVariants as look
@@ -14,7 +16,9 @@ use Rattle.desk_words.specs.declared.reply.Reply.{Reply}
 use Rattle.desk_words.specs.declared.reply.Reply.TheVariants as reply
 use Rattle.desk_words.specs.Tables.{Published}
 use Rattle.machine_core.specs.Checked.{Checked, ◌>>=◌, done}
+use Rattle.machine_core.specs.Look.Blocked.{blocked_at}
 use Rattle.machine_core.specs.Look.Carry.{carrying}
+use Rattle.machine_core.specs.Look.Choices.{choices_at}
 use Rattle.machine_core.specs.Look.Explain.{explain}
 use Rattle.machine_core.specs.Look.Preview.{preview}
 use Rattle.machine_core.specs.Look.Records.{records_of}
@@ -38,6 +42,8 @@ look_at published own (look.Records edition version) = told (records_of publishe
 look_at published own (look.Explain number word) = told (explain published own number word) reply.Explained
 look_at published own (look.Carry number version) = told (carrying published own number version) reply.Carried
 look_at published own (look.Sessions from) = told (sessions_from published own from) reply.Sessions
+look_at published own (look.Choices number) = told (choices_at published own number) reply.Choices
+look_at published own (look.Blocked number) = told (blocked_at published own number) reply.Blocked
 
 -- what is found, as it is told
 abbrev pub reply_of : Told → Checked Reply
@@ -81,3 +87,5 @@ named_by (look.Records edition version) = record names_nothing { edition = Some 
 named_by (look.Explain number word) = record (names_session number) { attributes = word ∷ []; reason = Some word }
 named_by (look.Carry number version) = record (names_session number) { version = Some version }
 named_by (look.Sessions from) = names_nothing
+named_by (look.Choices number) = names_session number
+named_by (look.Blocked number) = names_session number

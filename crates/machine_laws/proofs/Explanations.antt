@@ -8,7 +8,7 @@ use Rattle.fix_model.specs.declared.rule.Rule.{Rule}
 use Rattle.fix_model.specs.declared.state.State.{State}
 use Rattle.fix_model.specs.declared.state.Step.{Step}
 use Rattle.fix_model.specs.Rules.{rule_at}
-use Rattle.fix_model.specs.Run.{IsRun, end_of}
+use Rattle.fix_model.specs.Run.{IsFinal, IsRun, end_of}
 use Rattle.fix_model.specs.States.{Fits, cell_at}
 use Rattle.fix_model.specs.Valid.{IsValid}
 use Rattle.fix_model.proofs.Deciding.{Decided, both}
@@ -84,6 +84,12 @@ answer-given kit state answer gives =
     subst (λ (one : Answer). IsAnswer kit state one.first one.second one.verdict)
     (sym (done-value gives.0 answer gives.2))
     gives.1
+
+-- whatever the answer is, nothing fires at the end of its first run
+pub answer-ended : (kit : Kit) (state : State) (first second : List Step) (verdict : Verdict)
+    → IsAnswer kit state first second verdict → IsFinal kit (end_of kit state first)
+answer-ended kit state first second (Fix certain dissent) is = is.0.is_first.holds.1
+answer-ended kit state first second Conflict is = is.is_first.holds.1
 
 -- whatever the answer is, its first run is a run
 pub answer-run : (kit : Kit) (state : State) (first second : List Step) (verdict : Verdict)

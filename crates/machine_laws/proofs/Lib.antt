@@ -46,6 +46,7 @@ pub mod Outcomes
 pub mod OwnOutcomes
 pub mod DeedOutcomes
 pub mod Reasons
+pub mod Blocked
 pub mod Looks
 pub mod DeskLooks
 pub mod Refusing

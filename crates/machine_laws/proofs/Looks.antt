@@ -6,7 +6,7 @@ use Rattle.desk_words.specs.declared.command.Command.{Command}
 use Rattle.desk_words.specs.declared.command.Command.TheVariants.{Look}
 use Rattle.desk_words.specs.declared.look.Look.{Look as LookOf}
 use Rattle.desk_words.specs.declared.look.Look.TheVariants.{View, Suggest, Preview, Report, Records, Explain}
-use Rattle.desk_words.specs.declared.look.Look.TheVariants.{Carry as CarryLook, Sessions}
+use Rattle.desk_words.specs.declared.look.Look.TheVariants.{Blocked, Carry as CarryLook, Choices, Sessions}
 use Rattle.desk_words.specs.declared.refusal.Kind.TheVariants as kind
 use Rattle.desk_words.specs.declared.refusal.Refusal.{Refusal}
 use Rattle.desk_words.specs.declared.refusal.Refusal.TheVariants.{NoSuch}
@@ -23,7 +23,9 @@ use Rattle.machine_core.specs.Clerk.Carry.{carry_row}
 use Rattle.machine_core.specs.Clerk.Confirm.{confirm_row}
 use Rattle.machine_core.specs.Finding.{edition_named, session_at}
 use Rattle.machine_core.specs.Look.{look_reply, reply_of, told}
+use Rattle.machine_core.specs.Look.Blocked.{blocked_at}
 use Rattle.machine_core.specs.Look.Carry.{carrying}
+use Rattle.machine_core.specs.Look.Choices.{choices_at}
 use Rattle.machine_core.specs.Look.Explain.{explain}
 use Rattle.machine_core.specs.Look.Preview.{preview}
 use Rattle.machine_core.specs.Look.Records.{records_of}
@@ -37,6 +39,7 @@ use Rattle.machine_core.specs.OwnRows.{AreOwnRows}
 use Rattle.machine_core.specs.Tests.{active_session, session_of}
 use Rattle.machine_core.specs.Views.{view_of}
 use Rattle.machine_core.proofs.Tested.{certainly-why, chain-why, done-why, each-why, some_or-why}
+use Rattle.machine_laws.proofs.Blocked.{blocked_at-why, choices_at-why, outcome-blocked, outcome-choices}
 use Rattle.machine_laws.proofs.Comparing.{view_at-apart}
 use Rattle.machine_laws.proofs.DeedOutcomes.{active-of, carried-of, confirmed-of, named-within, outcome-active}
 use Rattle.machine_laws.proofs.DeedOutcomes.{outcome-active_bound, outcome-carry, outcome-confirm}
@@ -81,6 +84,8 @@ module _ (rows : Rows) (valid : AreValid rows) (own : Own)
       outcome-bind (outcome-changes before after (view_at-apart rows valid own number before shown_before))
       (λ pairs told. outcome-done _)))))
   outcome-look (Sessions from) = outcome-told reply.Sessions (outcome-done _)
+  outcome-look (Choices number) = outcome-told reply.Choices (outcome-choices rows valid own are number)
+  outcome-look (Blocked number) = outcome-told reply.Blocked (outcome-blocked rows valid own are number)
 
 -- what the rules make of a session is never refused
 pub assessment-why : (P : Refusal → Type 0) (published : Published) (session : SessionRow) (refusal : Refusal)
@@ -167,3 +172,9 @@ module _ (rows : Rows) (name : List ℕ) (own : Own) where
   look-why (Sessions from) asks =
       let P : Refusal → Type 0 = Cause rows (Look name (Sessions from)) in
       told-why P (sessions_from (published_of rows) own from) reply.Sessions (done-why P _)
+  look-why (Choices number) asks =
+      told-why (Cause rows (Look name (Choices number))) (choices_at (published_of rows) own number) reply.Choices
+      (choices_at-why rows name number own asks)
+  look-why (Blocked number) asks =
+      told-why (Cause rows (Look name (Blocked number))) (blocked_at (published_of rows) own number) reply.Blocked
+      (blocked_at-why rows name number own asks)

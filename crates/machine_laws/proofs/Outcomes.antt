@@ -3,12 +3,13 @@ use Rattle.std.proofs.Common.{◌≡◌, ◌++◌, ℕ, Bool, true, false, List,
 use Rattle.std.specs.Prelude.{All, IsSomeAnd, Result, Ok, Err, nat_le}
 use Rattle.std.proofs.lemmas.List.Elements.{All-head, All-tail}
 use Rattle.desk_base.specs.Grid.{GridRows}
+use Rattle.fix_blockers.proofs.OneList.{AreBlocked-some}
 use Rattle.fix_explain.specs.Reasons.{IsFixed}
 use Rattle.fix_model.specs.declared.kit.Kit.{Kit}
 use Rattle.fix_model.specs.declared.region.Region.{Region}
 use Rattle.fix_model.specs.declared.state.State.{State}
 use Rattle.fix_model.specs.declared.state.Step.{Step}
-use Rattle.fix_model.specs.Run.{IsRun, end_of}
+use Rattle.fix_model.specs.Run.{IsFinal, IsRun, end_of}
 use Rattle.fix_model.specs.States.{Fits}
 use Rattle.fix_model.specs.Valid.{IsValid}
 use Rattle.desk_words.specs.declared.limit.Which.{Which}
@@ -16,7 +17,8 @@ use Rattle.desk_words.specs.declared.refusal.Refusal.{Refusal}
 use Rattle.desk_words.specs.declared.refusal.Refusal.TheVariants.{Limit}
 use Rattle.desk_words.specs.declared.view.View.{View}
 use Rattle.desk_carry.specs.Changes.{AreApart}
-use Rattle.machine_core.specs.Checked.{Checked, done, ◌>>=◌, advice_for, answer_for, certainly, changes_for, each}
+use Rattle.machine_core.specs.Checked.{Checked, done, ◌>>=◌, advice_for, answer_for, blockers_for, certainly}
+use Rattle.machine_core.specs.Checked.{changes_for, each}
 use Rattle.machine_core.specs.Checked.{each_behind, explanation_for, refused, rows_for, some_or, unless, value_or}
 use Rattle.machine_core.specs.Checked.{Gives}
 use Rattle.machine_core.specs.Limits.{limit_of, within}
@@ -141,6 +143,12 @@ pub outcome-rows : (kit : Kit) (grid : GridRows) (attributes columns : List ℕ)
 outcome-rows kit grid attributes columns valid =
     let found = some-rows kit grid attributes columns valid in
     record { outcome = Ok found.0; gives = (found.0, found.1, refl) }
+
+-- what is blocked at a state where nothing fires
+pub outcome-blockers : (kit : Kit) (state : State) → IsFinal kit state → HasOutcome (blockers_for kit state)
+outcome-blockers kit state ended =
+    let blocked = AreBlocked-some kit state ended in
+    record { outcome = Ok blocked.0; gives = (blocked.0, blocked.1, refl) }
 
 -- and which cells two views show otherwise
 pub outcome-changes : (before after : View) → AreApart before.cells → HasOutcome (changes_for before after)

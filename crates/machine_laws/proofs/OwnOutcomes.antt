@@ -22,7 +22,7 @@ use Rattle.fix_model.specs.States.{Fits}
 use Rattle.fix_model.specs.Valid.{IsValid}
 use Rattle.fix_model.proofs.States.{Fits-confirmed}
 use Rattle.machine_core.specs.Answers.{bound_for, state_of}
-use Rattle.machine_core.specs.Checked.{Answer, advice_for, answer_for, certainly, explanation_for, Gives}
+use Rattle.machine_core.specs.Checked.{Answer, advice_for, answer_for, blockers_for, certainly, explanation_for, Gives}
 use Rattle.machine_core.specs.Finding.{session_at}
 use Rattle.machine_core.specs.Kept.{kept_reply}
 use Rattle.machine_core.specs.Look.Report.{assessment_of, report_line, report_of}
@@ -33,9 +33,10 @@ use Rattle.machine_core.specs.Sessions.{IsSessionOf}
 use Rattle.machine_core.specs.Views.{view_of}
 use Rattle.machine_core.proofs.Tested.{certainly-ok, some_or-ok}
 use Rattle.machine_core.proofs.Widths.{kit-width, named-kit, width-bound}
-use Rattle.machine_laws.proofs.Explanations.{answer-given, answer-run}
+use Rattle.machine_laws.proofs.Explanations.{answer-ended, answer-given, answer-run}
 use Rattle.machine_laws.proofs.Lists.{slice_get-there}
-use Rattle.machine_laws.proofs.Outcomes.{HasOutcome, outcome-advice, outcome-answer, outcome-bind, outcome-certainly}
+use Rattle.machine_laws.proofs.Outcomes.{HasOutcome, outcome-advice, outcome-answer, outcome-bind, outcome-blockers}
+use Rattle.machine_laws.proofs.Outcomes.{outcome-certainly}
 use Rattle.machine_laws.proofs.Outcomes.{outcome-done, outcome-each, outcome-all, outcome-explanation, outcome-some_or}
 use Rattle.machine_laws.proofs.Outcomes.{there-and}
 use Rattle.machine_laws.proofs.Sessions.{session_at-found}
@@ -93,6 +94,15 @@ module _ (rows : Rows) (valid : AreValid rows) where
       answer.first attribute (session-kit session bound gives) (session-fits session bound is gives)
       (answer-run bound.kit (state_of session) answer.first answer.second answer.verdict
       (answer-given bound.kit (state_of session) answer given)) fixed
+
+  -- and what is blocked at the end of the first run of an answer
+  pub session-blocked : (session : SessionRow) (bound : Bound) (answer : Answer)
+      → Gives (answer_for bound.kit (state_of session)) (Ok answer)
+      → HasOutcome (blockers_for bound.kit (end_of bound.kit (state_of session) answer.first))
+  session-blocked session bound answer given = outcome-blockers bound.kit
+      (end_of bound.kit (state_of session) answer.first)
+      (answer-ended bound.kit (state_of session) answer.first answer.second answer.verdict
+      (answer-given bound.kit (state_of session) answer given))
 
   -- it is shown
   pub outcome-view : (number : ℕ) (session : SessionRow) → IsSessionOf (published_of rows) session

@@ -1,5 +1,5 @@
 -- An explanation comes to a result over valid tables, its refusals have their causes, and it tells the reason.
-use Rattle.std.proofs.Common.{◌≡◌, ◌∙◌, ℕ, List, Some, sym, ap, subst, Bool, arith, false, inr, refl, true}
+use Rattle.std.proofs.Common.{◌≡◌, ◌∙◌, ℕ, List, Some, sym, ap, subst, Bool, arith, false, inl, inr, refl, true}
 use Rattle.std.specs.Prelude.{Err, Ok, is_some, position}
 use Rattle.std.specs.Str.{bytes_eq}
 use Rattle.desk_words.specs.declared.change.Change.{Change}
@@ -77,7 +77,7 @@ explain-why rows name number word own asks =
       answers = answer-given bound.kit (state_of session) answer given;
     } in
     chain-why P (not_in_conflict answer.verdict) _
-    (conflict-why P answer.verdict (λ conflict. (session, bound, answer, conflict, inr (word, explains))))
+    (conflict-why P answer.verdict (λ conflict. (session, bound, answer, conflict, inr (inl (word, explains)))))
     (λ fix fix_ok. chain-why P (fixed_at (end_it answer) place word) _
     (unless-why P (is_some (fixed_by (cell_at (end_it answer) place))) (NotFixed word) (λ fails. (
       session,

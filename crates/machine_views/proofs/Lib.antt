@@ -12,3 +12,5 @@ pub mod Few
 pub mod Shown
 pub mod Carried
 pub mod Derived
+pub mod Choosing
+pub mod Blocked

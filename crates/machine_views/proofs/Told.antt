@@ -1,5 +1,5 @@
 -- What is told of an answer: steps of the kit, and the view.
-use Rattle.std.proofs.Common.{◌≡◌, ◌∙◌, ℕ, List, [], ◌∷◌, map, Option, Some, None, Ok, ap}
+use Rattle.std.proofs.Common.{◌≡◌, ◌∙◌, ℕ, List, [], ◌∷◌, map, Option, Some, None, Ok, ap, refl}
 use Rattle.std.specs.Prelude.{All, IfSome}
 use Rattle.std.specs.List.{range_with_len}
 use Rattle.std.proofs.lemmas.List.Elements.{All-cons, All-nil}
@@ -24,7 +24,8 @@ use Rattle.desk_words.specs.Tables.{Published}
 use Rattle.desk_valid.specs.declared.bound.Bound.{Bound}
 use Rattle.desk_valid.specs.Bindings.{bound_at}
 use Rattle.machine_core.specs.Answers.{shown_state, state_of}
-use Rattle.machine_core.specs.Checked.{Answer, Gives}
+use Rattle.machine_core.specs.Checked.{Answer, Gives, IsFound}
+use Rattle.machine_core.specs.Clerk.Commit.{not_in_conflict}
 use Rattle.machine_core.specs.Look.Report.{assessment_of}
 use Rattle.machine_core.specs.Shelves.{bound_on}
 use Rattle.machine_core.specs.Views.{edition_at, named_step, outcome_of, view_cell, view_of, view_with}
@@ -57,6 +58,13 @@ module _ (kit : Kit) where
       → NamesSteps kit second verdict
   told-steps state first second (Fix certain dissent) is = dissent-step (end_of kit state first) dissent is.0.is_dissent
   told-steps state first second Conflict is = run-steps state second is.is_second.holds.maximal.0
+
+-- what is shown of a fix is the end of its first run
+pub end-shown : (bound : Bound) (state : State) (answer : Answer) (verdict : Verdict)
+    → IsFound (not_in_conflict verdict) tt
+    → shown_state bound state answer verdict ≡ end_of bound.kit state answer.first
+end-shown bound state answer (Fix certain dissent) fix = refl
+end-shown bound state answer Conflict fix = absurd cc
 
 -- a session is shown by the answer for its state
 pub view-given : (published : Published) (number : ℕ) (session : SessionRow) (bound : Bound) (answer : Answer)

@@ -2,4 +2,5 @@ pub mod Answered
 pub mod Counts
 pub mod Doing
 pub mod Looking
+pub mod Naming
 pub mod Reporting

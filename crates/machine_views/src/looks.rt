@@ -1,5 +1,7 @@
 //! What a caller looks at, one look a file.
+mod blocking;
 mod carry;
+mod choosing;
 mod counts;
 mod derive;
 mod edition;
@@ -13,7 +15,9 @@ mod sessions;
 mod suggest;
 mod view;
 
+pub use blocking::blocked_at;
 pub use carry::carrying;
+pub use choosing::choices_at;
 pub use derive::derived_sheet;
 pub use edition::edition_shown;
 pub use explaining::explain;

@@ -4,9 +4,10 @@ ghost use Rattle.std.specs.List.{range_with_len};
 ghost use Rattle.desk_words.specs.Tables.{published_of, rows_of};
 ghost use Rattle.desk_valid.specs.Valid.{AreValid};
 ghost use Rattle.fix_model.specs.declared.state.Step.{Step as StepOf};
-ghost use Rattle.fix_model.specs.Rules.{IsStepOf};
+ghost use Rattle.fix_model.specs.Rules.{IsStepOf, rule_at};
 ghost use Rattle.fix_model.specs.States.{Fits, IsCellOf};
 ghost use Rattle.machine_core.specs.Checked.{Gives};
+ghost use Rattle.machine_core.specs.Look.Choices.{shown_step};
 ghost use Rattle.machine_core.specs.Sessions.{IsSessionOf};
 ghost use Rattle.machine_core.specs.Shelves.{AreHeld, IsFirst, IsFullRoom, bound_on};
 ghost use Rattle.machine_core.specs.Views.{name_at, named_step, outcome_of, shown_cell, view_cell, view_of};
@@ -14,7 +15,7 @@ ghost use Rattle.machine_views.specs.Answered.{IsBookFor, IsNamedBook, NamesStep
 
 use crate::answers::{answer_to, book_for};
 use desk_base::{Duplicate, List, NoMemory, Text};
-use desk_words::{Outcome, SessionRow, Shown, Tables, View, ViewCell};
+use desk_words::{Outcome, SessionRow, Shown, ShownStep, Tables, View, ViewCell};
 use fix_engine::{Verdict, Work};
 use fix_model::{Book, Cell, Rule, State, Step, value};
 use machine_core::hold;
@@ -129,10 +130,30 @@ fn fixed_by(shelved: &Shelved, step: Step) -> Result<Shown, NoMemory>
     requires step { IsStepOf shelved.now.book step }
     ensures { IfOk result (λ shown. shown ≡ shown_cell (bound_on shelved.now) (Cell.Fixed step)) }
 {
-    let master = rules(&shelved.book)[usize::from(step.rule)].master;
-    let (rule, row) = named_step(shelved, step)?;
-    let master = name_at(shelved.names.masters.as_slice(), usize::from(master))?;
+    let ShownStep { rule, master, row } = shown_step(shelved, step)?;
     Ok(Shown::Fixed { rule, master, row })
+}
+
+/// A step by the names of its rule and of that rule's master, with the row counted from 1.
+pub(crate) fn shown_step(shelved: &Shelved, step: Step) -> Result<ShownStep, NoMemory>
+    requires named { IsNamedBook shelved.now }
+    requires step { IsStepOf shelved.now.book step }
+    ensures { IfOk result (λ shown. shown ≡ shown_step (bound_on shelved.now) step) }
+{
+    let (rule, row) = named_step(shelved, step)?;
+    let master = master_name(shelved, step.rule)?;
+    Ok(ShownStep { rule, master, row })
+}
+
+/// The name of the master of a rule, which is counted from 0.
+pub(crate) fn master_name(shelved: &Shelved, rule: u16) -> Result<Text, NoMemory>
+    requires named { IsNamedBook shelved.now }
+    requires rule { rule < length shelved.now.book.rules }
+    ensures { IfOk result (λ name. name
+        ≡ name_at (bound_on shelved.now).names.masters (rule_at (bound_on shelved.now).kit rule).master) }
+{
+    let master = rules(&shelved.book)[usize::from(rule)].master;
+    name_at(shelved.names.masters.as_slice(), usize::from(master))
 }
 
 /// The rules of a book.

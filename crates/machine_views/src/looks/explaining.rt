@@ -73,7 +73,7 @@ fn explained_on(
 }
 
 /// The verdict is a fix. No want of memory is answered.
-fn not_in_conflict(verdict: Verdict) -> Result<(), Stop>
+pub(crate) fn not_in_conflict(verdict: Verdict) -> Result<(), Stop>
     ensures finds { Finds result (not_in_conflict verdict) }
     ensures memory { WantsNone result }
 {

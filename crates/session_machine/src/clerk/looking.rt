@@ -16,7 +16,8 @@ use fix_engine::Work;
 use machine_clerk::confirm_row;
 use machine_core::{Own, Stop};
 use machine_views::{
-    carrying, clerk_report, explain, records_of, sessions_from, suggestion_of, view_at, view_of,
+    blocked_at, carrying, choices_at, clerk_report, explain, records_of, sessions_from,
+    suggestion_of, view_at, view_of,
 };
 use master_index::Shelf;
 use std::alloc::Global;
@@ -61,6 +62,12 @@ pub fn look_reply(
             Ok(Reply::Carried(carrying(alloc, tables, shelf, room, own, *session, *version)?))
         }
         Look::Sessions { from } => Ok(Reply::Sessions(sessions_from(alloc, tables, own, *from)?)),
+        Look::Choices { session } => {
+            Ok(Reply::Choices(choices_at(alloc, tables, shelf, room, own, *session)?))
+        }
+        Look::Blocked { session } => {
+            Ok(Reply::Blocked(blocked_at(alloc, tables, shelf, room, own, *session)?))
+        }
     }
 }
 

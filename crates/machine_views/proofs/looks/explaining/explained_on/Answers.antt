@@ -23,15 +23,8 @@ use Rattle.machine_core.proofs.Answering.{Answers-found, Answers-stopped}
 use Rattle.machine_core.proofs.Tested.{unless-ok}
 use Rattle.machine_core.specs.Shelves.{bound_on}
 use Rattle.machine_views.specs.Answered.{answer_in}
-use Rattle.machine_views.proofs.Told.{first-run}
+use Rattle.machine_views.proofs.Told.{end-shown, first-run}
 use Rattle.machine_views.proofs.looks.explaining.explained_on.Goals as goal
-
--- what is shown of a fix is the end of its first run
-end-shown : (bound : Bound) (state : State) (answer : Answer) (verdict : Verdict)
-    → IsFound (not_in_conflict verdict) tt
-    → shown_state bound state answer verdict ≡ end_of bound.kit state answer.first
-end-shown bound state answer (Fix certain dissent) fix = refl
-end-shown bound state answer Conflict fix = absurd (cc)
 
 -- an attribute that passes the test is fixed
 fixed-is : (state : State) (attribute : ℕ) (word : List ℕ) → IsFound (fixed_at state attribute word) tt

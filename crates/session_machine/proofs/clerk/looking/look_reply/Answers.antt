@@ -3,7 +3,9 @@ use Rattle.desk_words.specs.declared.look.Look.{Look as LookOf}
 use Rattle.desk_words.specs.declared.reply.Reply.TheVariants as reply
 use Rattle.desk_words.specs.Tables.{published_of, rows_of}
 use Rattle.machine_core.specs.Checked.{Gives, done}
+use Rattle.machine_core.specs.Look.Blocked.{blocked_at}
 use Rattle.machine_core.specs.Look.Carry.{carrying}
+use Rattle.machine_core.specs.Look.Choices.{choices_at}
 use Rattle.machine_core.specs.Look.Explain.{explain}
 use Rattle.machine_core.specs.Look.Preview.{preview}
 use Rattle.machine_core.specs.Look.Records.{records_of}
@@ -114,3 +116,23 @@ returns-in_err-carrying-in-Carry-clause-answers c =
     subst Shown (sym c.in-Carry.is) (Answers-stopped (carrying published own c.in-Carry.session c.in-Carry.version)
     (λ one. done (reply.Carried one)) c.in_err-carrying-in-Carry.field-0.0 result
     c.from_residual-in_err-carrying-in-Carry.ensures.1 c.in_err-carrying-in-Carry.ensures.carried)
+
+pub returns-in_err-choices_at-in-Choices-clause-answers : goal.returns-in_err-choices_at-in-Choices-clause-answers
+returns-in_err-choices_at-in-Choices-clause-answers c =
+    let published = published_of (rows_of c.args.tables.now) in
+    let own = c.args.own.now in
+    let result = c.from_residual-in_err-choices_at-in-Choices.result in
+    let Shown : LookOf → Type 0 = λ look. Answers result (look_reply published own look) in
+    subst Shown (sym c.in-Choices.is) (Answers-stopped (choices_at published own c.in-Choices.session)
+    (λ one. done (reply.Choices one)) c.in_err-choices_at-in-Choices.field-0.0 result
+    c.from_residual-in_err-choices_at-in-Choices.ensures.1 c.in_err-choices_at-in-Choices.ensures.choices)
+
+pub returns-in_err-blocked_at-in-Blocked-clause-answers : goal.returns-in_err-blocked_at-in-Blocked-clause-answers
+returns-in_err-blocked_at-in-Blocked-clause-answers c =
+    let published = published_of (rows_of c.args.tables.now) in
+    let own = c.args.own.now in
+    let result = c.from_residual-in_err-blocked_at-in-Blocked.result in
+    let Shown : LookOf → Type 0 = λ look. Answers result (look_reply published own look) in
+    subst Shown (sym c.in-Blocked.is) (Answers-stopped (blocked_at published own c.in-Blocked.session)
+    (λ one. done (reply.Blocked one)) c.in_err-blocked_at-in-Blocked.field-0.0 result
+    c.from_residual-in_err-blocked_at-in-Blocked.ensures.1 c.in_err-blocked_at-in-Blocked.ensures.blocked)
