@@ -7,7 +7,9 @@ use Rattle.fix_model.specs.declared.kit.Kit.{Kit}
 use Rattle.fix_model.specs.declared.state.State.{State}
 use Rattle.fix_model.specs.declared.state.Step.{Step}
 use Rattle.fix_model.specs.Rules.{rule_at, step_text}
-use Rattle.fix_model.specs.States.{cell_at, fixed_by, shown, value_at}
+use Rattle.fix_model.specs.States.{cell_at, fixed_by, shown}
+use Rattle.fix_choices.specs.Choices.{differs}
+use Rattle.fix_choices.specs.Dissents.{dissent_at}
 use Rattle.fix_engine.specs.declared.verdict.Verdict.{Verdict}
 use Rattle.fix_engine.specs.declared.verdict.Verdict.TheVariants.{Fix, Conflict}
 use Rattle.sheet_clean.specs.declared.setting.Setting.{Setting}
@@ -124,8 +126,7 @@ ends_line kit setting number typed first second attribute = decimal number ∷ a
 -- the same, if they differ
 abbrev pub ends_lines : Kit → Setting → ℕ → List ℕ → State → State → ℕ → List (List (List ℕ))
 ends_lines kit setting number typed first second attribute =
-    if bytes_eq (shown_at kit first typed attribute) (shown_at kit second typed attribute) then []
-    else ends_line kit setting number typed first second attribute ∷ []
+    if differs kit first second attribute then ends_line kit setting number typed first second attribute ∷ [] else []
 
 -- the line of an attribute, if its texts at the two ends differ
 abbrev pub conflict_line : Kit → Setting → List (List ℕ) → ℕ → List (List ℕ) → State → State → ℕ
@@ -146,9 +147,10 @@ conflict_lines kit setting header number cells Conflict first second =
 -- the line of a step that dissents: what the record has at its end, and what the step would have given
 abbrev pub dissent_line : Kit → Setting → ℕ → State → Step → List (List ℕ)
 dissent_line kit setting number end step =
-    decimal number ∷ attribute_name setting (rule_at kit step.rule).head
-    ∷ value_at kit end (rule_at kit step.rule).head
-    ∷ step_fields kit setting step ++ step_text kit step ∷ []
+    let dissent = dissent_at kit end step in
+    decimal number ∷ attribute_name setting dissent.attribute
+    ∷ dissent.text
+    ∷ step_fields kit setting step ++ dissent.other ∷ []
 
 -- the line of the row of this number: at a fix from which a step dissents, that of the least such step
 abbrev pub dissent_lines : Kit → Setting → ℕ → Verdict → State → List (List (List ℕ))

@@ -9,7 +9,6 @@ ghost use Rattle.sheet_clean.specs.Setting.{IsSettingOf, attribute_name};
 ghost use Rattle.sheet_clean.specs.Steps.{origin_digits};
 ghost use Rattle.sheet_clean.specs.Writing.{Writes};
 
-use crate::bytes::are_equal;
 use crate::clean_row::shown;
 use crate::layout::Layout;
 use crate::setting::Setting;
@@ -17,6 +16,7 @@ use crate::steps::{digits_of, push_origin, row_digits};
 use crate::writing::write;
 use csv::Writer;
 use desk_base::NoMemory;
+use fix_choices::differs;
 use fix_model::{Book, State};
 use std::alloc::Global;
 
@@ -72,10 +72,7 @@ fn write_ends<B: Book<()>>(
         (ends_lines (B.kit book.now) setting.now number typed.now first.now second.now attribute) count) }
     ensures one { IfOk result (λ count. count < 2) }
 {
-    if are_equal(
-        shown(book, first, typed, attribute),
-        shown(book, second, typed, attribute),
-    ) {
+    if !differs::<(), B>(book, first, second, attribute) {
         return Ok(0);
     }
     let digits = digits_of(alloc, number)?;
