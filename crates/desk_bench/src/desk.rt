@@ -6,7 +6,7 @@ ghost use Rattle.rule_text.specs.Rulebooks.{IsRulebook};
 ghost use Rattle.schema_core.specs.Schemas.{IsSchema};
 
 use crate::sizes::Sizes;
-use crate::texts::{SCHEMA, rules_text, sheet_text};
+use crate::texts::{SCHEMA, paired_text, rules_text, sheet_text};
 use desk_base::Text;
 use fix_model::Kit;
 use master_rows::Master;
@@ -32,25 +32,46 @@ pub fn tell(rt: &(impl Eprint + CpuClock), part: &str, start: Duration) -> io::R
 pub fn kit_of<R: Eprint + CpuClock>(rt: &R, alloc: Global, sizes: Sizes) -> Result<Kit, Fail>
     ensures { IfOk result IsValid }
 {
-    let schema = Schema::read(alloc, SCHEMA)?;
-    let book = book_of(rt, alloc, &schema, sizes.rules)?;
-    bound(rt, alloc, &schema, &book, sizes.rows)
+    let sheet = sheet_text(alloc, sizes.rows)?;
+    kit_over(rt, alloc, sizes.rules, sheet.as_str())
 }
 
-/// The kit of a rulebook over a master of so many rows.
+/// The kit of one rule over a master of so many rows that contradict each other in pairs.
+pub fn paired_kit<R: Eprint + CpuClock>(rt: &R, alloc: Global, rows: u32) -> Result<Kit, Fail>
+    ensures { IfOk result IsValid }
+{
+    let sheet = paired_text(alloc, rows)?;
+    kit_over(rt, alloc, 1, sheet.as_str())
+}
+
+/// The kit of so many rules over the master that a sheet is.
+fn kit_over<R: Eprint + CpuClock>(
+    rt: &R,
+    alloc: Global,
+    rules: u32,
+    sheet: &str,
+) -> Result<Kit, Fail>
+    ensures { IfOk result IsValid }
+{
+    let schema = Schema::read(alloc, SCHEMA)?;
+    let book = book_of(rt, alloc, &schema, rules)?;
+    bound(rt, alloc, &schema, &book, sheet)
+}
+
+/// The kit of a rulebook over the master that a sheet is.
 fn bound<R: Eprint + CpuClock>(
     rt: &R,
     alloc: Global,
     schema: &Schema,
     book: &Rulebook,
-    rows: u32,
+    sheet: &str,
 ) -> Result<Kit, Fail>
     requires schema { IsSchema schema.now }
     requires rulebook { IsRulebook schema.now book.now }
     ensures { IfOk result IsValid }
 {
     let name = Text::new(alloc, b"m")?;
-    let masters = [(name, master_of(rt, alloc, rows)?)];
+    let masters = [(name, master_of(rt, alloc, sheet)?)];
     let start = clock(rt)?;
     let kit = bind(alloc, book, schema, &masters, &[])?;
     tell(rt, "binding them", start)?;
@@ -73,12 +94,11 @@ fn book_of<R: Eprint + CpuClock>(
     Ok(book)
 }
 
-fn master_of<R: Eprint + CpuClock>(rt: &R, alloc: Global, rows: u32) -> Result<Master, Fail>
+fn master_of<R: Eprint + CpuClock>(rt: &R, alloc: Global, sheet: &str) -> Result<Master, Fail>
     ensures { IfOk result IsMaster }
 {
-    let text = sheet_text(alloc, rows)?;
     let start = clock(rt)?;
-    let master = Master::read(alloc, text.as_bytes())?;
+    let master = Master::read(alloc, sheet.as_bytes())?;
     tell(rt, "reading the sheet", start)?;
     Ok(master)
 }

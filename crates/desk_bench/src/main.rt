@@ -14,13 +14,14 @@ mod sizes;
 mod texts;
 mod writes;
 
-use crate::desk::{clock, kit_of, tell};
+use crate::desk::{clock, kit_of, paired_kit, tell};
 use crate::looks::{LOOKS, rows_found};
 use crate::sessions::enter_sessions;
 use crate::sizes::Sizes;
 use desk_base::Duplicate;
 use fix_model::{Book, Kit, ListBook};
 use master_index::{MapBook, SortedBook};
+use rule_contradictions::contradictions;
 use std::alloc::Global;
 use std::env;
 use std::test::Fail;
@@ -43,7 +44,33 @@ fn measure<R: Print + Eprint + CpuClock>(rt: &R, alloc: Global, sizes: Sizes) ->
     let looked = look_into_all(rt, alloc, &kit, sizes);
     drop(kit);
     looked?;
+    contradict(rt, alloc, sizes.rows)?;
     enter_sessions(rt, alloc, sizes)
+}
+
+/// Lists the contradictions of a rule over rows that contradict each other in pairs, once the index is built.
+fn contradict<R: Print + Eprint + CpuClock>(rt: &R, alloc: Global, rows: u32) -> Result<(), Fail> {
+    let book = sorted_of(rt, alloc, paired_kit(rt, alloc, rows)?)?;
+    let listed = contradictions_of(rt, alloc, &book, rows);
+    drop(book);
+    listed
+}
+
+/// Lists the contradictions of a book's first rule, and tells how many there are.
+fn contradictions_of<R: Print + Eprint + CpuClock>(
+    rt: &R,
+    alloc: Global,
+    book: &SortedBook,
+    rows: u32,
+) -> Result<(), Fail> {
+    if Book::<()>::rules(book).is_empty() {
+        return Err(Fail::new("the kit has no rule"));
+    }
+    let start = clock(rt)?;
+    let found = contradictions(alloc, book, 0)?;
+    tell(rt, "listing the contradictions", start)?;
+    let count = found.len();
+    Ok(println!(rt; "contradictions: {count} among {rows} rows")?)
 }
 
 /// Looks into the three books over a kit.

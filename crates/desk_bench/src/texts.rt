@@ -20,6 +20,20 @@ pub fn sheet_text(alloc: Global, rows: u32) -> Result<String, AllocError> {
     Ok(text)
 }
 
+/// A sheet of so many rows of which each two that follow one another have the same text in the first column. No other
+/// text in it stands twice.
+pub fn paired_text(alloc: Global, rows: u32) -> Result<String, AllocError> {
+    let mut text = String::from_str(alloc, HEADER)?;
+    for row in 0..rows {
+        let pair = row / 2;
+        writeln!(
+            text,
+            "a{pair},b{row},c{row},d{row},e{row},f{row},g{row},h{row}"
+        )?;
+    }
+    Ok(text)
+}
+
 /// So many rules, each of which fixes one attribute by another. The first 56 look up another triple each.
 pub fn rules_text(alloc: Global, rules: u32) -> Result<String, AllocError> {
     let mut text = String::new(alloc);
