@@ -7,22 +7,22 @@ use Rattle.std.proofs.Math.Nat.{eq-or-lt_of_le}
 use Rattle.std.proofs.lemmas.List.{take_all, get_or-drop, get_or_read, get_or_default}
 use Rattle.std.proofs.lemmas.List.Folds.{Any-from_list_any, list_any-from_Any}
 
--- the items behind a place
+-- the items after a place
 abbrev pub behind : {A : Type 0} → List A → ℕ → List A
 behind items place = take (length items - (place + 1)) (drop (place + 1) items)
 
--- the items before a place differ by the key from all behind them
+-- the items before a place differ by the key from all after them
 abbrev pub DifferBefore : {A B : Type 0} → (A → B) → List A → ℕ → Type 0
 DifferBefore {A} key items place =
     (i j : ℕ) (d : A) → i < place → i < j → j < length items → key (get_or items i d) ≢ key (get_or items j d)
 
 module _ {A B : Type 0} (key : A → B) (items : List A) (place : ℕ) (item : A)
     (within : place < length items) (is : item ≡ get_or items place item) where
-  -- what stands behind a place is there whole
+  -- what stands after a place is there whole
   behind_whole : behind items place ≡ drop (place + 1) items
   behind_whole = take_all _ _ (omega (arith, length-drop (place + 1) items))
 
-  -- an item whose key stands behind it too is one of two with that key
+  -- an item whose key stands after it too is one of two with that key
   pub repeated : Any (λ later. key item ≡ key later) (behind items place)
       → ¬ AllPairs (λ one later. key one ≢ key later) items
   repeated found distinct =
@@ -33,7 +33,7 @@ module _ {A B : Type 0} (key : A → B) (items : List A) (place : ℕ) (item : A
       let there : get_or items seat later ≡ later = sym (get_or-drop (place + 1) items further later) ∙ stands in
       distinct place seat later (omega arith) inside (ap key (sym here) ∙ same ∙ ap key (sym there))
 
-  -- an item whose key doesn't stand behind it differs from all that do
+  -- an item whose key doesn't stand after it differs from all that do
   pub differs : ¬ Any (λ later. key item ≡ key later) (behind items place)
       → (j : ℕ) (d : A) → place < j → j < length items → key (get_or items place d) ≢ key (get_or items j d)
   differs none j d later inside same =
@@ -52,7 +52,7 @@ module _ {A B : Type 0} (key : A → B) (items : List A) (place : ℕ) (item : A
       ) in
       none (rw behind_whole found)
 
-  -- where the items before a place differ from all behind them, and the item there too, so do the items up to it
+  -- where the items before a place differ from all after them, and the item there too, so do the items up to it
   pub DifferBefore-next : DifferBefore key items place → ¬ Any (λ later. key item ≡ key later) (behind items place)
       → DifferBefore key items (place + 1)
   DifferBefore-next before none i j d below behind inside =

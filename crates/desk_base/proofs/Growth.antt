@@ -14,7 +14,7 @@ Appends-then (Some a) None new xs ys first second = absurd first
 Appends-then (Some a) (Some b) None xs ys first second = absurd second
 Appends-then (Some a) (Some b) (Some c) xs ys first second = second ∙ ap (λ l. l ++ ys) first ∙ append_assoc a xs ys
 
--- what a read copied to the front of a buffer, and what is left behind it, are what was left before
+-- what a read copied to the front of a buffer, and what is left after it, are what was left before
 pub copied-rest : (bytes copied buffer : List ℕ) (at count : ℕ) → count ≤ length (drop at bytes)
     → copied ≡ take count (take (length bytes - at) (drop at bytes))
     → drop at bytes ≡ take count (copied ++ drop count buffer) ++ drop (at + count) bytes

@@ -1,4 +1,4 @@
--- The rows that lie one behind another in a list of cells.
+-- The rows that lie one after another in a list of cells.
 use Rattle.std.proofs.Common.{◌≡◌, ℕ, zero, suc, ◌+◌, ◌*◌, ◌<◌, ◌≤◌, List, [], ◌∷◌, ◌++◌, length, take, drop, get_or}
 use Rattle.std.proofs.Common.{refl, ap, ◌∙◌, arith, length-drop, length-take, add-one}
 use Rattle.std.proofs.Math.Nat.{zero-mul, suc-mul}
@@ -11,7 +11,7 @@ pub length-rows_of : (columns count : ℕ) (cells : List (List ℕ)) → length 
 length-rows_of columns zero cells = refl
 length-rows_of columns (suc count) cells = ap suc (length-rows_of columns count (drop columns cells))
 
--- a row is so many cells, behind those of the rows above it
+-- a row is so many cells, after those of the rows above it
 pub get_or-rows_of : (columns count : ℕ) (cells : List (List ℕ)) (row : ℕ) (d : List (List ℕ)) → row < count
     → get_or (rows_of columns count cells) row d ≡ take columns (drop (row * columns) cells)
 get_or-rows_of columns zero cells row d h = absurd (omega arith)

@@ -1,6 +1,6 @@
--- When a device may answer that it failed, and what a write that failed leaves.
+-- When a device may answer that it failed, and what a call leaves that was broken off.
 use Rattle.std.specs.Prelude.{◌≡◌, ℕ, ◌-◌, ◌<◌, ◌≤◌, List, length, take, Option, Result, OnErr, MatchResult}
-use Rattle.std.specs.Io.KnownBytes.{Appends}
+use Rattle.std.specs.Io.KnownBytes.{Appends, Consumes}
 use Rattle.desk_base.specs.Counts.{risen}
 
 -- the count of faults rose, or it stands at its last value
@@ -23,3 +23,8 @@ pub record HasCause {T E : Type 0} (before now : ℕ) (result : Result T E) : Ty
 -- known bytes grew by a part of the piece, but not by all of it
 abbrev pub AppendsPart : Option (List ℕ) → Option (List ℕ) → List ℕ → Type 0
 AppendsPart old new piece = (count : ℕ) × (count < length piece) × Appends old new (take count piece)
+
+-- bytes were taken from a source, and may be lost
+pub record HasTaken (left after : Option (List ℕ)) : Type 0 where
+  pub bytes : List ℕ
+  pub taken : Consumes left after bytes

@@ -16,7 +16,7 @@ grid_rows_code = code_by (ℕ × List (List (List ℕ))) (coded× coded_ℕ (cod
 abbrev pub cell_text : GridRows → ℕ → ℕ → List ℕ
 cell_text table row column = slice_index_or (slice_index_or table.rows row []) column []
 
--- the first rows of so many columns, in a list of cells that has one row behind another
+-- the first rows of so many columns, in a list of cells that has one row after another
 abbrev pub rows_of : ℕ → ℕ → List (List ℕ) → List (List (List ℕ))
 rows_of columns zero cells = []
 rows_of columns (suc count) cells = take columns cells ∷ rows_of columns count (drop columns cells)

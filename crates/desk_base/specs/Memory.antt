@@ -28,7 +28,7 @@ pub record SourceSeen : Type 0 where
   pub schedule : Schedule
   pub faults : ℕ
 
--- it is stored as its fields, one behind the other
+-- it is stored as its fields, one after the other
 abbrev pub source_seen_code : Coded SourceSeen
 source_seen_code = code_by (List ℕ × (ℕ × (Schedule × ℕ)))
     (coded× (coded_list coded_ℕ) (coded× coded_ℕ (coded× schedule_code coded_ℕ)))
@@ -44,7 +44,7 @@ pub record SinkSeen : Type 0 where
   pub schedule : Schedule
   pub faults : ℕ
 
--- it is stored as its fields, one behind the other
+-- it is stored as its fields, one after the other
 abbrev pub sink_seen_code : Coded SinkSeen
 sink_seen_code = code_by (List ℕ × (ℕ × (ℕ × (Schedule × ℕ))))
     (coded× (coded_list coded_ℕ) (coded× coded_ℕ (coded× coded_ℕ (coded× schedule_code coded_ℕ))))

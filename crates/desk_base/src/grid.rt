@@ -5,7 +5,7 @@ ghost use Rattle.desk_base.specs.Grid.{cell_text, rows_of};
 
 use crate::duplicate::{Duplicate, copies};
 use crate::error::NoMemory;
-use crate::limits::MAX_ROWS;
+use crate::limits::MAX_SHEET_ROWS;
 use crate::list::List;
 use crate::text::Text;
 use std::alloc::Global;
@@ -22,7 +22,7 @@ pub struct Grid {
 impl Model for Grid {
     ghost use Rattle.std.specs.Prelude.{◌≡◌, ◌*◌, ◌≤◌, length};
     ghost use Rattle.desk_base.specs.Grid.{GridRows, grid_rows_code, rows_of};
-    ghost use Rattle.desk_base.specs.declared.limits.TheConstants.{MAX_ROWS};
+    ghost use Rattle.desk_base.specs.declared.limits.TheConstants.{MAX_SHEET_ROWS};
 
     ghost Value = { GridRows };
 
@@ -30,7 +30,7 @@ impl Model for Grid {
 
     ghost view = { λ g. record { columns = g.width; rows = rows_of g.width g.count g.cells.items } };
 
-    ghost invariant = { λ g. (g.count ≤ MAX_ROWS) × (length g.cells.items ≡ g.count * g.width) };
+    ghost invariant = { λ g. (g.count ≤ MAX_SHEET_ROWS) × (length g.cells.items ≡ g.count * g.width) };
 }
 
 impl Grid {
@@ -45,9 +45,9 @@ impl Grid {
         }
     }
 
-    /// A grid of so many rows, whose cells lie one behind another, row after row.
+    /// A grid of so many rows, whose cells lie one after another, row after row.
     pub fn from_cells(columns: u16, rows: u32, cells: List<Text>) -> Grid
-        requires few { rows ≤ MAX_ROWS }
+        requires few { rows ≤ MAX_SHEET_ROWS }
         requires full { length cells ≡ rows * columns }
         ensures { result ≡ record { columns = columns; rows = rows_of columns rows cells } }
     {
@@ -58,10 +58,10 @@ impl Grid {
         }
     }
 
-    /// Adds a row behind the others. Where there is no memory the grid is as before, and the row is gone.
+    /// Adds a row after the others. Where there is no memory the grid is as before, and the row is gone.
     pub fn push_row(&mut self, row: List<Text>) -> Result<(), NoMemory>
         requires full { length row ≡ self.old.columns }
-        requires room { length self.old.rows < MAX_ROWS }
+        requires room { length self.old.rows < MAX_SHEET_ROWS }
         ensures pushed { OnOk result (self.new ≡ record self.old { rows = self.old.rows ++ row ∷ [] }) }
         ensures unchanged { OnErr result (self.new ≡ self.old) }
     {
@@ -71,10 +71,10 @@ impl Grid {
         Ok(())
     }
 
-    /// How many rows there are, at most 20,000, each with a text in every column.
+    /// How many rows there are, at most 2,000,000, each with a text in every column.
     pub fn rows(&self) -> u32
         ensures rows { result ≡ length self.now.rows }
-        ensures few { result ≤ MAX_ROWS }
+        ensures few { result ≤ MAX_SHEET_ROWS }
         ensures full { All (λ row. length row ≡ self.now.columns) self.now.rows }
     {
         self.count

@@ -2,7 +2,7 @@
 //! grid of master data, counted steps, and the streams that a program reads and writes.
 //!
 //! A clause sees a `Text` as its bytes, a `List` as its items, a `Room` as its items and the places
-//! that are reserved behind them, a `Grid` as its rows of cells, and a `Source` or a `Sink` as the
+//! that are reserved after them, a `Grid` as its rows of cells, and a `Source` or a `Sink` as the
 //! bytes that it has left or holds, with a count of its faults. `specs/` says what the words mean.
 #![tactic(auto)]
 
@@ -32,8 +32,8 @@ pub use limits::{
     MAX_ACTIVE_SESSIONS, MAX_ATTRIBUTES, MAX_BATCH_BODY, MAX_BATCH_ROWS, MAX_BATCHES, MAX_BODY,
     MAX_CLERKS, MAX_COLUMN, MAX_COLUMNS, MAX_CONDITIONS, MAX_EDITIONS, MAX_ENTRIES, MAX_FIELDS,
     MAX_HEAD, MAX_INPUT, MAX_KEYS, MAX_LONG_BODY, MAX_MASTER_CELLS, MAX_MASTERS, MAX_REGION_ROWS,
-    MAX_REGIONS, MAX_REQUEST, MAX_ROWS, MAX_RULES, MAX_SESSIONS, MAX_SET, MAX_TEXT, MAX_TEXT_BYTES,
-    MAX_VERSIONS, MAX_WORD,
+    MAX_REGIONS, MAX_REQUEST, MAX_ROWS, MAX_RULES, MAX_SESSIONS, MAX_SET, MAX_SHEET_ROWS, MAX_TEXT,
+    MAX_TEXT_BYTES, MAX_VERSIONS, MAX_WORD,
 };
 pub use list::List;
 pub use memory::{CallPlan, MemLink, MemSink, MemSource};

@@ -27,8 +27,11 @@ pub const MAX_SET: usize = 64;
 /// The most columns of a master or a batch.
 pub const MAX_COLUMNS: usize = 48;
 
-/// The most rows of a master, without its header.
+/// The most rows of a master that a desk keeps, without its header.
 pub const MAX_ROWS: u32 = 20_000;
+
+/// The most rows of any master, without its header.
+pub const MAX_SHEET_ROWS: u32 = 2_000_000;
 
 /// The most masters of an edition.
 pub const MAX_MASTERS: usize = 8;

@@ -9,7 +9,7 @@ use crate::error::NoMemory;
 use std::alloc::Global;
 use std::marker::Model;
 
-/// A list of items, with places reserved behind them.
+/// A list of items, with places reserved after them.
 #[derive(Debug, Drop)]
 pub struct Room<T> {
     items: Vec<T>,

@@ -54,7 +54,7 @@ abbrev pub HandsOut : Option (List (List ℕ)) → Option (List (List ℕ)) → 
 HandsOut None new link = new ≡ None
 HandsOut (Some waiting) new link = TakesFirst waiting new link
 
--- a link is closed, and stands behind those that were closed before, where the door tells these
+-- a link is closed, and stands after those that were closed before, where the door tells these
 abbrev pub Closes : Option (List LinkSeen) → Option (List LinkSeen) → LinkSeen → Type 0
 Closes None new link = new ≡ None
 Closes (Some closed) new link = new ≡ Some (closed ++ link ∷ [])

@@ -184,7 +184,7 @@ module _ (kit : Kit) (valid : IsValid kit) (end : State) where
   -- ---- a supported run may be made from a state further on
 
   module _ (leads : List Lead) where
-    -- from a state further on, a supported run covers what is covered behind another, and leaves an attribute uncovered
+    -- from a state further on, a supported run covers what is covered after another, and leaves an attribute uncovered
     pub record IsFollowed (behind further : State) (left_out : ℕ) : Type 0 where
       pub after_it : List Step
       pub supported : IsSupportedRun kit end further after_it

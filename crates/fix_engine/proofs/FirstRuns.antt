@@ -14,7 +14,7 @@ use Rattle.fix_model.proofs.Runs.{IsFirstRun-nil, IsFirstRun-cons, end_of-append
 use Rattle.fix_engine.specs.declared.runs.Runs.{Runs}
 use Rattle.fix_engine.specs.Runs.{IsBegun, IsCompleted}
 
--- steps were made behind those that are there: they lead to the new state, and with its first run they are the first
+-- steps were made after those that are there: they lead to the new state, and with its first run they are the first
 -- run of the old one
 pub record IsBeginning (kit : Kit) (old new : State) (before run : List Step) : Type 0 where
   pub rest : List Step

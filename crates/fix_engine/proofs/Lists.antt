@@ -6,11 +6,11 @@ use Rattle.std.specs.Prelude.{All, Contains}
 pub Contains-first : {A : Type 0} (x : A) (xs : List A) → Contains (x ∷ xs) x
 Contains-first x xs = (zero, omega arith, refl)
 
--- an item behind the first is in the list
+-- an item after the first is in the list
 pub Contains-behind : {A : Type 0} (x y : A) (xs : List A) → Contains xs y → Contains (x ∷ xs) y
 Contains-behind x y xs (k, within, is) = (suc k, omega (arith, within), is)
 
--- an item of a list is the first or behind it
+-- an item of a list is the first or after it
 pub Contains-cases : {A : Type 0} (x y : A) (xs : List A) → Contains (x ∷ xs) y → (y ≡ x) ⊎ Contains xs y
 Contains-cases x y xs (zero, within, is) = inl (sym is)
 Contains-cases x y xs (suc k, within, is) = inr (k, omega (arith, within), is)

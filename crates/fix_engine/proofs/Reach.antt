@@ -58,7 +58,7 @@ module _ (kit : Kit) (valid : IsValid kit) (end : State) where
       IsLedTo-supported leads (after kit state step) rest (Fits-after kit state step fits supported.0.fires)
       (IsLedTo-after kit valid end leads state fits led step supported.0.fires supported.0.keeps) supported.1
 
-  -- what is covered before is covered behind it
+  -- what is covered before is covered after it
   still_covered : (state : State) (run : List Step) (attribute : ℕ) → IsSupportedRun kit end state run
       → IsCovered state attribute → IsCovered (end_of kit state run) attribute
   still_covered state run attribute supported covered =
@@ -76,7 +76,7 @@ module _ (kit : Kit) (valid : IsValid kit) (end : State) where
 
   module _ (leads : List Lead) (state : State) (step : Step) (fits : Fits kit state) (led : IsLedTo kit state end leads)
       (fires : Fires kit state step) (supports : Supports kit end step.rule) (keeps : Keeps kit end step) where
-    -- behind the step its head cannot be departed at
+    -- after the step its head cannot be departed at
     pub head_stays : (attribute : ℕ) → CanDepart kit end (after kit state step) attribute
         → attribute ≢ (rule_at kit step.rule).head
     head_stays attribute depart same =
@@ -87,7 +87,7 @@ module _ (kit : Kit) (valid : IsValid kit) (end : State) where
         depart.fires.uncovered (subst (λ (place : ℕ). IsCovered (end_of kit (after kit state step) depart.run) place)
         (sym same ∙ sym depart.head) later)
 
-    -- each other attribute can be departed at behind it, where it could before
+    -- each other attribute can be departed at after it, where it could before
     pub still_departs : (attribute : ℕ) → CanDepart kit end state attribute → attribute ≢ (rule_at kit step.rule).head
         → CanDepart kit end (after kit state step) attribute
     still_departs attribute depart apart =

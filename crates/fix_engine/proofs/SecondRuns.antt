@@ -15,7 +15,7 @@ use Rattle.fix_engine.specs.declared.second_run.Turn.{Turn}
 use Rattle.fix_engine.specs.Turns.{BeginsElsewhere, IsLeastElsewhere, IsLeastOfAll, IsLeftFrom, IsTurn}
 use Rattle.fix_engine.proofs.Turns.{IsLeastElsewhere-departs, IsLeastElsewhere-keeps, IsLeftFrom-after}
 
--- steps were made behind those that are there: they keep to the end, from which a run can depart still, and they are
+-- steps were made after those that are there: they keep to the end, from which a run can depart still, and they are
 -- the beginning of the least run that ends elsewhere
 pub record KeepsSoFar (kit : Kit) (end old new : State) (leads : List Lead) (flags : List Bool) (before run : List Step)
     : Type 0 where

@@ -164,7 +164,7 @@ module _ (kit : Kit) (valid : IsValid kit) (end : State) (leads : List Lead) (st
         )
 
     module _ (only : (other : ℕ) → IsFlagged flags other → other ≡ (rule_at kit place).head) where
-      -- where nothing else can be departed at, no run goes elsewhere behind a step that keeps to the end
+      -- where nothing else can be departed at, no run goes elsewhere after a step that keeps to the end
       departs_now : (step : Step) (rest : List Step) → step.rule ≡ place → IsMaximalRun kit state (step ∷ rest)
           → EndsElsewhere kit end state (step ∷ rest) → ¬ Keeps kit end step
       departs_now step rest is ((fires, whole), final) elsewhere same =
@@ -239,7 +239,7 @@ module _ (kit : Kit) (valid : IsValid kit) (end : State) (leads : List Lead) (st
 
   -- ---- the run goes on
 
-  -- behind the least step the least run from there is the least
+  -- after the least step the least run from there is the least
   least_behind : (step : Step) (rest : List Step) → IsLeastOfAll kit end state step
       → ((other : List Step) → IsElsewhere kit end (after kit state step) other
       → (rest ≡ other) ⊎ IsRunBefore rest other)
@@ -284,7 +284,7 @@ module _ (kit : Kit) (valid : IsValid kit) (end : State) (leads : List Lead) (st
     least = least_behind step rest least (λ other is. first.least other is.maximal);
   }
 
--- it is still one behind a turn that keeps to it, which takes the head out of the departures
+-- it is still one after a turn that keeps to it, which takes the head out of the departures
 pub IsLeftFrom-after : (kit : Kit) (valid : IsValid kit) (state end : State) (leads : List Lead) (flags : List Bool)
     (turn : Turn) (head : ℕ) → Fits kit state → IsLeftFrom kit state end leads flags → IsTurn kit end state turn
     → turn.departs ≡ false → head ≡ (rule_at kit turn.step.rule).head

@@ -58,7 +58,8 @@ module _ (kit : Kit) (valid : IsValid kit) (state : State) (step : Step) (fits :
 -- after the least step no rule fires that comes before the one to go on from
 pub IsIdle-woken : (kit : Kit) (valid : IsValid kit) (state : State) (step : Step) (from : ℕ) → Fits kit state
     → IsLeastStep kit state step → from ≤ step.rule + 1
-    → NoneWaitsBefore kit (rule_at kit step.rule).head from → (place : ℕ) → place < from → IsIdle kit (after kit state step) place
+    → NoneWaitsBefore kit (rule_at kit step.rule).head from → (place : ℕ) → place < from
+    → IsIdle kit (after kit state step) place
 IsIdle-woken kit valid state step from fits least up_to none place within = elim (cases_eq place step.rule) [
   | inl same ↦ rw same (IsIdle-made kit valid state step fits least.holds)
   | inr other ↦ λ later is fires.
@@ -76,7 +77,8 @@ module _ (kit : Kit) (valid : IsValid kit) (end state : State) (step : Step) (fi
     (fires : Fires kit state step) where
   -- a maximal run after the step may begin with another step of a rule that does not name the head: it makes both in
   -- the other order
-  IsMaximalRun-turned : (other : Step) (rest : List Step) → IsApart (rule_at kit step.rule).head (rule_at kit other.rule)
+  IsMaximalRun-turned : (other : Step) (rest : List Step)
+      → IsApart (rule_at kit step.rule).head (rule_at kit other.rule)
       → IsMaximalRun kit (after kit state step) (other ∷ rest)
       → IsMaximalRun kit state (other ∷ (step ∷ rest))
       × (end_of kit state (other ∷ (step ∷ rest)) ≡ end_of kit (after kit state step) (other ∷ rest))
@@ -93,7 +95,8 @@ module _ (kit : Kit) (valid : IsValid kit) (end state : State) (step : Step) (fi
         enabled = IsEnabled-inside kit state next inside (rule_at kit step.rule) fires.enabled;
         uncovered = λ covered. fires.uncovered (rw (cell_at-other kit valid state other fits before
             (rule_at kit step.rule).head (λ same. heads (sym same))) at covered);
-        agrees = RowAgrees-inside kit state next inside (rule_at kit step.rule) step.row fires.enabled.keys fires.agrees;
+        agrees = RowAgrees-inside kit state next inside (rule_at kit step.rule) step.row
+            fires.enabled.keys fires.agrees;
       } in
       let turned : after kit next step ≡ after kit (after kit state step) other =
       ap (λ (cells : List Cell). record state { cells = cells })

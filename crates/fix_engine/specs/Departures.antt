@@ -52,7 +52,7 @@ IsSupportedRun kit end state [] = ⊤
 IsSupportedRun kit end state (step ∷ rest) =
     IsSupportedStep kit end state step × IsSupportedRun kit end (after kit state step) rest
 
--- behind such a run some step departs at the attribute
+-- after such a run some step departs at the attribute
 pub record CanDepart (kit : Kit) (end state : State) (attribute : ℕ) : Type 0 where
   pub run : List Step
   pub supported : IsSupportedRun kit end state run

@@ -57,7 +57,7 @@ module _ (kit : Kit) (valid : IsValid kit) (target : ℕ) (state : State) (step 
       behind narrow other narrow_fits no_more sub fixes = later.least narrow other narrow_fits
           (λ attribute covered. IsCovered-after kit state step fires attribute (no_more attribute covered)) sub fixes
 
-      -- a part that makes the step has them behind it, and began where what is wanted is covered
+      -- a part that makes the step has them after it, and began where what is wanted is covered
       here : (narrow : State) (other : List Step) → Fits kit narrow → CoversNoMore state narrow
           → IsSubList other rest → Fixes kit narrow target (step ∷ other)
           → IsSubList marked other × CoversWanted wanted state narrow

@@ -40,7 +40,7 @@ IsStepIn-sub step (first ∷ part) (next ∷ whole) sub there = elim sub [
   ]
 ]
 
--- it stands between those before it and those behind it
+-- it stands between those before it and those after it
 pub IsStepIn-split : (step : Step) (steps : List Step) → IsStepIn step steps
     → (front : List Step) × (rest : List Step) × (steps ≡ front ++ step ∷ rest)
 IsStepIn-split step [] there = absurd there

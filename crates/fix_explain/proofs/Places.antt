@@ -35,7 +35,7 @@ module _ (kit : Kit) (valid : IsValid kit) (target : ℕ) (state : State) (run :
     fires = Fires-at kit state run place past whole within
 
     module _ (marked : List Step) where
-      -- what is marked behind a place, and what it wants
+      -- what is marked after a place, and what it wants
       abbrev Behind : Type 0
       Behind = IsMarked kit target (end_of kit state (take (suc place) run)) (drop (suc place) run) (reverse marked)
           (IsWanted kit target marked)

@@ -51,7 +51,7 @@ module _ {A : Type 0} (test : A → Bool) (items : List A) (k : ℕ) (d : A) (wi
   filter-take : filter test (take (k + 1) items) ≡ filter test (take k items) ++ filter test (get_or items k d ∷ [])
   filter-take = rw (add-one, take-suc items k d within) (filter-append test (take k items) (get_or items k d ∷ []))
 
-  -- one item more that passes stands behind those before it
+  -- one item more that passes stands after those before it
   pub filter-take-passes : test (get_or items k d) ≡ true → filter test (take (k + 1) items)
       ≡ filter test (take k items) ++ get_or items k d ∷ []
   filter-take-passes passes = filter-take ∙ rw passes refl

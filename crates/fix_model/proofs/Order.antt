@@ -8,13 +8,13 @@ use Rattle.std.specs.Ordering.{nat_cmp, ordering_then, is_ne}
 use Rattle.std.specs.declared.cmp.Ordering.{Ordering}
 use Rattle.std.specs.declared.cmp.Ordering.TheVariants.{Less, Equal, Greater}
 
--- an order that is not equal decides, whatever comes behind it
+-- an order that is not equal decides, whatever comes after it
 ordering_then-decided : (order rest : Ordering) → is_ne order ≡ true → ordering_then order rest ≡ order
 ordering_then-decided Less rest decided = refl
 ordering_then-decided Equal rest decided = absurd cc
 ordering_then-decided Greater rest decided = refl
 
--- an equal one leaves it to what comes behind
+-- an equal one leaves it to what comes after
 ordering_then-tied : (order rest : Ordering) → is_ne order ≡ false → ordering_then order rest ≡ rest
 ordering_then-tied Less rest tied = absurd cc
 ordering_then-tied Equal rest tied = refl
@@ -30,7 +30,7 @@ slice_cmp-map R f g (x ∷ xs) (y ∷ ys) = ap (ordering_then (R (f x) (g y))) (
 
 module _ {A B : Type 0} (R : A → B → Ordering) (xs : List A) (ys : List B) (k : ℕ) (d : A) (e : B)
     (within : k < length xs) (there : k < length ys) where
-  -- what stands from a place on is ordered by the items there, and where they tie by what stands behind
+  -- what stands from a place on is ordered by the items there, and where they tie by what stands after
   slice_cmp-drop : slice_cmp R (drop k xs) (drop k ys)
       ≡ ordering_then (R (get_or xs k d) (get_or ys k e)) (slice_cmp R (drop (k + 1) xs) (drop (k + 1) ys))
   slice_cmp-drop = rw (drop-cons xs k d within, drop-cons ys k e there, add-one) refl
@@ -41,7 +41,7 @@ module _ {A B : Type 0} (R : A → B → Ordering) (xs : List A) (ys : List B) (
     turned = slice_cmp-drop ∙ ap (λ first. ordering_then first (slice_cmp R (drop (k + 1) xs) (drop (k + 1) ys)))
         (sym is)
 
-    -- items that tie leave the order to what stands behind them
+    -- items that tie leave the order to what stands after them
     pub slice_cmp-drop_tied : is_ne order ≡ false → slice_cmp R (drop k xs) (drop k ys)
         ≡ slice_cmp R (drop (k + 1) xs) (drop (k + 1) ys)
     slice_cmp-drop_tied tied = turned ∙ ordering_then-tied order _ tied

@@ -7,7 +7,7 @@ use Rattle.std.proofs.lemmas.List.{append-nil, map-append}
 use Rattle.std.proofs.lemmas.List.Elements.{filter-append}
 use Rattle.std.proofs.lemmas.List.Sums.{sum_by-append}
 
--- one number more stands behind the others
+-- one number more stands after the others
 pub range_with_len-suc : (from count : ℕ) → range_with_len from (suc count)
     ≡ range_with_len from count ++ (from + count) ∷ []
 range_with_len-suc from zero = ap (λ n. n ∷ []) (omega arith)

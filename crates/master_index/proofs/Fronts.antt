@@ -25,7 +25,7 @@ use Rattle.master_index.proofs.Halving.{below_or, turned_less}
 
 -- ---- the front of eight bytes
 
--- a text cut to eight bytes, with zeros behind a shorter one, reads like the text there
+-- a text cut to eight bytes, with zeros after a shorter one, reads like the text there
 get_or-padded : (text : List ℕ) (size place : ℕ) → size ≡ min (length text) 8 → place < 8
     → get_or (take size text ++ drop size (replicate 8 0)) place 0 ≡ get_or text place 0
 get_or-padded text size place is within = elim (below_or place size) [
@@ -176,7 +176,7 @@ key_order-fronts one other number against is has apart = elim (below_or number a
       ∙ sym (turned_less other one (key_order-less other one against number has is more))
 ]
 
--- so the order of their fronts decides, whatever comes behind it
+-- so the order of their fronts decides, whatever comes after it
 pub ordering_then-fronts : (one other : List (List ℕ)) (number against : ℕ) (order rest : Ordering)
     → IsKeyFront one number → IsKeyFront other against → order ≡ nat_cmp number against → is_ne order ≡ true
     → order ≡ ordering_then (key_order one other) rest

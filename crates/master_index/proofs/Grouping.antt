@@ -22,6 +22,10 @@ use Rattle.fix_model.specs.Hit.{IsFirstOf, IsHitOf, IsOtherOf}
 use Rattle.fix_model.proofs.Hits.{IsHitOf-iff}
 use Rattle.master_index.specs.Sorted.{AreEntries, EndsWithKey, IsEntryOf, IsGrown, row_order, StandsBefore}
 
+-- what is read past the last entry
+abbrev pub nothing : Hit
+nothing = record { first = 0; other = None }
+
 -- the order of keys is total
 pub key_order-total : IsTotalOrder key_order
 key_order-total = lists_total nat_list_cmp_total
@@ -87,7 +91,7 @@ module _ (key : ℕ → List (List ℕ)) where
       not_less-order row other (nat_cmp row other) refl (rw tied at not_less)
 
 module _ (P : ℕ → Type 0) (row : ℕ) (behind : (other : ℕ) → P other → other ≤ row) where
-  -- the rows with a property, and one that stands behind them
+  -- the rows with a property, and one that stands after them
   abbrev pub OneMore : ℕ → Type 0
   OneMore other = P other ⊎ (other ≡ row)
 
@@ -258,14 +262,10 @@ module _ (key : ℕ → List (List ℕ)) (text : ℕ → List ℕ) (rows : List 
             few = omega (arith, size, are.few);
           }
 
-  -- where the last entry has another key than a row that is not before the others, the row's key is behind those of all
+  -- where the last entry has another key than a row that is not before the others, the row's key is after those of all
   -- entries
   module _ (not_before : (other : ℕ) → StandsBefore rows count other → is_lt (row_order key row other) ≡ false)
       (other_key : ¬ EndsWithKey key entries row) where
-    -- what is read past the last entry
-    abbrev nothing : Hit
-    nothing = record { first = 0; other = None }
-
     -- the key of the last entry is before that of the row
     last-less : 0 < length entries → key_order (key (get_or entries (length entries - 1) nothing).first) (key row)
         ≡ Less
@@ -293,7 +293,7 @@ module _ (key : ℕ → List (List ℕ)) (text : ℕ → List ℕ) (rows : List 
               (are.ascending k (length entries - 1) nothing before (omega arith)) (last-less some))
         ]
 
-  -- a row whose key is behind those of all entries has an entry of its own
+  -- a row whose key is after those of all entries has an entry of its own
   module _ (ahead : (k : ℕ) (d : Hit) → k < length entries → key_order (key (get_or entries k d).first) (key row)
       ≡ Less) where
     -- the entry of the row alone

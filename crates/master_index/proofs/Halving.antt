@@ -23,7 +23,7 @@ use Rattle.master_index.specs.Counts.{RisesByDigits}
 use Rattle.master_index.specs.Sorted.{AreEntries, AreEntriesOf}
 use Rattle.master_index.proofs.Grouping.{key_order-exact, key_order-irreflexive, key_order-total}
 
--- the entries before one place are before the key, and those from another on behind it
+-- the entries before one place are before the key, and those from another on after it
 pub record IsNarrowed (key : ℕ → List (List ℕ)) (entries : List Hit) (sought : List (List ℕ)) (low high : ℕ) : Type 0
   where
     pub low_high : low ≤ high
@@ -32,11 +32,11 @@ pub record IsNarrowed (key : ℕ → List (List ℕ)) (entries : List Hit) (soug
     pub above : (k : ℕ) (d : Hit) → high ≤ k → k < length entries → key_order (key (get_or entries k d).first) sought
         ≡ Greater
 
--- a key that is behind another has it before itself
+-- a key that is after another has it before itself
 turned_greater : (one other : List (List ℕ)) → key_order one other ≡ Greater → key_order other one ≡ Less
 turned_greater one other greater = key_order-total.antisymm other one ∙ ap ordering_reverse greater
 
--- and a key that is before another has it behind itself
+-- and a key that is before another has it after itself
 pub turned_less : (one other : List (List ℕ)) → key_order one other ≡ Less → key_order other one ≡ Greater
 turned_less one other less = key_order-total.antisymm other one ∙ ap ordering_reverse less
 
@@ -79,7 +79,7 @@ module _ (key : ℕ → List (List ℕ)) (text : ℕ → List ℕ) (IsListed : �
       above = narrowed.above;
     }
 
-    -- one behind it has all from it on behind it
+    -- one after it has all from it on after it
     pub IsNarrowed-greater : key_order (key_at middle d) sought ≡ Greater → IsNarrowed key entries sought low middle
     IsNarrowed-greater greater = record {
       low_high = from;

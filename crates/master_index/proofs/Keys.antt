@@ -63,7 +63,7 @@ module _ {Z : Type 0} where
   lent_numbers None lent is = is.0
   lent_numbers (Some held) lent is = ap (λ numbers. numbers.items) is
 
-  -- a number that is pushed through an entry stands behind those at its key, and nowhere else
+  -- a number that is pushed through an entry stands after those at its key, and nowhere else
   pub numbers_at-pushed : (old now : BTreeMap (Vec ℕ Z) (Vec ℕ Z)) (next : List (Vec ℕ Z × Vec ℕ Z))
       (key lent pushed : Vec ℕ Z) (number : ℕ) → UpdatesBy key_cmp (key_cmp key) old now (Some pushed) → next
       ≡ now.entries → UnwrapsOrElse (at old key.items) (λ made. (made.items ≡ []) × (vec_len made ≡ 0)) lent

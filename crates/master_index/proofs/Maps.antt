@@ -21,7 +21,7 @@ IsMapFor-twin : (kit : Kit) (rule other : Rule) (map : RowMap) → IsTwin kit ru
 IsMapFor-twin kit rule other map twin is key = rw (twin.master, twin.column, twin.folded) (is key)
 
 module _ (kit : Kit) (index : Index) (maps : List RowMap) where
-  -- a rule keeps its map where more maps and more places stand behind
+  -- a rule keeps its map where more maps and more places stand after
   HasMap-more : (places : List ℕ) (rule : ℕ) → rule < length index.places → HasMap kit index rule
       → HasMap kit (record { maps = index.maps ++ maps; places = index.places ++ places }) rule
   HasMap-more places rule within has =

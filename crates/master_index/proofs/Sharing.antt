@@ -77,7 +77,7 @@ ShareTriple-sym kit rule other shares = record {
 }
 
 module _ (kit : Kit) (triples : Triples) (owners : List ℕ) where
-  -- a rule keeps its owner where more owners and more places stand behind
+  -- a rule keeps its owner where more owners and more places stand after
   HasOwner-more : (places : List ℕ) (rule : ℕ) → rule < length triples.places → HasOwner kit triples rule
       → HasOwner kit (record { owners = triples.owners ++ owners; places = triples.places ++ places }) rule
   HasOwner-more places rule within has =

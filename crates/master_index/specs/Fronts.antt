@@ -3,7 +3,7 @@ use Rattle.std.specs.Prelude.{◌≡◌, ℕ, ◌<◌, List, [], All, length, sl
 use Rattle.std.specs.Int.{from_be_bytes, w64}
 use Rattle.fix_model.specs.declared.book.Hit.{Hit}
 
--- the first eight bytes of a text as one number, in which an earlier byte weighs more; a shorter text has zeros behind
+-- the first eight bytes of a text as one number, in which an earlier byte weighs more; a shorter text has zeros after
 -- it
 unfoldable pub front : List ℕ → ℕ
 front text = from_be_bytes w64 text

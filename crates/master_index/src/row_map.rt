@@ -38,7 +38,7 @@ impl RowMap {
         Ok(map)
     }
 
-    /// Adds a row behind those at its key.
+    /// Adds a row after those at its key.
     fn add(&mut self, key: Vec<u8>, row: u32) -> Result<(), NoMemory>
         ensures { OnOk result ((other : List ℕ) → rows_at self.new other
             ≡ (if bytes_eq other key.items then rows_at self.old other ++ row ∷ [] else rows_at self.old other)) }

@@ -16,11 +16,11 @@ use Rattle.master_rows.specs.declared.error.SheetFault.{SheetFault}
 use Rattle.master_rows.specs.declared.error.SheetFault.TheVariants.{NotUtf8, NoHeader, BadColumn, ColumnTwice, Ragged}
 use Rattle.master_rows.specs.declared.error.SheetFault.TheVariants.{CellLong, TooManyRows, TooManyColumns}
 use Rattle.master_rows.specs.declared.master.Master.{Master}
-use Rattle.master_rows.specs.Causes.{HasCause, IsOf}
+use Rattle.master_rows.specs.Causes.{HasCauseWithin, IsOf}
 use Rattle.master_rows.specs.Header.{is_column, columns_fault, header_fault}
 use Rattle.master_rows.specs.Mark.{begins_with_two_marks}
 use Rattle.master_rows.specs.Row.{cells_fault, row_fault, rows_fault}
-use Rattle.master_rows.specs.Sheet.{read_records, read_sheet, sheet_records, unless}
+use Rattle.master_rows.specs.Sheet.{records_within, sheet_within, sheet_records, unless}
 
 -- the first of two faults, or the second
 option_or-Some : (first later : Option SheetFault) (fault : SheetFault) → option_or first later ≡ Some fault
@@ -34,10 +34,10 @@ unless-fault : (first : Option SheetFault) (master : Master) (fault : SheetFault
 unless-fault None master fault is = absurd cc
 unless-fault (Some one) master fault is = cc
 
-module _ (header : List (List ℕ)) (rows : List (List (List ℕ))) where
-  -- a fault of the columns behind earlier ones
+module _ (most : ℕ) (header : List (List ℕ)) (rows : List (List (List ℕ))) where
+  -- a fault of the columns after earlier ones
   columns_fault-cause : (earlier later : List (List ℕ)) → earlier ++ later ≡ header → (fault : SheetFault)
-      → columns_fault earlier later ≡ Some fault → IsOf (header ∷ rows) fault
+      → columns_fault earlier later ≡ Some fault → IsOf most (header ∷ rows) fault
   columns_fault-cause earlier [] joined fault is = absurd cc
   columns_fault-cause earlier (column ∷ later) joined fault is =
       let here : slice_get header (length earlier) ≡ Some column =
@@ -46,7 +46,7 @@ module _ (header : List (List ℕ)) (rows : List (List (List ℕ))) where
         | inr other ↦
             let bad = rw other at is in
             let named : BadColumn (length earlier + 1) ≡ fault = cc in
-            subst (IsOf (header ∷ rows)) named (record {
+            subst (IsOf most (header ∷ rows)) named (record {
               header = header;
               first = refl;
               place = length earlier;
@@ -61,7 +61,7 @@ module _ (header : List (List ℕ)) (rows : List (List (List ℕ))) where
               let first : slice_get earlier place ≡ Some other =
               slice_get_read earlier (length earlier) place other refl within (sym there) in
               let equal : column ≡ other = (bytes_eq-Decides column other).0 same in
-              subst (IsOf (header ∷ rows)) named (record {
+              subst (IsOf most (header ∷ rows)) named (record {
                 header = header;
                 first = refl;
                 earlier = place;
@@ -81,27 +81,27 @@ module _ (header : List (List ℕ)) (rows : List (List (List ℕ))) where
       ]
 
   -- a fault of the header
-  header_fault-cause : (fault : SheetFault) → header_fault header ≡ Some fault → IsOf (header ∷ rows) fault
+  header_fault-cause : (fault : SheetFault) → header_fault header ≡ Some fault → IsOf most (header ∷ rows) fault
   header_fault-cause fault is =
       elim (cases_Bool (list_all is_utf8 header)) [
         | inr other ↦
             let bad = rw other at is in
             let named : NotUtf8 0 ≡ fault = cc in
-            subst (IsOf (header ∷ rows)) named other
+            subst (IsOf most (header ∷ rows)) named other
         | inl texts ↦ elim (cases_Bool (nat_lt 48 (length header))) [
           | inl many ↦
               let bad = rw (texts, many) at is in
               let named : TooManyColumns ≡ fault = cc in
-              subst (IsOf (header ∷ rows)) named (ltb-true 48 (length header) many)
+              subst (IsOf most (header ∷ rows)) named (ltb-true 48 (length header) many)
           | inr few ↦ columns_fault-cause [] header refl fault (rw (texts, few) at is)
         ]
       ]
 
   module _ (row : ℕ) (cells : List (List ℕ)) (stands : slice_get (header ∷ rows) row ≡ Some cells) where
-    -- a fault of the cells behind earlier ones
+    -- a fault of the cells after earlier ones
     cells_fault-cause : (earlier later : List (List ℕ)) → earlier ++ later ≡ cells → (column : ℕ)
         → column ≡ length earlier + 1 → (fault : SheetFault) → cells_fault row column later ≡ Some fault
-        → IsOf (header ∷ rows) fault
+        → IsOf most (header ∷ rows) fault
     cells_fault-cause earlier [] joined column counted fault is = absurd cc
     cells_fault-cause earlier (cell ∷ later) joined column counted fault is =
         elim (cases_Bool (nat_lt 200 (length cell))) [
@@ -110,7 +110,7 @@ module _ (header : List (List ℕ)) (rows : List (List (List ℕ))) where
               ap (λ list. slice_get list (length earlier)) (sym joined) ∙ slice_get-after earlier later cell in
               let bad = rw long at is in
               let named : CellLong row column ≡ fault = cc in
-              subst (IsOf (header ∷ rows)) named (record {
+              subst (IsOf most (header ∷ rows)) named (record {
                 cells = cells;
                 stands = stands;
                 place = length earlier;
@@ -125,20 +125,20 @@ module _ (header : List (List ℕ)) (rows : List (List (List ℕ))) where
 
     -- a fault of a row
     row_fault-cause : row < length (header ∷ rows) → (fault : SheetFault)
-        → row_fault (length header) row cells ≡ Some fault → IsOf (header ∷ rows) fault
+        → row_fault most (length header) row cells ≡ Some fault → IsOf most (header ∷ rows) fault
     row_fault-cause within fault is =
-        elim (cases_Bool (nat_lt 20000 row)) [
+        elim (cases_Bool (nat_lt most row)) [
           | inl past ↦
               let bad = rw past at is in
               let named : TooManyRows ≡ fault = cc in
-              let most : 20000 < row = ltb-true 20000 row past in
-              let many : 20000 + 1 < length (header ∷ rows) = omega arith in
-              subst (IsOf (header ∷ rows)) named many
+              let past_most : most < row = ltb-true most row past in
+              let many : most + 1 < length (header ∷ rows) = omega arith in
+              subst (IsOf most (header ∷ rows)) named many
           | inr few ↦ elim (cases_Bool (length cells == length header)) [
             | inr other ↦
                 let bad = rw (few, other) at is in
                 let named : Ragged row ≡ fault = cc in
-                subst (IsOf (header ∷ rows)) named (record {
+                subst (IsOf most (header ∷ rows)) named (record {
                   header = header;
                   first = refl;
                   cells = cells;
@@ -149,16 +149,16 @@ module _ (header : List (List ℕ)) (rows : List (List (List ℕ))) where
               | inr other ↦
                   let bad = rw (few, full, other) at is in
                   let named : NotUtf8 row ≡ fault = cc in
-                  subst (IsOf (header ∷ rows)) named (rw stands other)
+                  subst (IsOf most (header ∷ rows)) named (rw stands other)
               | inl texts ↦ cells_fault-cause [] cells refl 1 refl fault (rw (few, full, texts) at is)
             ]
           ]
         ]
 
-  -- a fault of the rows behind earlier ones
+  -- a fault of the rows after earlier ones
   rows_fault-cause : (earlier later : List (List (List ℕ))) → earlier ++ later ≡ rows → (row : ℕ)
-      → row ≡ suc (length earlier) → (fault : SheetFault) → rows_fault (length header) row later ≡ Some fault
-      → IsOf (header ∷ rows) fault
+      → row ≡ suc (length earlier) → (fault : SheetFault) → rows_fault most (length header) row later ≡ Some fault
+      → IsOf most (header ∷ rows) fault
   rows_fault-cause earlier [] joined row counted fault is = absurd cc
   rows_fault-cause earlier (cells ∷ later) joined row counted fault is =
       let here : slice_get rows (length earlier) ≡ Some cells =
@@ -166,8 +166,8 @@ module _ (header : List (List ℕ)) (rows : List (List (List ℕ))) where
       let stands : slice_get (header ∷ rows) row ≡ Some cells = rw counted here in
       let size : length rows ≡ length earlier + length (cells ∷ later) =
       ap length (sym joined) ∙ length-append earlier (cells ∷ later) in
-      let next_fault = rows_fault (length header) (row + 1) later in
-      elim (option_or-Some (row_fault (length header) row cells) next_fault fault is) [
+      let next_fault = rows_fault most (length header) (row + 1) later in
+      elim (option_or-Some (row_fault most (length header) row cells) next_fault fault is) [
         | inl first ↦ row_fault-cause row cells stands (omega (arith, counted, size)) fault first
         | inr next ↦
             let one = length-append earlier (cells ∷ []) in
@@ -176,25 +176,27 @@ module _ (header : List (List ℕ)) (rows : List (List (List ℕ))) where
       ]
 
 -- a fault of records
-records-cause : (records : List (List (List ℕ))) (fault : SheetFault) → read_records records ≡ Err fault
-    → IsOf records fault
-records-cause [] fault is =
-    let named : NoHeader ≡ fault = cc in subst (IsOf []) named refl
-records-cause (header ∷ rows) fault is =
-    elim (option_or-Some (header_fault header) (rows_fault (length header) 1 rows) fault
-    (unless-fault (option_or (header_fault header) (rows_fault (length header) 1 rows))
+records-cause : (most : ℕ) (records : List (List (List ℕ))) (fault : SheetFault)
+    → records_within most records ≡ Err fault
+    → IsOf most records fault
+records-cause most [] fault is =
+    let named : NoHeader ≡ fault = cc in subst (IsOf most []) named refl
+records-cause most (header ∷ rows) fault is =
+    elim (option_or-Some (header_fault header) (rows_fault most (length header) 1 rows) fault
+    (unless-fault (option_or (header_fault header) (rows_fault most (length header) 1 rows))
     (record { columns = header; grid = record { columns = length header; rows = rows } }) fault is)) [
-      | inl first ↦ header_fault-cause header rows fault first
-      | inr next ↦ rows_fault-cause header rows [] rows refl 1 refl fault next
+      | inl first ↦ header_fault-cause most header rows fault first
+      | inr next ↦ rows_fault-cause most header rows [] rows refl 1 refl fault next
     ]
 
 -- a fault of a sheet
-pub read_sheet-cause : (sheet : List ℕ) (fault : SheetFault) → read_sheet sheet ≡ Err fault → HasCause sheet fault
-read_sheet-cause sheet fault is =
+pub read_sheet-cause : (most : ℕ) (sheet : List ℕ) (fault : SheetFault) → sheet_within most sheet ≡ Err fault
+    → HasCauseWithin most sheet fault
+read_sheet-cause most sheet fault is =
     elim (cases_Bool (begins_with_two_marks sheet)) [
       | inl marked ↦
           let bad = rw marked at is in
           let named : fault ≡ BadColumn 1 = cc in
           inl (marked, named)
-      | inr plain ↦ inr (records-cause (sheet_records sheet) fault (rw plain at is))
+      | inr plain ↦ inr (records-cause most (sheet_records sheet) fault (rw plain at is))
     ]

@@ -22,8 +22,8 @@ use Rattle.desk_base.specs.Places.{has_text}
 use Rattle.desk_base.specs.declared.limits.TheConstants.{MAX_COLUMNS}
 use Rattle.master_rows.specs.Header.{is_column, columns_fault, header_fault}
 use Rattle.master_rows.specs.Row.{cells_fault, rows_fault}
-use Rattle.master_rows.specs.Sheet.{read_sheet, sheet_records, read_records, master_records, unless}
-use Rattle.master_rows.specs.Master.{IsColumn, IsCell, IsRow, IsMaster}
+use Rattle.master_rows.specs.Sheet.{sheet_within, sheet_records, records_within, master_records, unless}
+use Rattle.master_rows.specs.Master.{IsColumn, IsCell, IsRow, IsMasterWithin}
 use Rattle.master_rows.specs.declared.error.SheetFault.{SheetFault}
 use Rattle.master_rows.specs.declared.master.Master.{Master}
 use Rattle.csv.specs.Reading.{strip_bom}
@@ -123,29 +123,30 @@ cells_fault-short row column (cell ∷ later) cells = cells_fault-next row colum
     ∙ cells_fault-short row (column + 1) later (All-tail IsCell cell later cells)
 
 -- rows without a fault are rows, and not too many
-rows_fault-none : (columns row : ℕ) (rows : List (List (List ℕ))) → row ≤ 20001 → rows_fault columns row rows ≡ None
-    → All (IsRow columns) rows × (row + length rows ≤ 20001)
-rows_fault-none columns row [] within none = (All-nil (IsRow columns), omega arith)
-rows_fault-none columns row (cells ∷ later) within none =
+rows_fault-none : (most : ℕ) (columns row : ℕ) (rows : List (List (List ℕ))) → row ≤ most + 1
+    → rows_fault most columns row rows ≡ None
+    → All (IsRow columns) rows × (row + length rows ≤ most + 1)
+rows_fault-none most columns row [] within none = (All-nil (IsRow columns), omega arith)
+rows_fault-none most columns row (cells ∷ later) within none =
     let parts = option_or-None _ _ none in
-    let fine = row_fault-none columns row cells parts.0 in
-    let rest = rows_fault-none columns (row + 1) later (omega (arith, fine.within)) parts.1 in (
+    let fine = row_fault-none most columns row cells parts.0 in
+    let rest = rows_fault-none most columns (row + 1) later (omega (arith, fine.within)) parts.1 in (
       All-cons (IsRow columns) cells later
           (record { full = fine.full; cells = cells_fault-none row 1 cells fine.short fine.texts }) rest.0,
       omega (arith, rest.1),
     )
 
 -- rows have no fault
-rows_fault-rows : (columns row : ℕ) (rows : List (List (List ℕ))) → All (IsRow columns) rows
-    → row + length rows ≤ 20001 → rows_fault columns row rows ≡ None
-rows_fault-rows columns row [] all few = refl
-rows_fault-rows columns row (cells ∷ later) all few =
+rows_fault-rows : (most : ℕ) (columns row : ℕ) (rows : List (List (List ℕ))) → All (IsRow columns) rows
+    → row + length rows ≤ most + 1 → rows_fault most columns row rows ≡ None
+rows_fault-rows most columns row [] all few = refl
+rows_fault-rows most columns row (cells ∷ later) all few =
     let here = All-head (IsRow columns) cells later all in
     let texts = list_all-from_AllPass is_utf8 cells
     (λ k d within. is_utf8-from_IsUtf8 _ (here.cells k d within).utf8) in
-    let none = row_fault-cells columns row cells (omega arith) here.full texts
+    let none = row_fault-cells most columns row cells (omega arith) here.full texts
     ∙ cells_fault-short row 1 cells here.cells in
-    rw none (rows_fault-rows columns (row + 1) later (All-tail (IsRow columns) cells later all) (omega arith))
+    rw none (rows_fault-rows most columns (row + 1) later (All-tail (IsRow columns) cells later all) (omega arith))
 
 -- a header of columns that differ has no fault
 header_fault-differ : (header : List (List ℕ)) → length header ≤ 48 → All IsColumn header
@@ -175,10 +176,11 @@ header_fault-none header none = elim (cases_Bool (list_all is_utf8 header)) [
 ]
 
 -- the records of a master are read as it
-pub read_records-master : (master : Master) → IsMaster master → read_records (master_records master) ≡ Ok master
-read_records-master master is = read_records-faultless master.columns master.grid (record {
+pub read_records-master : (most : ℕ) (master : Master) → IsMasterWithin most master
+    → records_within most (master_records master) ≡ Ok master
+read_records-master most master is = read_records-faultless most master.columns master.grid (record {
   header = header_fault-differ master.columns is.narrow is.columns is.distinct;
-  rows = rows_fault-rows (length master.columns) 1 master.grid.rows is.rows (omega (arith, is.few));
+  rows = rows_fault-rows most (length master.columns) 1 master.grid.rows is.rows (omega (arith, is.few));
   width = is.width;
 })
 
@@ -189,14 +191,15 @@ unless-ok None made master h = (refl, cc)
 unless-ok (Some fault) made master h = absurd cc
 
 -- what records are read as is a master
-pub IsMaster-read_records : (rows : List (List (List ℕ))) (master : Master) → All (λ row. 1 ≤ length row) rows
-    → read_records rows ≡ Ok master → IsMaster master
-IsMaster-read_records [] master some h = absurd cc
-IsMaster-read_records (header ∷ rows) master some h =
+pub IsMaster-read_records : (most : ℕ) (rows : List (List (List ℕ))) (master : Master)
+    → All (λ row. 1 ≤ length row) rows
+    → records_within most rows ≡ Ok master → IsMasterWithin most master
+IsMaster-read_records most [] master some h = absurd cc
+IsMaster-read_records most (header ∷ rows) master some h =
     let given = unless-ok _ _ _ h in
     let parts = option_or-None _ _ given.0 in
     let columns = header_fault-none header parts.0 in
-    let under = rows_fault-none (length header) 1 rows (omega arith) parts.1 in
+    let under = rows_fault-none most (length header) 1 rows (omega arith) parts.1 in
     rw (← given.1)
     (record {
       headed = All-head (λ row. 1 ≤ length row) header rows some;
@@ -209,10 +212,12 @@ IsMaster-read_records (header ∷ rows) master some h =
     })
 
 -- what a sheet is read as is a master
-pub IsMaster-read_sheet : (sheet : List ℕ) (master : Master) → read_sheet sheet ≡ Ok master → IsMaster master
-IsMaster-read_sheet sheet master h = elim (cases_Bool (begins_with_two_marks sheet)) [
+pub IsMaster-read_sheet : (most : ℕ) (sheet : List ℕ) (master : Master) → sheet_within most sheet ≡ Ok master
+    → IsMasterWithin most master
+IsMaster-read_sheet most sheet master h = elim (cases_Bool (begins_with_two_marks sheet)) [
   | inl marked ↦ absurd (let e = rw marked at h in cc)
-  | inr plain ↦ IsMaster-read_records (sheet_records sheet) master (records-some 44 (strip_bom sheet)) (rw plain at h)
+  | inr plain ↦ IsMaster-read_records most (sheet_records sheet) master (records-some 44 (strip_bom sheet))
+      (rw plain at h)
 ]
 
 -- a fact of the value that is given, if there is one

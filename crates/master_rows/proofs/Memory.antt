@@ -7,7 +7,7 @@ use Rattle.master_rows.specs.Mark.{begins_with_two_marks}
 use Rattle.master_rows.specs.Header.{columns_fault, header_fault}
 use Rattle.std.specs.Option.{option_or}
 use Rattle.master_rows.specs.Row.{cells_fault, row_fault, rows_fault}
-use Rattle.master_rows.specs.Sheet.{read_sheet, sheet_records, read_records, unless}
+use Rattle.master_rows.specs.Sheet.{sheet_within, sheet_records, records_within, unless}
 use Rattle.master_rows.specs.declared.error.SheetFault.{SheetFault}
 use Rattle.master_rows.specs.declared.error.SheetFault.TheVariants.{NotUtf8, BadColumn, ColumnTwice, Ragged, CellLong}
 use Rattle.master_rows.specs.declared.error.SheetFault.TheVariants.{TooManyRows, TooManyColumns, NoMemory}
@@ -41,8 +41,9 @@ cells_fault-memory row column (cell ∷ later) = fault_or _ (CellLong row column
     (λ (h : CellLong row column ≡ NoMemory). cc) (cells_fault-memory row (column + 1) later)
 
 -- of a row
-row_fault-memory : (columns row : ℕ) (cells : List (List ℕ)) → row_fault columns row cells ≢ Some NoMemory
-row_fault-memory columns row cells =
+row_fault-memory : (most : ℕ) (columns row : ℕ) (cells : List (List ℕ))
+    → row_fault most columns row cells ≢ Some NoMemory
+row_fault-memory most columns row cells =
     fault_or _ TooManyRows _ (λ (h : TooManyRows ≡ NoMemory). cc)
     (fault_or _ (Ragged row) _ (λ (h : Ragged row ≡ NoMemory). cc)
     (fault_or _ (NotUtf8 row) _ (λ (h : NotUtf8 row ≡ NoMemory). cc)
@@ -55,10 +56,11 @@ option_or-memory None later one other = other
 option_or-memory (Some fault) later one other = one
 
 -- of rows
-rows_fault-memory : (columns row : ℕ) (rows : List (List (List ℕ))) → rows_fault columns row rows ≢ Some NoMemory
-rows_fault-memory columns row [] = λ h. cc
-rows_fault-memory columns row (cells ∷ later) = option_or-memory _ _ (row_fault-memory columns row cells)
-    (rows_fault-memory columns (row + 1) later)
+rows_fault-memory : (most : ℕ) (columns row : ℕ) (rows : List (List (List ℕ)))
+    → rows_fault most columns row rows ≢ Some NoMemory
+rows_fault-memory most columns row [] = λ h. cc
+rows_fault-memory most columns row (cells ∷ later) = option_or-memory _ _ (row_fault-memory most columns row cells)
+    (rows_fault-memory most columns (row + 1) later)
 
 -- what is given in its place
 unless-memory : (fault : Option SheetFault) (master : Master) → fault ≢ Some NoMemory
@@ -67,14 +69,14 @@ unless-memory None master apart = λ h. cc
 unless-memory (Some fault) master apart = λ h. apart cc
 
 -- of records
-read_records-memory : (rows : List (List (List ℕ))) → read_records rows ≢ Err NoMemory
-read_records-memory [] = λ h. cc
-read_records-memory (header ∷ rows) = unless-memory _ _
-    (option_or-memory _ _ (header_fault-memory header) (rows_fault-memory (length header) 1 rows))
+read_records-memory : (most : ℕ) (rows : List (List (List ℕ))) → records_within most rows ≢ Err NoMemory
+read_records-memory most [] = λ h. cc
+read_records-memory most (header ∷ rows) = unless-memory _ _
+    (option_or-memory _ _ (header_fault-memory header) (rows_fault-memory most (length header) 1 rows))
 
 -- no sheet is refused for want of memory
-pub read_sheet-memory : (sheet : List ℕ) → read_sheet sheet ≢ Err NoMemory
-read_sheet-memory sheet = elim (cases_Bool (begins_with_two_marks sheet)) [
+pub read_sheet-memory : (most : ℕ) (sheet : List ℕ) → sheet_within most sheet ≢ Err NoMemory
+read_sheet-memory most sheet = elim (cases_Bool (begins_with_two_marks sheet)) [
   | inl two ↦ rw two (λ (h : Err (BadColumn 1) ≡ Err NoMemory). cc)
-  | inr other ↦ rw other (read_records-memory (sheet_records sheet))
+  | inr other ↦ rw other (read_records-memory most (sheet_records sheet))
 ]

@@ -1,6 +1,7 @@
 -- The outline of the records that were taken, record by record.
 use Rattle.std.proofs.Common.{◌≡◌, ℕ, ◌+◌, ◌∙◌, List, [], ◌∷◌, ◌++◌, length, length-append, refl, sym, ap}
 use Rattle.std.specs.Prelude.{Some, None, Result, Ok, Err}
+use Rattle.desk_base.specs.declared.limits.TheConstants.{MAX_ROWS}
 use Rattle.master_rows.specs.Draft.{AreOutlined}
 use Rattle.master_rows.specs.Header.{header_fault}
 use Rattle.master_rows.specs.Outline.{outline_of, outline_read}
@@ -22,31 +23,33 @@ AreOutlined-header columns header count taken is none before = record {
   faultless = record { header = none; rows = refl; width = refl };
 }
 
--- one that has a fault is refused, whatever stands behind it
+-- one that has a fault is refused, whatever stands after it
 pub AreOutlined-no_header : (header : List (List ℕ)) (count : ℕ) (taken later : List (List (List ℕ)))
     (fault : SheetFault) → header_fault header ≡ Some fault → AreOutlined None count taken
     → read_records (taken ++ header ∷ later) ≡ Err fault
 AreOutlined-no_header header count taken later fault is before =
-    rw before.0 (read_records-header header later fault is)
+    rw before.0 (read_records-header MAX_ROWS header later fault is)
 
 -- a further row without a fault
 pub AreOutlined-row : (columns cells : List (List ℕ)) (count : ℕ) (taken : List (List (List ℕ)))
-    → row_fault (length columns) (count + 1) cells ≡ None → AreOutlined (Some columns) count taken
+    → row_fault MAX_ROWS (length columns) (count + 1) cells ≡ None → AreOutlined (Some columns) count taken
     → AreOutlined (Some columns) (count + 1) (taken ++ cells ∷ [])
 AreOutlined-row columns cells count taken none before = record {
   rows = before.rows ++ cells ∷ [];
   records = rw before.records refl;
   counted = length-append before.rows (cells ∷ []) ∙ ap (λ n. n + 1) before.counted;
-  faultless = IsFaultless-row columns (record { columns = length columns; rows = before.rows }) cells before.faultless
+  faultless = IsFaultless-row MAX_ROWS columns
+      (record { columns = length columns; rows = before.rows }) cells before.faultless
       (rw before.counted none);
 }
 
--- one that has a fault is refused, whatever stands behind it
+-- one that has a fault is refused, whatever stands after it
 pub AreOutlined-no_row : (columns cells : List (List ℕ)) (count : ℕ) (taken later : List (List (List ℕ)))
-    (fault : SheetFault) → row_fault (length columns) (count + 1) cells ≡ Some fault
+    (fault : SheetFault) → row_fault MAX_ROWS (length columns) (count + 1) cells ≡ Some fault
     → AreOutlined (Some columns) count taken → read_records (taken ++ cells ∷ later) ≡ Err fault
 AreOutlined-no_row columns cells count taken later fault is before =
-    rw before.records (read_records-row columns (record { columns = length columns; rows = before.rows }) cells later
+    rw before.records (read_records-row MAX_ROWS columns
+    (record { columns = length columns; rows = before.rows }) cells later
     fault before.faultless (rw before.counted is))
 
 -- what was outlined was read

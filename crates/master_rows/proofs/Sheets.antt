@@ -8,15 +8,11 @@ use Rattle.std.proofs.lemmas.List.Elements.{All-nil, All-cons}
 use Rattle.csv.specs.Machine.{Read, step, is_end, next_record, fields_after, field_after, ends_at_end, in_field}
 use Rattle.csv.specs.Machine.{start_record}
 use Rattle.csv.specs.Reading.{Reached, records, records_from, records_next, default_config}
-use Rattle.csv.specs.declared.parser.Config.{Config}
 use Rattle.csv.specs.declared.parser.State.{State}
 use Rattle.csv.specs.declared.parser.State.TheVariants as st
 use Rattle.csv.specs.declared.parser.Action.{Action}
 use Rattle.csv.specs.declared.parser.Action.TheVariants as act
-
--- csv's defaults, with this delimiter
-abbrev pub delimited : ℕ → Config
-delimited delimiter = record default_config { delimiter = delimiter }
+use Rattle.master_rows.specs.Sheet.{delimited}
 
 -- where a byte ends a record, the machine stands between two
 abbrev LeavesNone : State × Action → Type 0
@@ -192,7 +188,7 @@ records-end delimiter text rest rows s h end =
     let all = records-reached delimiter text rest rows s h in
     sym (all.front ∙ ap (λ more. rows ++ more) (records_from-none delimiter all.fuel s rest end) ∙ append-nil rows)
 
--- a record and those behind it have fields where each has
+-- a record and those after it have fields where each has
 records_next-some : (next : Option Read) (more : State → List ℕ → List (List (List ℕ)))
     → ((taken : Read) → next ≡ Some taken → 1 ≤ length taken.0)
     → ((s : State) (text : List ℕ) → All (λ row. 1 ≤ length row) (more s text))

@@ -11,13 +11,13 @@ use Rattle.csv.specs.declared.parser.State.TheVariants as st
 use Rattle.csv.specs.declared.reader.Reader.{Reader}
 use Rattle.csv.specs.declared.reader.Trim.TheVariants as trim
 use Rattle.csv.specs.declared.record.ByteRecord.{ByteRecord}
-use Rattle.master_rows.proofs.Sheets.{delimited}
+use Rattle.master_rows.specs.Sheet.{delimited}
 
 -- the bytes that are left of a sheet in memory
 abbrev pub left_of : Bor (List ℕ) → Option (List ℕ)
 left_of sheet = Some sheet.now
 
--- the reader goes on behind the records that were taken of the sheet
+-- the reader goes on after the records that were taken of the sheet
 pub record GoesOn (delimiter : ℕ) (reader : Reader (Bor (List ℕ))) (turns : ℕ) (sheet : List ℕ)
     (taken : List (List (List ℕ))) : Type 0 where
   pub untrimmed : reader_trim reader ≡ trim.None
@@ -29,7 +29,7 @@ pub record GoesOn (delimiter : ℕ) (reader : Reader (Bor (List ℕ))) (turns : 
   pub source : source_of left_of reader ≡ Some rest
   pub reached : Reached (delimited delimiter) st.StartRecord (strip_bom sheet) taken (reader_state reader) rest
 
--- and so it does behind one record more
+-- and so it does after one record more
 pub GoesOn-next : (delimiter : ℕ) (old new : Reader (Bor (List ℕ))) (before turns : ℕ) (sheet : List ℕ)
     (taken : List (List (List ℕ))) (row : ByteRecord)
     → GoesOn delimiter old before sheet taken → RowStep left_of old new turns (Some (Ok row))

@@ -12,8 +12,8 @@ use Rattle.csv.specs.Writing.{default_writer, field_text, fields_text, needs_byt
 use Rattle.csv.specs.declared.parser.State.TheVariants as st
 use Rattle.csv.proofs.RoundTrip.{read-write}
 use Rattle.master_rows.specs.Mark.{begins_with_mark, begins_with_two_marks, byte_order_mark}
-use Rattle.master_rows.specs.Sheet.{read_sheet, sheet_of, master_records}
-use Rattle.master_rows.specs.Master.{IsMaster, IsColumn}
+use Rattle.master_rows.specs.Sheet.{sheet_within, sheet_of, master_records}
+use Rattle.master_rows.specs.Master.{IsMasterWithin, IsColumn}
 use Rattle.master_rows.specs.declared.master.Master.{Master}
 use Rattle.master_rows.proofs.Sheets.{records-end}
 use Rattle.master_rows.proofs.Masters.{read_records-master}
@@ -118,8 +118,9 @@ sheet_of-unmarked (column ∷ columns) rest headed all = row_text-unmarked colum
     (All-head IsColumn column columns all)
 
 -- a printed sheet reads back
-pub read_sheet-sheet_of : (master : Master) → IsMaster master → read_sheet (sheet_of master) ≡ Ok master
-read_sheet-sheet_of master is =
+pub read_sheet-sheet_of : (most : ℕ) (master : Master) → IsMasterWithin most master
+    → sheet_within most (sheet_of master) ≡ Ok master
+read_sheet-sheet_of most master is =
     let unmarked = sheet_of-unmarked master.columns (flat_map (row_text default_writer) master.grid.rows) is.headed
     is.columns in
     let some = All-cons (λ row. 1 ≤ length row) master.columns master.grid.rows is.headed
@@ -128,4 +129,4 @@ read_sheet-sheet_of master is =
       two_marks-unmarked (sheet_of master) unmarked,
       strip_bom-unmarked (sheet_of master) unmarked,
       records-written (master_records master) some,
-    ) (read_records-master master is)
+    ) (read_records-master most master is)

@@ -46,19 +46,23 @@ pub record HasLongCell (records : List (List (List ℕ))) (row number : ℕ) : T
   pub counted : number ≡ place + 1
   pub bad : IsSomeAnd (slice_get cells place) (λ cell. MAX_TEXT < length cell)
 
--- what a fault says of records, of which the first is the header and the others are the rows
-abbrev pub IsOf : List (List (List ℕ)) → SheetFault → Type 0
-IsOf records (NotUtf8 row) = IsSomeAnd (slice_get records row) (λ fields. list_all is_utf8 fields ≡ false)
-IsOf records NoHeader = records ≡ []
-IsOf records (BadColumn number) = HasBadColumn records number
-IsOf records (ColumnTwice number) = HasColumnTwice records number
-IsOf records (Ragged row) = IsRagged records row
-IsOf records (CellLong row number) = HasLongCell records row number
-IsOf records TooManyRows = MAX_ROWS + 1 < length records
-IsOf records TooManyColumns = IsSomeAnd (slice_get records 0) (λ header. MAX_COLUMNS < length header)
-IsOf records NoMemory = ⊥
+-- what a fault says of records, of which the first is the header and the others are the rows, of so many at most
+abbrev pub IsOf : ℕ → List (List (List ℕ)) → SheetFault → Type 0
+IsOf most records (NotUtf8 row) = IsSomeAnd (slice_get records row) (λ fields. list_all is_utf8 fields ≡ false)
+IsOf most records NoHeader = records ≡ []
+IsOf most records (BadColumn number) = HasBadColumn records number
+IsOf most records (ColumnTwice number) = HasColumnTwice records number
+IsOf most records (Ragged row) = IsRagged records row
+IsOf most records (CellLong row number) = HasLongCell records row number
+IsOf most records TooManyRows = most + 1 < length records
+IsOf most records TooManyColumns = IsSomeAnd (slice_get records 0) (λ header. MAX_COLUMNS < length header)
+IsOf most records NoMemory = ⊥
 
--- what a fault says of a sheet: it begins with two marks, or the fault is of its records
+-- what a fault says of a sheet of so many rows at most: it begins with two marks, or the fault is of its records
+abbrev pub HasCauseWithin : ℕ → List ℕ → SheetFault → Type 0
+HasCauseWithin most sheet fault =
+    ((begins_with_two_marks sheet ≡ true) × (fault ≡ BadColumn 1)) ⊎ IsOf most (sheet_records sheet) fault
+
+-- what it says of a sheet of the desk
 abbrev pub HasCause : List ℕ → SheetFault → Type 0
-HasCause sheet fault =
-    ((begins_with_two_marks sheet ≡ true) × (fault ≡ BadColumn 1)) ⊎ IsOf (sheet_records sheet) fault
+HasCause = HasCauseWithin MAX_ROWS

@@ -13,7 +13,7 @@ use Rattle.master_rows.specs.declared.error.SheetFault.TheVariants.{NotUtf8, Bad
 abbrev pub is_column : List ℕ → Bool
 is_column text = nat_lt 0 (length text) && nat_le (length text) MAX_COLUMN && not (begins_with_mark text)
 
--- the first fault of the columns that stand behind earlier ones
+-- the first fault of the columns that stand after earlier ones
 abbrev pub columns_fault : List (List ℕ) → List (List ℕ) → Option SheetFault
 columns_fault earlier [] = None
 columns_fault earlier (column ∷ later) =

@@ -21,12 +21,16 @@ pub record IsRow (columns : ℕ) (texts : List (List ℕ)) : Type 0 where
   pub full : length texts ≡ columns
   pub cells : All IsCell texts
 
--- 1 to 48 columns that differ, over at most 20,000 rows
-pub record IsMaster (master : Master) : Type 0 where
+-- 1 to 48 columns that differ, over at most so many rows
+pub record IsMasterWithin (most : ℕ) (master : Master) : Type 0 where
   pub headed : 1 ≤ length master.columns
   pub narrow : length master.columns ≤ MAX_COLUMNS
   pub columns : All IsColumn master.columns
   pub distinct : AllPairs (λ one other. one ≢ other) master.columns
   pub width : master.grid.columns ≡ length master.columns
-  pub few : length master.grid.rows ≤ MAX_ROWS
+  pub few : length master.grid.rows ≤ most
   pub rows : All (IsRow (length master.columns)) master.grid.rows
+
+-- a master of the desk has at most 20,000 rows
+abbrev pub IsMaster : Master → Type 0
+IsMaster = IsMasterWithin MAX_ROWS

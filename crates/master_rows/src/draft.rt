@@ -1,7 +1,9 @@
-//! A master that grows record by record. A clause sees a `Draft` as the records that it has taken.
-ghost use Rattle.std.specs.Prelude.{◌≡◌, ◌≢◌, ℕ, List, [], ◌∷◌, ◌++◌, IfOk, IfErr, OnOk, OnErr, Err};
+//! A master that grows record by record. A clause sees a `Draft` as the records that it has taken, and how many rows
+//! it may have.
+ghost use Rattle.std.specs.Prelude.{◌≡◌, ◌≢◌, ◌≤◌, ℕ, List, [], ◌∷◌, ◌++◌, IfOk, IfErr, OnOk, OnErr, Err};
 ghost use Rattle.csv.specs.Records.{fields_of};
-ghost use Rattle.master_rows.specs.Sheet.{read_records, sheet_records};
+ghost use Rattle.master_rows.specs.Sheet.{records_within, sheet_records};
+ghost use Rattle.desk_base.specs.declared.limits.TheConstants.{MAX_SHEET_ROWS};
 
 use crate::error::{SheetFault, stopped};
 use crate::fields::fields_of;
@@ -17,28 +19,32 @@ use std::marker::Model;
 #[derive(Drop)]
 pub(crate) struct Draft {
     alloc: Global,
+    most: u32,
     columns: Option<List<Text>>,
     grid: Grid,
 }
 
 impl Model for Draft {
-    ghost use Rattle.std.specs.Prelude.{ℕ, List};
-    ghost use Rattle.master_rows.specs.Draft.{records_taken, HasNoFault};
+    ghost use Rattle.std.specs.Prelude.{◌≤◌};
+    ghost use Rattle.desk_base.specs.declared.limits.TheConstants.{MAX_SHEET_ROWS};
+    ghost use Rattle.master_rows.specs.Draft.{DraftRecords, records_taken, HasNoFault};
 
-    ghost Value = { List (List (List ℕ)) };
+    ghost Value = { DraftRecords };
 
-    ghost view = { λ d. records_taken d.columns d.grid };
+    ghost view = { λ d. record { most = d.most; records = records_taken d.columns d.grid } };
 
-    ghost invariant = { λ d. HasNoFault d.columns d.grid };
+    ghost invariant = { λ d. (d.most ≤ MAX_SHEET_ROWS) × HasNoFault d.most d.columns d.grid };
 }
 
 impl Draft {
-    /// The draft without a record.
-    fn new(alloc: Global) -> Draft
-        ensures { result ≡ [] }
+    /// The draft without a record, which may have so many rows.
+    fn new(alloc: Global, most: u32) -> Draft
+        requires { most ≤ MAX_SHEET_ROWS }
+        ensures { result ≡ record { most = most; records = [] } }
     {
         Draft {
             alloc,
+            most,
             columns: None,
             grid: Grid::new(alloc, 0),
         }
@@ -46,11 +52,11 @@ impl Draft {
 
     /// Takes the next record: the header, or a row under it.
     fn take(&mut self, next: &ByteRecord) -> Result<(), SheetFault>
-        ensures taken { OnOk result (self.new ≡ self.old ++ fields_of next.now ∷ []) }
+        ensures taken { OnOk result (self.new ≡ record self.old { records = self.old.records ++ fields_of next.now ∷ [] }) }
         ensures unchanged { OnErr result (self.new ≡ self.old) }
         ensures fault { IfErr result (λ fault. fault ≢ SheetFault.NoMemory
             → (later : List (List (List ℕ)))
-            → read_records (self.old ++ fields_of next.now ∷ later) ≡ Err fault) }
+            → records_within self.old.most (self.old.records ++ fields_of next.now ∷ later) ≡ Err fault) }
     {
         let fields = fields_of(self.alloc, next)?;
         if self.columns.is_none() {
@@ -59,14 +65,14 @@ impl Draft {
             self.columns = Some(columns);
             return Ok(());
         }
-        let row = next_row(self.alloc, &self.grid, fields.as_slice())?;
+        let row = next_row(self.alloc, self.most, &self.grid, fields.as_slice())?;
         self.grid.push_row(row)?;
         Ok(())
     }
 
     /// The master of the records that were taken.
     pub(crate) fn finish(self) -> Result<Master, SheetFault>
-        ensures { result ≡ read_records self }
+        ensures { result ≡ records_within self.most self.records }
     {
         let Draft { columns, grid, .. } = self;
         match columns {
@@ -75,17 +81,18 @@ impl Draft {
         }
     }
 
-    /// The draft that has taken all records of a sheet.
-    pub(crate) fn of_sheet(alloc: Global, sheet: &[u8]) -> Result<Draft, SheetFault>
-        ensures taken { IfOk result (λ draft. draft ≡ sheet_records sheet.now) }
+    /// The draft that has taken all records of a sheet, which may have so many rows.
+    pub(crate) fn of_sheet(alloc: Global, most: u32, sheet: &[u8]) -> Result<Draft, SheetFault>
+        requires { most ≤ MAX_SHEET_ROWS }
+        ensures taken { IfOk result (λ draft. draft ≡ record { most = most; records = sheet_records sheet.now }) }
         ensures fault { IfErr result (λ fault. fault ≢ SheetFault.NoMemory
-            → read_records (sheet_records sheet.now) ≡ Err fault) }
+            → records_within most (sheet_records sheet.now) ≡ Err fault) }
     {
         let reader = ReaderBuilder::new()
             .has_headers(false)
             .flexible(true)
             .from_reader(alloc, sheet);
-        let mut draft = Draft::new(alloc);
+        let mut draft = Draft::new(alloc, most);
         'records: for next in reader.into_byte_records() {
             match next {
                 Ok(row) => draft.take(&row)?,

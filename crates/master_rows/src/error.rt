@@ -28,8 +28,8 @@ pub enum SheetFault {
     /// In this row, the cell in this column has more than 200 bytes.
     #[error("the cell in row {0} and column {1} has more than 200 bytes")]
     CellLong(u64, u64),
-    /// There are more than 20,000 rows.
-    #[error("there are more than 20,000 rows")]
+    /// There are more rows than were to be taken: 20,000 at a desk.
+    #[error("there are too many rows")]
     TooManyRows,
     /// There are more than 48 columns.
     #[error("there are more than 48 columns")]

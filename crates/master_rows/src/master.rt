@@ -1,15 +1,16 @@
 //! A master: named columns over rows of cells. A clause sees both.
-ghost use Rattle.std.specs.Prelude.{◌≡◌, ◌≢◌, IfOk, IfErr, Ok, Err};
+ghost use Rattle.std.specs.Prelude.{◌≡◌, ◌≢◌, ◌≤◌, IfOk, IfErr, Ok, Err};
+ghost use Rattle.desk_base.specs.declared.limits.TheConstants.{MAX_SHEET_ROWS};
 ghost use Rattle.master_rows.specs.Mark.{begins_with_two_marks};
-ghost use Rattle.master_rows.specs.Master.{IsMaster};
+ghost use Rattle.master_rows.specs.Master.{IsMaster, IsMasterWithin};
 ghost use Rattle.master_rows.specs.Outline.{read_outline};
-ghost use Rattle.master_rows.specs.Sheet.{read_sheet, sheet_of};
+ghost use Rattle.master_rows.specs.Sheet.{read_sheet, sheet_of, sheet_within};
 
 use crate::draft::Draft;
 use crate::error::SheetFault;
 use crate::outline::{Outline, OutlineDraft};
 use crate::print::sheet_bytes;
-use desk_base::{Duplicate, Grid, List, NoMemory, Text};
+use desk_base::{Duplicate, Grid, List, MAX_ROWS, NoMemory, Text};
 use std::alloc::Global;
 
 /// Master data: columns, and under them rows with a cell in each.
@@ -31,18 +32,29 @@ fn begins_with_two_marks(sheet: &[u8]) -> bool
 }
 
 impl Master {
-    /// Reads a sheet: CSV, with one byte order mark at its start passed over. The first record is the
-    /// header. A fault is the first one that the sheet has; `NoMemory` may come in place of any answer.
+    /// Reads a sheet of at most `most` rows: CSV, with one byte order mark at its start passed over. The first record
+    /// is the header. A fault is the first one that the sheet has; `NoMemory` may come in place of any answer.
+    pub fn read_within(alloc: Global, most: u32, sheet: &[u8]) -> Result<Master, SheetFault>
+        requires { most ≤ MAX_SHEET_ROWS }
+        ensures master { IfOk result (λ master. sheet_within most sheet.now ≡ Ok master) }
+        ensures sound { IfOk result (IsMasterWithin most) }
+        ensures fault { IfErr result (λ fault. fault ≢ SheetFault.NoMemory
+            → sheet_within most sheet.now ≡ Err fault) }
+    {
+        if begins_with_two_marks(sheet) {
+            return Err(SheetFault::BadColumn(1));
+        }
+        Draft::of_sheet(alloc, most, sheet)?.finish()
+    }
+
+    /// Reads a sheet of a desk, which has at most 20,000 rows, with the faults of `read_within`.
     pub fn read(alloc: Global, sheet: &[u8]) -> Result<Master, SheetFault>
         ensures master { IfOk result (λ master. read_sheet sheet.now ≡ Ok master) }
         ensures sound { IfOk result IsMaster }
         ensures fault { IfErr result (λ fault. fault ≢ SheetFault.NoMemory
             → read_sheet sheet.now ≡ Err fault) }
     {
-        if begins_with_two_marks(sheet) {
-            return Err(SheetFault::BadColumn(1));
-        }
-        Draft::of_sheet(alloc, sheet)?.finish()
+        Master::read_within(alloc, MAX_ROWS, sheet)
     }
 
     /// The outline of the master that a sheet reads as, with the faults of `read`. No cell is kept.

@@ -10,7 +10,7 @@ use crate::fields::fields_of;
 use crate::header::header_columns;
 use crate::row::row_fault;
 use csv::{ByteRecord, ReaderBuilder};
-use desk_base::{List, Text};
+use desk_base::{List, MAX_ROWS, Text};
 use std::alloc::Global;
 
 /// The columns of a master, and how many rows it has.
@@ -44,7 +44,7 @@ impl OutlineDraft {
             self.columns = Some(header_columns(alloc, fields.as_slice())?);
             return Ok(());
         };
-        if let Some(fault) = row_fault(columns.len(), self.rows, next) {
+        if let Some(fault) = row_fault(MAX_ROWS, columns.len(), self.rows, next) {
             return Err(fault);
         }
         self.rows += 1;

@@ -9,16 +9,21 @@ ghost use Rattle.desk_base.specs.Texts.{bytes_of};
 use crate::error::SheetFault;
 use crate::fields::strings_of;
 use csv::ByteRecord;
-use desk_base::{Grid, List, MAX_ROWS, MAX_TEXT, Text, is_utf8};
+use desk_base::{Grid, List, MAX_TEXT, Text, is_utf8};
 use std::alloc::Global;
 
-/// The first fault of a record that is to stand behind so many rows, under so many columns.
-pub(crate) fn row_fault(columns: usize, rows: u32, source: &ByteRecord) -> Option<SheetFault>
-    ensures fault { result ≡ row_fault columns (rows + 1) (fields_of source.now) }
-    ensures few { result ≡ None → rows < MAX_ROWS }
+/// The first fault of a record that is to stand after so many rows, of `most` at most, under so many columns.
+pub(crate) fn row_fault(
+    most: u32,
+    columns: usize,
+    rows: u32,
+    source: &ByteRecord,
+) -> Option<SheetFault>
+    ensures fault { result ≡ row_fault most columns (rows + 1) (fields_of source.now) }
+    ensures few { result ≡ None → rows < most }
 {
     let row = u64::from(rows) + 1;
-    if rows >= MAX_ROWS {
+    if rows >= most {
         return Some(SheetFault::TooManyRows);
     }
     if source.len() != columns {
@@ -77,21 +82,23 @@ fn tested_cells(alloc: Global, row: u64, texts: &[&str]) -> Result<List<Text>, S
     Ok(cells)
 }
 
-/// The texts of the row that is to stand behind the others.
+/// The texts of the row that is to stand after the others, of `most` at most.
 pub(crate) fn next_row(
     alloc: Global,
+    most: u32,
     grid: &Grid,
     fields: &[&[u8]],
 ) -> Result<List<Text>, SheetFault>
     ensures cells { IfOk result (λ cells. cells ≡ bytes_of fields.now) }
     ensures faultless { IfOk result (λ cells.
-        row_fault grid.now.columns (length grid.now.rows + 1) cells ≡ None) }
+        row_fault most grid.now.columns (length grid.now.rows + 1) cells ≡ None) }
+    ensures few { IfOk result (λ _. length grid.now.rows < most) }
     ensures fault { IfErr result (λ fault. fault ≢ SheetFault.NoMemory
-        → row_fault grid.now.columns (length grid.now.rows + 1) (bytes_of fields.now)
+        → row_fault most grid.now.columns (length grid.now.rows + 1) (bytes_of fields.now)
         ≡ Some fault) }
 {
     let row = u64::from(grid.rows()) + 1;
-    if grid.rows() == MAX_ROWS {
+    if grid.rows() >= most {
         return Err(SheetFault::TooManyRows);
     }
     if fields.len() != usize::from(grid.columns()) {

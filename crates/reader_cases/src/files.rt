@@ -3,7 +3,7 @@ use desk_cases::{Answer, Case, CaseFault, Difference, Part, cases, differences};
 use std::alloc::AllocError;
 use std::test::Fail;
 
-/// The title of each case of a file, behind `== `, and its parts, each as its name, `=` and its content; or why the
+/// The title of each case of a file, after `== `, and its parts, each as its name, `=` and its content; or why the
 /// file is none of cases.
 pub fn file(case: &Case, answer: &mut Answer) -> Result<(), Fail> {
     match cases(answer.alloc(), case.bytes("file")?) {

@@ -22,7 +22,7 @@ use Rattle.region_suggest.proofs.LeftSides.{occurrences-take}
 
 -- ---- an attribute is taken off
 
--- one item more is behind the others
+-- one item more is after the others
 take-next : (items : List ℕ) (index one : ℕ) → index < length items → one ≡ get_or items index 0
     → take (index + 1) items ≡ take index items ++ one ∷ []
 take-next items index one within is =

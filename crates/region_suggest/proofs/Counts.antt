@@ -131,7 +131,7 @@ pub looks-next : (passes : Bool) (first old new counted place after : ℕ) → o
 looks-next true first old new counted place after before look more = omega arith
 looks-next false first old new counted place after before look more = omega arith
 
--- at most the items behind a place are counted besides those before it
+-- at most the items after a place are counted besides those before it
 pub count_by-rest : {A : Type 0} (test : A → Bool) (items : List A) (place : ℕ) → place ≤ length items
     → count_by test items + place ≤ count_by test (take place items) + length items
 count_by-rest test items place within = omega (

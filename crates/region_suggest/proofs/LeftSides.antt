@@ -114,7 +114,7 @@ left_count-use one (true ∷ flags) (old ∷ uses) (suc place) ones within even 
 
 -- ---- a dependency more
 
--- an attribute behind the others is used last
+-- an attribute after the others is used last
 pub with_uses-append : (one : ℕ) (attributes : List ℕ) (attribute : ℕ) (uses : List (List ℕ))
     → with_uses one (attributes ++ attribute ∷ []) uses
     ≡ set (with_uses one attributes uses) attribute (users (with_uses one attributes uses) attribute ++ one ∷ [])
@@ -248,7 +248,7 @@ All-with_uses one bound (attribute ∷ rest) uses known all =
     only : (bound one : ℕ) → one < bound → All (λ other. other < bound) (one ∷ [])
     only bound one known = λ k d h. let first : k ≡ 0 = omega (arith, h) in rw first known
 
--- the next item of a list is used behind those before it
+-- the next item of a list is used after those before it
 pub with_uses-next : {A : Type 0} (one : ℕ) (name : A → ℕ) (items : List A) (index : ℕ) (item : A)
     (uses now later : List (List ℕ))
     → index < length items → item ≡ get_or items index item

@@ -63,7 +63,7 @@ replicate-push count x = replicate-append-replicate count 1 x
 pub Contains-nil : {A : Type 0} (x : A) → Contains [] x → ⊥
 Contains-nil x h = omega (arith, h.1)
 
--- a flag that is set is listed behind those before it
+-- a flag that is set is listed after those before it
 pub listed-set : (flags : List Bool) (place : ℕ) (found longer : List ℕ) → IsFlagged flags place
     → ((other : ℕ) → Contains found other ↔ ((other < place) × IsFlagged flags other)) → longer ≡ found ++ place ∷ []
     → (other : ℕ) → Contains longer other ↔ ((other < place + 1) × IsFlagged flags other)

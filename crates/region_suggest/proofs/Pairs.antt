@@ -27,7 +27,7 @@ use Rattle.region_suggest.specs.Verdicts.{row_at}
 use Rattle.fix_engine.proofs.Lists.{Contains-cases, Contains-first}
 use Rattle.region_suggest.proofs.Lists.{Contains-at, Contains-nil}
 
--- a pair behind all others is listed
+-- a pair after all others is listed
 pub ListsExactly-push : (Before After : ℕ × ℕ → Type 0) (pairs longer : List (ℕ × ℕ)) (pair : ℕ × ℕ)
     → longer ≡ pairs ++ pair ∷ [] → ListsExactly Before pairs
     → ((other : ℕ × ℕ) → Before other → IsOfferBefore other pair)
@@ -105,7 +105,7 @@ values-at kit state attributes texts k same within =
     rw (← same) (get_or-map (value_at kit state) attributes k 0 [] within)
 
 module _ (kit : Kit) (state : State) (regions : List Region) (place : ℕ) where
-  -- a row that matches is found behind those before it
+  -- a row that matches is found after those before it
   pub IsMatchWithin-row : (row : ℕ) → IsMatch kit state regions (place + 1, row + 1) → (other : ℕ × ℕ)
       → IsMatchWithin kit state regions place (row + 1) other
       ↔ (IsMatchWithin kit state regions place row other ⊎ (other ≡ (place + 1, row + 1)))

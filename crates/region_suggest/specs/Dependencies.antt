@@ -35,7 +35,7 @@ with_uses dependency (attribute ∷ rest) uses =
 abbrev pub left_side : Rule → List ℕ
 left_side rule = map (λ key. key.0) rule.keys ++ map (λ cond. cond.0) rule.conds
 
--- the dependency of a rule was added behind the others
+-- the dependency of a rule was added after the others
 pub record AddsRule (old new : Dependencies) (rule : Rule) : Type 0 where
   pub heads : new.heads.items ≡ old.heads.items ++ rule.head ∷ []
   pub sizes : new.sizes.items ≡ old.sizes.items ++ length (left_side rule) ∷ []

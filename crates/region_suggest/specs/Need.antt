@@ -16,7 +16,7 @@ pub record IsNeeded (kit : Kit) (state : State) (need : List ℕ) (attribute : �
   pub uncovered : ¬ IsCovered state attribute
   pub missed : ¬ AreAllHoped kit state (IsGivenWithout state need attribute)
 
--- exactly the needed attributes, in their order; each is tested after those behind it
+-- exactly the needed attributes, in their order; each is tested after those after it
 pub record IsNeed (kit : Kit) (state : State) (need : List ℕ) : Type 0 where
   pub in_order : AllPairs (λ earlier later. earlier < later) need
   pub each : (attribute : ℕ) → Contains need attribute ↔ IsNeeded kit state need attribute

@@ -8,7 +8,7 @@ use Rattle.region_suggest.specs.declared.dependencies.Dependencies.{Dependencies
 use Rattle.region_suggest.specs.Dependencies.{IsClosure}
 use Rattle.region_suggest.specs.Hope.{AreAllHoped}
 
--- what is given where an attribute is tested: the uncovered ones before it, and the flagged ones of those behind it
+-- what is given where an attribute is tested: the uncovered ones before it, and the flagged ones of those after it
 abbrev pub IsGivenAt : State → List Bool → ℕ → ℕ → Type 0
 IsGivenAt state flags attribute other =
     ((other < attribute) × ¬ IsCovered state other)

@@ -43,7 +43,7 @@ fn is_needed(given: &[bool], state: &State, attribute: u16) -> bool
     }
 }
 
-/// For each attribute whether it is needed or covered. It is tested after those behind it.
+/// For each attribute whether it is needed or covered. It is tested after those after it.
 fn tried<L, B: Book<L>>(
     alloc: Global,
     book: &B,

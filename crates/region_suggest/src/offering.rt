@@ -37,7 +37,7 @@ pub(crate) fn matching_rows<L, B: Book<L>>(
     Ok(found)
 }
 
-/// Adds the rows of one region, behind those of the regions before it.
+/// Adds the rows of one region, after those of the regions before it.
 fn add_rows<L, B: Book<L>>(
     found: &mut List<(u32, u32)>,
     book: &B,

@@ -3,7 +3,7 @@ ghost use Rattle.std.specs.Prelude.{◌≡◌, ◌≢◌, length};
 ghost use Rattle.schema_core.specs.Schemas.{IsSchema};
 ghost use Rattle.rule_text.specs.Rulebooks.{IsRulebook};
 
-use desk_base::Text;
+use desk_base::{MAX_SHEET_ROWS, Text};
 use desk_cases::{Answer, Case};
 use fix_model::{Kit, Rule};
 use master_rows::Master;
@@ -53,8 +53,11 @@ fn bound_of(
         return Err(Fail::new("the masters have one name"));
     }
     let masters = [
-        (towns, Master::read(alloc, TOWNS)?),
-        (streets, Master::read(alloc, STREETS)?),
+        (towns, Master::read_within(alloc, MAX_SHEET_ROWS, TOWNS)?),
+        (
+            streets,
+            Master::read_within(alloc, MAX_SHEET_ROWS, STREETS)?,
+        ),
     ];
     Ok(bind(alloc, rulebook, schema, &masters, &[0, 2]))
 }

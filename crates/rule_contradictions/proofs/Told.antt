@@ -13,7 +13,7 @@ use Rattle.fix_model.specs.Application.{IsUsable}
 use Rattle.fix_model.specs.Comparison.{row_key}
 use Rattle.fix_model.specs.Rules.{from_text}
 use Rattle.master_index.specs.Sorted.{AreEntriesOf, IsEntryOf}
-use Rattle.master_index.proofs.Grouping.{key_order-irreflexive}
+use Rattle.master_index.proofs.Grouping.{key_order-irreflexive, nothing}
 use Rattle.rule_contradictions.specs.declared.contradiction.Contradiction.{Contradiction}
 use Rattle.rule_contradictions.specs.Contradictions.{IsContradiction}
 use Rattle.rule_contradictions.specs.Gathered.{AreGathered}
@@ -22,10 +22,6 @@ use Rattle.rule_contradictions.proofs.Agreeing.{agree-one_key, one_key}
 -- the entry that has these rows
 abbrev pub entry_of : Contradiction → Hit
 entry_of it = record { first = it.row; other = Some it.other_row }
-
--- what is read past the last entry
-abbrev pub nothing : Hit
-nothing = record { first = 0; other = None }
 
 -- one of the entries before a place has these rows
 abbrev pub IsToldBefore : List Hit → ℕ → Contradiction → Type 0

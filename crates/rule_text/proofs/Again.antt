@@ -135,7 +135,7 @@ reads-body schema is lines name master (key ∷ others) head column conds rest l
     (stops-conds schema conds rest)
     ▸ reads-end schema is lines name master keys head column conds last false rest line.conds line.no_cond
 
--- ten texts and what is behind them, from the left or from the right
+-- ten texts and what is after them, from the left or from the right
 ten-append : (a b c d e f g h i j rest : List ℕ)
     → (a ++ b ++ c ++ d ++ e ++ f ++ g ++ h ++ i ++ j) ++ rest
     ≡ a ++ (b ++ (c ++ (d ++ (e ++ (f ++ (g ++ (h ++ (i ++ (j ++ rest)))))))))

@@ -64,7 +64,7 @@ module _ (schema : Schema) (lines : List RuleLine) (line : RuleLine) (attribute 
   abbrev pub longer : Pat → RuleLine
   longer pat = record line { conds = line.conds ++ (attribute, pat) ∷ [] }
 
-  -- a set, behind `in`
+  -- a set, after `in`
   pub reads-set : (texts : List (List ℕ)) (pat : Pat) (rest : List ℕ) → IsSet texts
       → pat ≡ set_of (drafted lines line attribute negated texts)
       → Reads schema expected.Open (drafted lines line attribute negated []) (set_text texts ++ rest)
@@ -166,7 +166,7 @@ other-head head [] cond others none = nat_eq-other head cond.0
 other-head head (first ∷ front) cond others none = other-head head front cond others
     (or_parts (head == first.0) (has_attribute (front ++ cond ∷ others) head) none).1
 
--- what is asked stands behind a space
+-- what is asked stands after a space
 pub stops-pattern : (pat : Pat) (rest : List ℕ) → Stops (pattern_text pat ++ rest)
 stops-pattern (Is constant) rest = record { word = refl; string = refl }
 stops-pattern (IsNot constant) rest = record { word = refl; string = refl }

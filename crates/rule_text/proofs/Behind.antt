@@ -1,4 +1,4 @@
--- What a draft holds, it holds behind each token, and behind all of them.
+-- What a draft holds, it holds after each token, and after all of them.
 use Rattle.std.proofs.Common.{◌≡◌, ◌∙◌, ℕ, Bool, true, false, List, [], ◌∷◌}
 use Rattle.std.proofs.Common.{◌++◌, Some, Ok, refl, sym, subst, arith, inl}
 use Rattle.std.proofs.Common.{inr}
@@ -54,7 +54,7 @@ pub test-other : (word : List ℕ) (token : Token) (draft : Draft) → bytes_eq 
     → token ≡ Word word → record draft { negated = false } ≡ with_test token draft
 test-other word token draft other is = rw (is, other) refl
 
--- behind a closed set the draft is at the end of a rule
+-- after a closed set the draft is at the end of a rule
 pub hold-closed : (schema : Schema) (draft : Draft) → AtClose schema draft
     → AtEnd schema (record (with_cond (set_of draft) draft) { texts = [] })
 hold-closed schema draft at =
@@ -83,7 +83,7 @@ hold-after_line schema after token draft held more apart goes read at =
           ≡ with_line token draft = rw closing refl in same ∙ read) (hold-line schema draft at.whole))
     ]
 
--- behind a comma another text is expected, and behind a closing parenthesis the end of a rule
+-- after a comma another text is expected, and after a closing parenthesis the end of a rule
 pub hold-after_text : (schema : Schema) (after : Expected) (token : Token) (draft held : Draft)
     → (if is_sign mark.Comma token then Some expected.Item else leads (is_sign mark.Closing token) expected.AfterCond)
     ≡ Some after
@@ -98,7 +98,7 @@ hold-after_text schema after token draft held goes read at =
           ≡ with_set token draft = rw closing refl in same ∙ read) (hold-closed schema draft at))
     ]
 
--- behind `not` a text or a set is expected
+-- after `not` a text or a set is expected
 pub hold-after_negated : (schema : Schema) (after : Expected) (token : Token) (place : Place) (draft held : Draft)
     → IsSpelled token
     → (if is_quoted token then Some expected.AfterCond else leads (is_keyword (codes "in") token) expected.Open)
@@ -117,7 +117,7 @@ hold-after_negated schema after token place draft held spelled goes read at =
           (hold-open schema _ (hold-negated schema true draft at)))
     ]
 
--- behind a test what it asks is expected
+-- after a test what it asks is expected
 pub hold-after_test : (schema : Schema) (after : Expected) (token : Token) (draft held : Draft)
     → (if is_keyword (codes "is") token then Some expected.Const else if is_keyword (codes "not") token then Some
     expected.Negated else if is_keyword (codes "in") token then Some expected.Open else leads
@@ -152,7 +152,7 @@ when-apart token taken = rw (keyword-word _ token taken) refl
 pub comma-apart : (token : Token) → is_sign mark.Comma token ≡ true → is_sign mark.Semicolon token ≡ false
 comma-apart token taken = rw (sign-mark mark.Comma token taken) refl
 
--- what a draft holds in a expected, it holds behind a token in the next
+-- what a draft holds in a expected, it holds after a token in the next
 pub hold-step : (schema : Schema) (present after : Expected) (token : Token) (place : Place) (draft held : Draft)
     → IsSpelled token → next present token ≡ Some after → with_token schema present token place draft ≡ Ok held
     → Holds schema present draft → Holds schema after held
@@ -241,7 +241,7 @@ hold-step schema expected.AfterCond after token place draft held spelled goes re
     hold-after_line schema after token draft held (is_sign mark.Comma token) (comma-apart token) goes
     (same-draft _ _ read) at
 
--- ---- behind all tokens
+-- ---- after all tokens
 
 -- at the end of the tokens no rule is open
 pub at_end : (schema : Schema) (present : Expected) (draft : Draft) → is_between_rules present ≡ true
@@ -268,7 +268,7 @@ at_end schema expected.AfterItem draft rulebook at = absurd cc
 at_end schema expected.Const draft rulebook at = absurd cc
 at_end schema expected.AfterCond draft rulebook at = absurd cc
 
--- behind all tokens of a text the closed rules are as they should be
+-- after all tokens of a text the closed rules are as they should be
 pub hold-tokens : (schema : Schema) (present : Expected) (tokens : List Taken) (draft held : Draft)
     → IsChain present tokens → with_tokens schema tokens draft ≡ Ok held → Holds schema present draft
     → AtRule schema held

@@ -38,7 +38,7 @@ use Rattle.rule_text.proofs.DraftTokens.{attribute-token}
 
 -- ---- one token more
 
--- behind a token, a draft stands for one token more
+-- after a token, a draft stands for one token more
 record IsStep (schema : Schema) (before after : Expected) (draft held : Draft) (token : Token) : Type 0 where
   pub tokens : draft_tokens schema after held ≡ draft_tokens schema before draft ++ token ∷ []
   pub parts : HasParts after held
@@ -287,7 +287,7 @@ step-after_test schema after token draft held goes read no_texts =
 
 -- ---- step by step
 
--- behind a token that a expected takes, a draft stands for one token more
+-- after a token that a expected takes, a draft stands for one token more
 tokens-step : (schema : Schema) (before after : Expected) (token : Token) (place : Place) (draft held : Draft)
     → next before token ≡ Some after → with_token schema before token place draft ≡ Ok held → HasParts before draft
     → IsStep schema before after draft held
@@ -374,7 +374,7 @@ tokens-step schema expected.AfterCond after token place draft held goes read (so
     refl (sym (append_assoc headed conds (Sign mark.Comma ∷ [])
     ∙ ap (λ (tokens : List Token). headed ++ tokens) (conds_tokens-comma schema draft.line.conds some)))
 
--- behind all tokens of a text its rulebook has these tokens, columns taken as strings
+-- after all tokens of a text its rulebook has these tokens, columns taken as strings
 pub tokens-all : (schema : Schema) (before : Expected) (tokens : List Taken) (draft held : Draft)
     → IsChain before tokens → with_tokens schema tokens draft ≡ Ok held → HasParts before draft
     → draft_tokens schema before draft ++ map column_as_string tokens ≡ book_tokens schema (book_of held)

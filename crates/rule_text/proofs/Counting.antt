@@ -33,7 +33,7 @@ use Rattle.rule_text.proofs.Behind.{when-apart, comma-apart}
 abbrev pub open_rules : Expected → ℕ
 open_rules present = if is_between_rules present then 0 else 1
 
--- behind a token, with the open rule, they are one more than were closed before it
+-- after a token, with the open rule, they are one more than were closed before it
 pub record HasCounted (after : Expected) (draft held : Draft) : Type 0 where
   pub sum : length held.lines + open_rules after ≡ length draft.lines + 1
 
@@ -54,7 +54,7 @@ count-closed after draft held is same =
     ap (λ (d : Draft). length d.lines) (sym same) ∙ length-append draft.lines (draft.line ∷ []) in
     record { sum = rw (number, lines) (omega arith) }
 
--- behind a rule more follows, or the rule is added
+-- after a rule more follows, or the rule is added
 pub count-after_line : (after : Expected) (token : Token) (draft held : Draft) (more : Bool)
     → (more ≡ true → is_sign mark.Semicolon token ≡ false)
     → (if more then Some expected.Cond else leads (is_sign mark.Semicolon token) expected.Rule) ≡ Some after
@@ -114,7 +114,7 @@ module _ (place : Place) (to after : Expected) (draft held : Draft) (is : to ≡
       count-kept to after draft (record draft { texts = draft.texts ++ text ∷ [] }) held is one (same-draft _ _ same)
       refl
 
--- so it is behind each token
+-- so it is after each token
 pub count-step : (schema : Schema) (present after : Expected) (token : Token) (place : Place) (draft held : Draft)
     → next present token ≡ Some after → with_token schema present token place draft ≡ Ok held
     → HasCounted after draft held

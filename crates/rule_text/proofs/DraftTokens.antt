@@ -26,7 +26,7 @@ use Rattle.rule_text.specs.Printing.{attribute_text}
 
 -- ---- items with commas
 
--- items with a comma behind each
+-- items with a comma after each
 abbrev pub commas_behind : List (List Token) → List Token
 commas_behind [] = []
 commas_behind (first ∷ rest) = first ++ Sign mark.Comma ∷ commas_behind rest
@@ -50,7 +50,7 @@ module _ {A : Type 0} (shown : A → List Token) where
       → with_commas (map shown (items ++ last ∷ [])) ≡ commas_behind (map shown items) ++ shown last
   more-item items last = rw (map-append, with_commas-append) refl
 
-  -- a comma more behind them
+  -- a comma more after them
   pub more-comma : (items : List A) → 1 ≤ length items
       → with_commas (map shown items) ++ Sign mark.Comma ∷ [] ≡ commas_behind (map shown items)
   more-comma [] some = absurd (omega arith)
@@ -160,7 +160,7 @@ pub one-by-one : (front : List Token) (first second third : Token)
     → front ++ first ∷ second ∷ third ∷ [] ≡ front ++ first ∷ [] ++ second ∷ [] ++ third ∷ []
 one-by-one front first second third = simp append_assoc
 
--- a set behind its words
+-- a set after its words
 pub in-parts : (front words items : List Token) (opening closing : Token)
     → front ++ (words ++ opening ∷ (items ++ closing ∷ [])) ≡ front ++ words ++ opening ∷ [] ++ items ++ closing ∷ []
 in-parts front words items opening closing = simp append_assoc

@@ -1,4 +1,4 @@
--- What a draft holds, by what is expected behind the tokens so far, and what each part adds.
+-- What a draft holds, by what is expected after the tokens so far, and what each part adds.
 use Rattle.std.proofs.Common.{◌≡◌, ℕ, zero, suc, ◌<◌, ◌≤◌, ◌==◌, nat_le, true, false, List, [], ◌∷◌, Bool}
 use Rattle.std.proofs.Common.{◌++◌, length, Option, Some, None, Ok, refl, subst, arith, inl}
 use Rattle.std.proofs.Common.{inr}
@@ -212,7 +212,7 @@ name-word (Sign own) name = absurd cc
 -- ---- what each part adds
 
 module _ (schema : Schema) (place : Place) (draft after : Draft) where
-  -- behind a rule's name a master is expected
+  -- after a rule's name a master is expected
   pub hold-name : (name : List ℕ) → with_name name place draft ≡ Ok after → is_word name ≡ true → AtRule schema draft
       → AtMaster schema after
   hold-name name read word at =
@@ -227,7 +227,7 @@ module _ (schema : Schema) (place : Place) (draft after : Draft) where
         named = record { name = word; free = free };
       })
 
-  -- behind a key's column the draft is at a head
+  -- after a key's column the draft is at a head
   pub hold-key_column : (column : List ℕ) → with_key_column column place draft ≡ Ok after
       → (is_long column ≡ false → IsPlain column) → AtColumn schema draft → AtHead schema after
   hold-key_column column read plain at =
@@ -245,7 +245,7 @@ module _ (schema : Schema) (place : Place) (draft after : Draft) where
         some = rw length-append (omega arith);
       })
 
-  -- behind a key's attribute the draft is at its column
+  -- after a key's attribute the draft is at its column
   pub hold-key_of : (found : Option ℕ)
       → ((attribute : ℕ) → found ≡ Some attribute → attribute < length schema.attributes)
       → with_key_of found place draft ≡ Ok after → length draft.line.keys < 8 → AtKey schema draft
@@ -265,7 +265,7 @@ module _ (schema : Schema) (place : Place) (draft after : Draft) where
         room = record { room = room; known = known attribute refl; free = free };
       })
 
-  -- behind a head's attribute the draft is at its column
+  -- after a head's attribute the draft is at its column
   pub hold-head_of : (found : Option ℕ)
       → ((attribute : ℕ) → found ≡ Some attribute → attribute < length schema.attributes)
       → with_head_of found place draft ≡ Ok after → AtHead schema draft → AtFrom schema after
@@ -287,7 +287,7 @@ module _ (schema : Schema) (place : Place) (draft after : Draft) where
         headed = record { head = known attribute refl; no_key = free };
       })
 
-  -- behind a head's column the draft is at the end of a rule
+  -- after a head's column the draft is at the end of a rule
   pub hold-head_column : (column : List ℕ) → with_head_column column place draft ≡ Ok after
       → (is_long column ≡ false → IsPlain column) → AtFrom schema draft → AtEnd schema after
   hold-head_column column read plain at =
@@ -313,7 +313,7 @@ module _ (schema : Schema) (place : Place) (draft after : Draft) where
         no_texts = key.no_texts;
       })
 
-  -- behind a condition's attribute the draft is at what it asks
+  -- after a condition's attribute the draft is at what it asks
   pub hold-asked_of : (found : Option ℕ)
       → ((attribute : ℕ) → found ≡ Some attribute → attribute < length schema.attributes)
       → with_asked_of found place draft ≡ Ok after → length draft.line.conds < 8 → AtEnd schema draft
@@ -335,7 +335,7 @@ module _ (schema : Schema) (place : Place) (draft after : Draft) where
         no_texts = at.no_texts;
       })
 
-  -- behind a text the draft is where its set may close
+  -- after a text the draft is where its set may close
   pub hold-text : (text : List ℕ) → with_text text place draft ≡ Ok after → (is_long text ≡ false → IsPlain text)
       → AtItem schema draft → AtClose schema after
   hold-text text read plain at =
@@ -374,7 +374,7 @@ hold-cond schema pat draft good at =
       };
     }
 
--- behind a constant the draft is at the end of a rule
+-- after a constant the draft is at the end of a rule
 pub hold-constant : (schema : Schema) (pat : List ℕ → Pat) (constant : List ℕ) (place : Place) (draft after : Draft)
     → with_constant pat constant place draft ≡ Ok after → (is_long constant ≡ false → IsPattern (pat constant))
     → AtTest schema draft → AtEnd schema after

@@ -139,7 +139,7 @@ tokens-memory schema (first ∷ rest) draft =
     then-memory (with_token schema first.expected first.token first.place draft) (with_tokens schema rest)
     (token-memory schema first.expected first.token first.place draft) (tokens-memory schema rest)
 
--- the tokens behind a piece
+-- the tokens after a piece
 first-memory : (first : Taken) (others : Result (List Taken) RuleFault) → others ≢ Err NoMemory
     → with_first first others ≢ Err NoMemory
 first-memory first (Ok rest) later = λ h. cc

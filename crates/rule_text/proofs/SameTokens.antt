@@ -106,7 +106,7 @@ module _ (place elsewhere : Place) (draft held : Draft) where
   moved-constant pat constant read = let (short, same) = unless-Ok (is_long constant)
       (ConstantLong place.line place.column) _ _ read in rw short same
 
-  -- what stands behind `not`
+  -- what stands after `not`
   moved-negated : (token : Token) → with_negated token place draft ≡ Ok held
       → with_negated token elsewhere draft ≡ Ok held
   moved-negated (Word bytes) read = read

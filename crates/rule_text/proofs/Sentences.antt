@@ -31,7 +31,7 @@ rulebook-only expected.Rule is = refl
 rulebook-only before is = absurd cc
 
 module _ (expected : Expected) (place : Place) (byte : ℕ) (rest : List ℕ) (more : ℕ) where
-  -- a token that is taken, and a reading behind it, are a reading
+  -- a token that is taken, and a reading after it, are a reading
   reading-first : (token : Token) (after : Expected) (others : Result (List Taken) RuleFault) (taken : List Taken)
       → piece_at (byte ∷ rest) ≡ Spelled token more → next expected token ≡ Some after
       → ((behind : List Taken) → others ≡ Ok behind → IsReading after (drop more rest) behind)
@@ -81,7 +81,7 @@ reading-end expected place taken true is read =
     subst (IsReading expected []) empty (record { spelled = none; sentence = rulebook-only expected is })
 reading-end expected place taken false is read = absurd cc
 
--- what is read of the bytes behind those that are passed
+-- what is read of the bytes after those that are passed
 reading : (expected : Expected) (place : Place) (passed : ℕ) (bytes : List ℕ) (taken : List Taken)
     → taken_from expected place passed bytes ≡ Ok taken → IsReading expected (drop passed bytes) taken
 reading expected place passed [] taken read = rw (drop-nil passed)
@@ -111,13 +111,13 @@ read-end : (before : Expected) (place : Place) → before ≡ expected.Rule → 
 read-end before place is = ([], rw is refl, refl)
 
 module _ (expected : Expected) (place : Place) (byte : ℕ) (rest : List ℕ) (more : ℕ) where
-  -- what is behind a gap is read as with it
+  -- what is after a gap is read as with it
   read-gap : (tokens : List Token) → piece_at (byte ∷ rest) ≡ Gap more
       → IsReadAs expected (place_behind (place_after place byte) (take more rest)) (drop more rest) tokens
       → IsReadAs expected place (byte ∷ rest) tokens
   read-gap tokens piece (taken, read, same) = (taken, taken_from-gap expected place byte rest more piece ∙ read, same)
 
-  -- a token that is taken, and what is read behind it, are read together
+  -- a token that is taken, and what is read after it, are read together
   read-token : (first : Token) (after : Expected) (others : List Token) → piece_at (byte ∷ rest) ≡ Spelled first more
       → next expected first ≡ Some after
       → IsReadAs after (place_behind (place_after place byte) (take more rest)) (drop more rest) others
@@ -147,7 +147,7 @@ tokens_of-IsSentence text tokens spells is = reads spells expected.Rule (record 
 
 -- ---- a text spells one sequence of tokens at most
 
--- what is spelled with a gap in front is spelled behind it
+-- what is spelled with a gap in front is spelled after it
 behind-gap : (byte : ℕ) (rest : List ℕ) (more : ℕ) (others : List Token) → piece_at (byte ∷ rest) ≡ Gap more
     → Spells (byte ∷ rest) others → Spells (drop more rest) others
 behind-gap byte rest more others is (gap byte' rest' most others' piece further) =
@@ -158,7 +158,7 @@ behind-gap byte rest more others is (spelled byte' rest' most first behind piece
     let same : Spelled first most ≡ Gap more = sym piece ∙ is in
     absurd cc
 
--- the tokens behind the first one
+-- the tokens after the first one
 record IsBehind (bytes : List ℕ) (first : Token) (others : List Token) : Type 0 where
   pub behind : List Token
   pub is : others ≡ first ∷ behind

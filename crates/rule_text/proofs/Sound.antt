@@ -20,7 +20,7 @@ use Rattle.rule_text.proofs.Held.{AtRule}
 use Rattle.rule_text.proofs.Behind.{hold-tokens}
 use Rattle.rule_text.proofs.Counting.{count-tokens}
 
--- there are at most 200 where there is none behind them
+-- there are at most 200 where there is none after them
 few : {A : Type 0} (xs : List A) → slice_get xs 200 ≡ None → length xs ≤ 200
 few xs none = elim (slice_get_cases xs 200).1 [ inl (x, within, is, at) ↦ absurd cc | inr (past, is) ↦ past ]
 

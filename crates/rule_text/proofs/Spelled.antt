@@ -51,7 +51,7 @@ quoted-plain : (byte : ℕ) (bytes : List ℕ) → 0 < length bytes → (byte ==
 quoted-plain byte [] some other high = absurd (omega arith)
 quoted-plain byte (next ∷ rest) some other high = rw (other, high) refl
 
--- a quote without another behind it ends a string
+-- a quote without another after it ends a string
 quoted-end : (rest : List ℕ) → begins_with (λ byte. byte == 34) rest ≡ false → quoted (34 ∷ rest) ≡ Some ([], 1)
 quoted-end [] stops = refl
 quoted-end (next ∷ rest) stops = rw stops refl

@@ -15,7 +15,7 @@ use Rattle.rule_text.specs.declared.token.Mark.TheVariants as mark
 use Rattle.rule_text.specs.Tokens.{is_blank, is_in_line, comment_length, word_at, mark_at, with_byte, quoted}
 use Rattle.rule_text.specs.Tokens.{string_of, piece_at}
 
--- how many bytes of a piece stand behind its first
+-- how many bytes of a piece stand after its first
 abbrev pub more_of : Piece → ℕ
 more_of (Gap more) = more
 more_of (Spelled token more) = more
@@ -57,7 +57,7 @@ within-string_of None most within = omega arith
 within-string_of (Some q) most within = elim (cases_Bool (is_utf8 q.0))
     [ inl is ↦ rw is within | inr other ↦ rw other (omega arith) ]
 
--- so many bytes at most stand behind the first of the piece
+-- so many bytes at most stand after the first of the piece
 record IsWithin (piece : Piece) (most : ℕ) : Type 0 where
   pub at_most : more_of piece ≤ most
 

@@ -33,7 +33,7 @@ taken_from-passed expected place (suc passed) (byte ∷ rest) = taken_from-passe
     passed rest
 
 module _ (expected : Expected) (place : Place) (byte : ℕ) (rest : List ℕ) (more : ℕ) where
-  -- behind a blank or a comment the text goes on
+  -- after a blank or a comment the text goes on
   pub taken_from-gap : piece_at (byte ∷ rest) ≡ Gap more
       → taken_from expected place 0 (byte ∷ rest)
       ≡ taken_from expected (place_behind (place_after place byte) (take more rest)) 0 (drop more rest)
@@ -49,7 +49,7 @@ module _ (expected : Expected) (place : Place) (byte : ℕ) (rest : List ℕ) (m
       (ap (with_first (record { expected = expected; token = token; place = place }))
       (taken_from-passed after (place_after place byte) more rest))
 
--- the loop goes on behind a blank or a comment
+-- the loop goes on after a blank or a comment
 pub goes_on-gap : (front : List Taken) (expected : Expected) (place : Place) (bytes : List ℕ) (more : ℕ)
     (total : Result (List Taken) RuleFault)
     → 0 < length bytes → piece_at bytes ≡ Gap more → total ≡ with_front front (taken_from expected place 0 bytes)
@@ -59,7 +59,7 @@ goes_on-gap front expected place [] more total some piece so_far = absurd (omega
 goes_on-gap front expected place (byte ∷ rest) more total some piece so_far = rw add-one
     (so_far ∙ ap (with_front front) (taken_from-gap expected place byte rest more piece))
 
--- and behind a token that is taken
+-- and after a token that is taken
 pub goes_on-token : (front : List Taken) (expected : Expected) (place : Place) (bytes : List ℕ) (more : ℕ)
     (total : Result (List Taken) RuleFault) (token : Token) (after : Expected)
     → 0 < length bytes → piece_at bytes ≡ Spelled token more → next expected token ≡ Some after

@@ -1,4 +1,4 @@
--- What the tokens of a text are: each is what is expected behind the one before it.
+-- What the tokens of a text are: each is what is expected after the one before it.
 use Rattle.std.proofs.Common.{◌≡◌, ℕ, zero, suc, ◌+◌, ◌==◌, nat_lt, Bool, true, false, ◌&&◌, ◌||◌, List, [], ◌∷◌}
 use Rattle.std.proofs.Common.{take, Option, Some, None, Result, Ok, Err, refl, subst, arith, inl, inr}
 use Rattle.std.specs.Prelude.{IsUtf8, IfSome, if◌then◌else◌}
@@ -148,7 +148,7 @@ well-piece_at (first ∷ rest) =
     _ _ (λ starts. well-word_at first rest starts)
     (well-either (first == 34) _ _ (λ _. well-string_of (quoted rest) (plain-quoted rest)) (well-mark_at first rest))))
 
--- each token is what is expected behind the one before it, and behind the last a rule is expected
+-- each token is what is expected after the one before it, and after the last a rule is expected
 abbrev pub IsChain : Expected → List Taken → Type 0
 IsChain expected [] = is_between_rules expected ≡ true
 IsChain expected (first ∷ rest) = (first.expected ≡ expected) × IsSpelled first.token

@@ -8,18 +8,18 @@ use Rattle.fix_model.specs.declared.kit.Kit.{Kit}
 use Rattle.fix_model.specs.declared.rule.Rule.{Rule}
 use Rattle.schema_core.specs.declared.schema.Schema.{Schema}
 use Rattle.master_rows.specs.declared.master.Master.{Master}
-use Rattle.master_rows.specs.Master.{IsMaster}
-use Rattle.desk_base.specs.declared.limits.TheConstants.{MAX_MASTERS}
+use Rattle.master_rows.specs.Master.{IsMasterWithin}
+use Rattle.desk_base.specs.declared.limits.TheConstants.{MAX_MASTERS, MAX_SHEET_ROWS}
 use Rattle.desk_base.specs.Places.{flags_of, place_of}
 use Rattle.rule_text.specs.declared.binding.BindFault.{BindFault}
 use Rattle.rule_text.specs.declared.binding.BindFault.TheVariants.{NoMaster, NoColumn}
 use Rattle.rule_text.specs.declared.rulebook.RuleLine.{RuleLine}
 use Rattle.rule_text.specs.declared.rulebook.Rulebook.{Rulebook}
 
--- at most 8 masters under distinct names
+-- at most 8 masters of any size under distinct names
 pub record AreMasters (masters : List (List ℕ × Master)) : Type 0 where
   pub few : length masters ≤ MAX_MASTERS
-  pub each : All (λ master. IsMaster master.1) masters
+  pub each : All (λ master. IsMasterWithin MAX_SHEET_ROWS master.1) masters
   pub named_apart : AllPairs (λ one other. one.0 ≢ other.0) masters
 
 -- attributes of the schema, in ascending order

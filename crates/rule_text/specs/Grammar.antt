@@ -10,17 +10,17 @@ use Rattle.rule_text.specs.Tokens.{is_keyword, is_name, is_quoted, is_column, is
 abbrev pub leads : Bool → Expected → Option Expected
 leads taken expected = if taken then Some expected else None
 
--- behind a key: another, or the head
+-- after a key: another, or the head
 abbrev pub after_key : Token → Option Expected
 after_key token = if is_sign mark.Comma token then Some expected.Key else leads (is_sign mark.Arrow token) expected.Head
 
--- behind the head: conditions, or the end of the rule
+-- after the head: conditions, or the end of the rule
 abbrev pub after_head : Token → Option Expected
 after_head token =
     if is_keyword (codes "when") token then Some expected.Cond
     else leads (is_sign mark.Semicolon token) expected.Rule
 
--- behind a condition's attribute: what it asks
+-- after a condition's attribute: what it asks
 abbrev pub test : Token → Option Expected
 test token =
     if is_keyword (codes "is") token then Some expected.Const
@@ -28,23 +28,23 @@ test token =
     else if is_keyword (codes "in") token then Some expected.Open
     else leads (is_keyword (codes "any") token) expected.AfterCond
 
--- behind `not`: a text, or a set of them
+-- after `not`: a text, or a set of them
 abbrev pub negated : Token → Option Expected
 negated token = if is_quoted token then Some expected.AfterCond else leads (is_keyword (codes "in") token) expected.Open
 
--- behind a text of a set: another, or the end of the set
+-- after a text of a set: another, or the end of the set
 abbrev pub after_item : Token → Option Expected
 after_item token =
     if is_sign mark.Comma token then Some expected.Item
     else leads (is_sign mark.Closing token) expected.AfterCond
 
--- behind a condition: another, or the end of the rule
+-- after a condition: another, or the end of the rule
 abbrev pub after_cond : Token → Option Expected
 after_cond token =
     if is_sign mark.Comma token then Some expected.Cond
     else leads (is_sign mark.Semicolon token) expected.Rule
 
--- what is expected behind a token, where it is what is expected now
+-- what is expected after a token, where it is what is expected now
 unfoldable pub next : Expected → Token → Option Expected
 next expected.Rule token = leads (is_keyword (codes "rule") token) expected.Name
 next expected.Name token = leads (is_name token) expected.From

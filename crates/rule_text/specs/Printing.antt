@@ -25,7 +25,7 @@ column_text column = if is_word column then column else string_text column
 abbrev pub attribute_text : Schema → ℕ → List ℕ
 attribute_text schema attribute = unwrap_or (slice_get schema.attributes attribute) []
 
--- what stands before the item at a place, counted from 0: a comma behind another item
+-- what stands before the item at a place, counted from 0: a comma after another item
 abbrev pub separator : ℕ → List ℕ
 separator zero = []
 separator (suc place) = codes ", "

@@ -41,7 +41,7 @@ is_long text = nat_lt MAX_TEXT (length text)
 abbrev pub blank_line : RuleLine
 blank_line = record { name = []; master = []; keys = []; head = 0; from = []; conds = [] }
 
--- behind these rules, the next is not yet begun
+-- after these rules, the next is not yet begun
 abbrev pub draft_behind : List RuleLine → Draft
 draft_behind lines = record { lines = lines; line = blank_line; attribute = 0; negated = false; texts = [] }
 
@@ -128,7 +128,7 @@ with_constant pat constant place draft =
     if is_long constant then Err (ConstantLong place.line place.column)
     else Ok (with_cond (pat constant) draft)
 
--- what stands behind `not`: a constant, or `in`
+-- what stands after `not`: a constant, or `in`
 abbrev pub with_negated : Token → Place → Draft → Result Draft RuleFault
 with_negated token place draft =
     if is_quoted token then with_constant IsNot (content token) place draft

@@ -34,7 +34,7 @@ IsPattern (OneOf texts) = IsSet texts
 IsPattern (NoneOf texts) = IsSet texts
 IsPattern Any = ⊤
 
--- pairs with distinct attributes: none of the first's stands again behind it, and so on
+-- pairs with distinct attributes: none of the first's stands again after it, and so on
 abbrev pub AreDistinct : {A : Type 0} → List (ℕ × A) → Type 0
 AreDistinct [] = ⊤
 AreDistinct (pair ∷ rest) = (has_attribute rest pair.0 ≡ false) × AreDistinct rest
@@ -57,7 +57,7 @@ pub record IsLine (schema : Schema) (line : RuleLine) : Type 0 where
   pub conds : ArePairs IsPattern schema line.conds
   pub no_cond : has_attribute line.conds line.head ≡ false
 
--- rules with distinct names: none behind the first has its name, and so on
+-- rules with distinct names: none after the first has its name, and so on
 abbrev pub AreNamedApart : List RuleLine → Type 0
 AreNamedApart [] = ⊤
 AreNamedApart (line ∷ rest) = (has_name rest line.name ≡ false) × AreNamedApart rest

@@ -16,7 +16,7 @@ pub data Spells : List ℕ → List Token → Type 0 where
   spelled : (byte : ℕ) (rest : List ℕ) (more : ℕ) (first : Token) (others : List Token) → piece_at (byte ∷ rest)
       ≡ Spelled first more → Spells (drop more rest) others → Spells (byte ∷ rest) (first ∷ others)
 
--- each token is what is expected behind the one before it, and behind the last a rule is expected
+-- each token is what is expected after the one before it, and after the last a rule is expected
 abbrev pub IsSentenceFrom : Expected → List Token → Type 0
 IsSentenceFrom expected [] = expected ≡ Rule
 IsSentenceFrom expected (first ∷ others) = (after : Expected) × (next expected first ≡ Some after)

@@ -22,14 +22,14 @@ abbrev pub with_first : Taken → Result (List Taken) RuleFault → Result (List
 with_first first (Ok rest) = Ok (first ∷ rest)
 with_first first (Err fault) = Err fault
 
--- the tokens from a piece on: its own, where it is taken, and then those behind it
+-- the tokens from a piece on: its own, where it is taken, and then those after it
 abbrev pub taken_with : Expected → Place → Token → Option Expected → (Expected → Result (List Taken) RuleFault)
     → Result (List Taken) RuleFault
 taken_with expected place token None others = Err (syntax_at place)
 taken_with expected place token (Some after) others =
     with_first (record { expected = expected; token = token; place = place }) (others after)
 
--- the same for any piece: others gives the tokens from so many bytes behind its first on
+-- the same for any piece: others gives the tokens from so many bytes after its first on
 abbrev pub taken_at : Piece → Expected → Place → (Expected → ℕ → Result (List Taken) RuleFault)
     → Result (List Taken) RuleFault
 taken_at (Gap more) expected place others = others expected more
@@ -42,7 +42,7 @@ abbrev pub is_between_rules : Expected → Bool
 is_between_rules expected.Rule = true
 is_between_rules expected = false
 
--- the tokens of the bytes behind some that are passed already, each with what was expected there and its
+-- the tokens of the bytes after some that are passed already, each with what was expected there and its
 -- place, or the first place of a token that is not taken, of a byte that begins no token, or of the end
 -- where a rule has begun
 abbrev pub taken_from : Expected → Place → ℕ → List ℕ → Result (List Taken) RuleFault

@@ -12,13 +12,13 @@ use Rattle.rule_text.specs.declared.token.Token.TheVariants.{Word, Quoted, Sign}
 use Rattle.rule_text.specs.declared.token.Piece.{Piece}
 use Rattle.rule_text.specs.declared.token.Piece.TheVariants.{Gap, Spelled, Stray}
 
--- the place behind a byte: on a new line behind LF, else one column on
+-- the place after a byte: on a new line after LF, else one column on
 abbrev pub place_after : Place → ℕ → Place
 place_after place byte =
     if byte == 10 then record { line = place.line + 1; column = 1 }
     else record { line = place.line; column = place.column + 1 }
 
--- the place behind all of these bytes
+-- the place after all of these bytes
 abbrev pub place_behind : Place → List ℕ → Place
 place_behind place [] = place
 place_behind place (byte ∷ rest) = place_behind (place_after place byte) rest
@@ -55,7 +55,7 @@ mark_at first rest =
 abbrev pub with_byte : ℕ → ℕ → Option (List ℕ × ℕ) → Option (List ℕ × ℕ)
 with_byte byte written others = option_map (λ string. (byte ∷ string.0, string.1 + written)) others
 
--- behind its opening quote, the content of a string and how many bytes it takes up to its closing quote:
+-- after its opening quote, the content of a string and how many bytes it takes up to its closing quote:
 -- two quotes stand for one, and the string ends at the first other one
 abbrev pub quoted : List ℕ → Option (List ℕ × ℕ)
 quoted [] = None

@@ -3,7 +3,8 @@ ghost use Rattle.std.specs.Prelude.{◌≡◌, ◌≢◌, ◌+◌, ◌<◌, leng
 ghost use Rattle.std.specs.Prelude.{IfSome};
 ghost use Rattle.fix_model.specs.Valid.{IsValid};
 ghost use Rattle.schema_core.specs.Schemas.{IsSchema};
-ghost use Rattle.master_rows.specs.Master.{IsMaster};
+ghost use Rattle.desk_base.specs.declared.limits.TheConstants.{MAX_SHEET_ROWS};
+ghost use Rattle.master_rows.specs.Master.{IsMasterWithin};
 ghost use Rattle.rule_text.specs.Rulebooks.{IsRulebook};
 ghost use Rattle.rule_text.specs.Binding.{AreMasters, AreFolded, master_of, column_of, keys_fault, line_fault};
 ghost use Rattle.rule_text.specs.Binding.{first_fault, bound_key, rule_of, bound};
@@ -131,7 +132,7 @@ fn keys_of(
     master: &Master,
     keys: &[(u16, Text)],
 ) -> Result<List<(u16, u16)>, BindFault>
-    requires { IsMaster master.now }
+    requires { IsMasterWithin MAX_SHEET_ROWS master.now }
     ensures found { IfOk result (λ bound. keys_fault number master.now 1 keys.now ≡ None) }
     ensures keys { IfOk result (λ bound. bound ≡ map (bound_key master.now) keys.now) }
     ensures fault { IfErr result (λ fault. fault ≢ BindFault.NoMemory
@@ -170,7 +171,7 @@ fn place_among(masters: &[(Text, Master)], name: &Text) -> Option<usize>
 
 /// The place of the master's column of this name, from 0.
 fn column_of(master: &Master, name: &Text) -> Option<u16>
-    requires { IsMaster master.now }
+    requires { IsMasterWithin MAX_SHEET_ROWS master.now }
     ensures { result ≡ column_of master.now name.now }
 {
     match place_of(master.columns.as_slice(), name.as_str()) {

@@ -287,7 +287,7 @@ impl Draft {
         self.add_cond(Pat::Is(constant))
     }
 
-    /// Takes what stands behind `not`: the constant that a text is not to be, or `in`.
+    /// Takes what stands after `not`: the constant that a text is not to be, or `in`.
     fn take_negated(&mut self, alloc: Global, token: &Token, place: Place) -> Result<(), RuleFault>
         ensures read { OnOk result (with_negated token.now place self.old ≡ Ok self.new) }
         ensures fault { IfErr result (λ fault. fault ≢ RuleFault.NoMemory
@@ -321,7 +321,7 @@ impl Draft {
         Ok(())
     }
 
-    /// Takes what stands behind a text of a set: the set may be closed.
+    /// Takes what stands after a text of a set: the set may be closed.
     fn take_after_text(&mut self, alloc: Global, token: &Token) -> Result<(), RuleFault>
         ensures read { OnOk result (self.new ≡ with_set token.now self.old) }
         ensures fault { IfErr result (λ fault. fault ≡ RuleFault.NoMemory) }
@@ -338,7 +338,7 @@ impl Draft {
         self.add_cond(pat)
     }
 
-    /// Takes what stands behind the head or a condition: the rule may be closed.
+    /// Takes what stands after the head or a condition: the rule may be closed.
     fn take_after_line(&mut self, alloc: Global, token: &Token) -> Result<(), RuleFault>
         ensures read { OnOk result (self.new ≡ with_line token.now self.old) }
         ensures fault { IfErr result (λ fault. fault ≡ RuleFault.NoMemory) }

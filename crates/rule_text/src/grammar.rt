@@ -57,7 +57,7 @@ fn leads(taken: bool, expected: Expected) -> Option<Expected>
     if taken { Some(expected) } else { None }
 }
 
-/// What is expected behind the token, where it is what is expected now.
+/// What is expected after the token, where it is what is expected now.
 #[tactic(auto, unfolding(crate::specs::Grammar::next))]
 pub fn next(expected: Expected, token: &Token) -> Option<Expected>
     ensures { result ≡ next expected token.now }

@@ -21,6 +21,9 @@ mod tokenizer;
 
 pub use binding::{BindFault, bind};
 pub use fault::RuleFault;
+pub use grammar::{Expected, next};
+pub use place::Place;
 pub use printing::print;
 pub use reading::read;
 pub use rulebook::{RuleLine, Rulebook};
+pub use token::{Mark, Piece, Token, piece_at};

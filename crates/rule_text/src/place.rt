@@ -10,7 +10,7 @@ pub struct Place {
 }
 
 impl Place {
-    /// The place behind these bytes, which begin at this place.
+    /// The place after these bytes, which begin at this place.
     pub fn behind(self, bytes: &[u8]) -> Place
         requires counted { 1 ≤ self.column }
         requires line_fits { self.line + length bytes.now < 2 ^ 64 }

@@ -82,7 +82,7 @@ impl Token {
     }
 }
 
-/// What stands at the front of some bytes, with the number of its bytes behind the first.
+/// What stands at the front of some bytes, with the number of its bytes after the first.
 #[derive(Debug, Drop)]
 pub enum Piece {
     /// A blank or a comment.
@@ -164,7 +164,7 @@ fn mark_at(first: u8, rest: &[u8]) -> Piece
     }
 }
 
-/// The string that begins behind an opening quote.
+/// The string that begins after an opening quote.
 fn string_at(alloc: Global, bytes: &[u8]) -> Result<Piece, NoMemory>
     ensures { IfOk result (λ piece. piece ≡ string_of (quoted bytes.now)) }
 {
@@ -180,7 +180,7 @@ fn string_at(alloc: Global, bytes: &[u8]) -> Result<Piece, NoMemory>
     }
 }
 
-/// The content of a string behind its opening quote, and how many bytes it takes up to its closing quote.
+/// The content of a string after its opening quote, and how many bytes it takes up to its closing quote.
 fn quoted(alloc: Global, bytes: &[u8]) -> Result<Option<(List<u8>, usize)>, NoMemory>
     ensures { IfOk result (λ string. string ≡ quoted bytes.now) }
 {

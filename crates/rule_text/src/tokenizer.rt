@@ -38,7 +38,7 @@ pub fn tokens_of(alloc: Global, text: &[u8]) -> Result<Vec<Taken>, RuleFault>
     }
 }
 
-/// Takes the token that stands at a place, and tells what is expected behind it.
+/// Takes the token that stands at a place, and tells what is expected after it.
 fn take(
     tokens: &mut Vec<Taken>,
     expected: Expected,

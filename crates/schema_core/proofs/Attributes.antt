@@ -9,7 +9,7 @@ use Rattle.schema_core.specs.Reading.{attribute_fault, first_fault}
 
 module _ {A : Type 0} (shown : A → List ℕ) (earlier : List (List ℕ)) (xs : List A) (i : ℕ) (d : A)
     (within : i < length xs) where
-  -- the first fault from an attribute on is its own, or else the first behind it
+  -- the first fault from an attribute on is its own, or else the first after it
   first_fault-drop : first_fault earlier (drop i (map shown xs)) ≡ option_or
       (attribute_fault earlier (shown (get_or xs i d)))
       (first_fault (earlier ++ shown (get_or xs i d) ∷ []) (drop (i + 1) (map shown xs)))
@@ -24,7 +24,7 @@ module _ {A : Type 0} (shown : A → List ℕ) (earlier : List (List ℕ)) (xs :
       ∙ ap (λ first. option_or first
       (first_fault (earlier ++ shown (get_or xs i d) ∷ []) (drop (i + 1) (map shown xs)))) faulty
 
-  -- it is the first behind it, where it has none
+  -- it is the first after it, where it has none
   pub first_fault-sound : attribute_fault earlier (shown (get_or xs i d)) ≡ None
       → first_fault earlier (drop i (map shown xs)) ≡ first_fault (earlier ++ shown (get_or xs i d) ∷ [])
       (drop (i + 1) (map shown xs))

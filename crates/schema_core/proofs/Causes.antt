@@ -27,7 +27,7 @@ Err-fault None schema fault is = absurd cc
 Err-fault (Some first) schema fault is = cc
 
 module _ (members : Members) (all : List (List ℕ)) (stand : HasAttributes members all) where
-  -- the first fault among attributes behind earlier ones
+  -- the first fault among attributes after earlier ones
   first_fault-cause : (earlier rest : List (List ℕ)) → earlier ++ rest ≡ all → (fault : SchemaFault)
       → first_fault earlier rest ≡ Some fault → IsOf members fault
   first_fault-cause earlier [] joined fault is = absurd cc

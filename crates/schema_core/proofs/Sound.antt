@@ -33,7 +33,7 @@ attribute_fault-None earlier attribute none =
       | inr other ↦ let fault = rw other at none in absurd cc
     ]
 
--- where there is no first fault, no attribute has one behind those before it
+-- where there is no first fault, no attribute has one after those before it
 first_fault-None : (earlier attributes : List (List ℕ)) (i : ℕ) (d : List ℕ) → first_fault earlier attributes ≡ None
     → i < length attributes → attribute_fault (earlier ++ take i attributes) (get_or attributes i d) ≡ None
 first_fault-None earlier [] i d none within = absurd (omega arith)

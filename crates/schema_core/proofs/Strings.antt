@@ -9,7 +9,7 @@ use Rattle.toml.specs.View.{view, items_view}
 use Rattle.toml.specs.declared.value.Value.{Value}
 use Rattle.schema_core.specs.Reading.{texts_in}
 
--- a first text behind none
+-- a first text after none
 one_text : (text : Option (List ℕ)) → option_and_then (λ t. Some (t ∷ [])) text ≡ option_map (λ t. t ∷ []) text
 one_text None = refl
 one_text (Some t) = refl

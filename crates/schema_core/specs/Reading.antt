@@ -31,14 +31,14 @@ texts_in (item value rest) = option_and_then (λ text. option_map (λ texts. tex
 abbrev pub texts_of : Data → Option (List (List ℕ))
 texts_of value = option_and_then texts_in (as_array value)
 
--- what is wrong with an attribute behind these: it is no word, or it stands among them
+-- what is wrong with an attribute after these: it is no word, or it stands among them
 abbrev pub attribute_fault : List (List ℕ) → List ℕ → Option SchemaFault
 attribute_fault earlier attribute =
     if not (is_word attribute) then Some (BadName (length earlier + 1))
     else if has_text earlier attribute then Some (Twice (length earlier + 1))
     else None
 
--- the first fault among attributes that stand behind these
+-- the first fault among attributes that stand after these
 abbrev pub first_fault : List (List ℕ) → List (List ℕ) → Option SchemaFault
 first_fault earlier [] = None
 first_fault earlier (attribute ∷ rest) = option_or (attribute_fault earlier attribute)

@@ -134,7 +134,7 @@ fn attributes_of(alloc: Global, strings: &[&str]) -> Result<List<Text>, SchemaFa
     Ok(attributes)
 }
 
-/// What is wrong with an attribute behind the earlier ones.
+/// What is wrong with an attribute after the earlier ones.
 fn attribute_fault(earlier: &[Text], attribute: &str) -> Option<SchemaFault>
     ensures fault { result ≡ attribute_fault earlier.now attribute.now }
     ensures short { IfNone result (length attribute.now ≤ MAX_WORD) }

@@ -12,7 +12,8 @@ use Rattle.sheet_blocks.specs.Kept.{Follows, IsCutAt, reader_place}
 use Rattle.sheet_blocks.specs.declared.blocks.Kept.{Kept}
 use Rattle.std.proofs.lemmas.List.{append-nil}
 use Rattle.sheet_blocks.specs.Places.{ends_line, next_place}
-use Rattle.sheet_blocks.specs.Sheets.{IsDelimiter, config_of}
+use Rattle.sheet_blocks.specs.Sheets.{IsDelimiter}
+use Rattle.master_rows.specs.Sheet.{delimited}
 use Rattle.sheet_blocks.specs.Whole.{AreWhole, EndsNone, state_after}
 use Rattle.sheet_blocks.proofs.Records.{IsNeat-begun, IsNeat-read_on, IsReached}
 use Rattle.sheet_blocks.proofs.Records.{begun, read_on-state, step-return}
@@ -32,7 +33,7 @@ EndsNone-more cfg state (first ∷ text) byte none goes =
 
 -- between two records a byte leads where it leads from the start
 step-between : (delimiter : ℕ) (state : State) (byte : ℕ) → ends_at_end state ≡ false
-    → step (config_of delimiter) state byte ≡ step (config_of delimiter) st.StartRecord byte
+    → step (delimited delimiter) state byte ≡ step (delimited delimiter) st.StartRecord byte
 step-between delimiter st.StartRecord byte apart = refl
 step-between delimiter st.AfterCr byte apart = step-return delimiter byte
 step-between delimiter st.StartField byte apart = absurd cc
@@ -44,32 +45,32 @@ step-between delimiter st.InComment byte apart = absurd cc
 
 -- so does a text of some bytes
 state_after-between : (delimiter : ℕ) (state : State) (text : List ℕ) (byte : ℕ) → ends_at_end state ≡ false
-    → state_after (config_of delimiter) state (text ++ byte ∷ [])
-    ≡ state_after (config_of delimiter) st.StartRecord (text ++ byte ∷ [])
+    → state_after (delimited delimiter) state (text ++ byte ∷ [])
+    ≡ state_after (delimited delimiter) st.StartRecord (text ++ byte ∷ [])
 state_after-between delimiter state [] byte apart = ap (λ s. s.0) (step-between delimiter state byte apart)
 state_after-between delimiter state (first ∷ text) byte apart =
-    ap (λ s. state_after (config_of delimiter) s.0 (text ++ byte ∷ [])) (step-between delimiter state first apart)
+    ap (λ s. state_after (delimited delimiter) s.0 (text ++ byte ∷ [])) (step-between delimiter state first apart)
 
 -- whole records after whole records are whole records
 whole-between : (delimiter : ℕ) (state : State) (block : List ℕ) → ends_at_end state ≡ false
-    → AreWhole (config_of delimiter) block → ends_at_end (state_after (config_of delimiter) state block) ≡ false
+    → AreWhole (delimited delimiter) block → ends_at_end (state_after (delimited delimiter) state block) ≡ false
 whole-between delimiter state [] apart whole = apart
 whole-between delimiter state (byte ∷ block) apart whole =
-    ap (λ s. ends_at_end (state_after (config_of delimiter) s.0 block)) (step-between delimiter state byte apart)
+    ap (λ s. ends_at_end (state_after (delimited delimiter) s.0 block)) (step-between delimiter state byte apart)
     ∙ whole
 
-pub AreWhole-append : (delimiter : ℕ) (one other : List ℕ) → AreWhole (config_of delimiter) one
-    → AreWhole (config_of delimiter) other → AreWhole (config_of delimiter) (one ++ other)
+pub AreWhole-append : (delimiter : ℕ) (one other : List ℕ) → AreWhole (delimited delimiter) one
+    → AreWhole (delimited delimiter) other → AreWhole (delimited delimiter) (one ++ other)
 AreWhole-append delimiter one other first second =
-    ap ends_at_end (state_after-append (config_of delimiter) st.StartRecord one other)
-    ∙ whole-between delimiter (state_after (config_of delimiter) st.StartRecord one) other first second
+    ap ends_at_end (state_after-append (delimited delimiter) st.StartRecord one other)
+    ∙ whole-between delimiter (state_after (delimited delimiter) st.StartRecord one) other first second
 
 -- what a byte does to the machine, by what it does to the place
 record Agrees (delimiter : ℕ) (state : State) (byte : ℕ) : Type 0 where
-  place : next_place delimiter (reader_place state) byte ≡ reader_place (step (config_of delimiter) state byte).0
-  ends : ends_line (reader_place state) byte ≡ true → ends_at_end (step (config_of delimiter) state byte).0 ≡ false
+  place : next_place delimiter (reader_place state) byte ≡ reader_place (step (delimited delimiter) state byte).0
+  ends : ends_line (reader_place state) byte ≡ true → ends_at_end (step (delimited delimiter) state byte).0 ≡ false
   start : ends_line (reader_place state) byte ≡ true → next_place delimiter (reader_place state) byte ≡ Start
-  goes : ends_line (reader_place state) byte ≡ false → is_end (step (config_of delimiter) state byte).1 ≡ false
+  goes : ends_line (reader_place state) byte ≡ false → is_end (step (delimited delimiter) state byte).1 ≡ false
 
 -- a byte that is no line end ends no line
 ends_line-no : (state : State) (byte : ℕ) → (byte == 13) ≡ false → (byte == 10) ≡ false
@@ -85,8 +86,8 @@ ends_line-no st.InQuoted byte no_return no_feed = refl
 
 -- what such a byte does, by its step
 agrees_by : (delimiter byte : ℕ) (state : State) → (byte == 13) ≡ false → (byte == 10) ≡ false
-    → next_place delimiter (reader_place state) byte ≡ reader_place (step (config_of delimiter) state byte).0
-    → is_end (step (config_of delimiter) state byte).1 ≡ false → Agrees delimiter state byte
+    → next_place delimiter (reader_place state) byte ≡ reader_place (step (delimited delimiter) state byte).0
+    → is_end (step (delimited delimiter) state byte).1 ≡ false → Agrees delimiter state byte
 agrees_by delimiter byte state no_return no_feed place goes =
     let none = ends_line-no state byte no_return no_feed in
     record {
@@ -249,8 +250,8 @@ agrees delimiter byte state delimits reached = elim (cases_Bool (byte == 13)) [
 ]
 
 -- the state after bytes of a record that was begun is one that is reached
-reached-after : (delimiter : ℕ) (text : List ℕ) → IsReached (state_after (config_of delimiter) st.StartRecord text)
-reached-after delimiter text = subst (λ s. IsReached s) (read_on-state (config_of delimiter) begun text)
+reached-after : (delimiter : ℕ) (text : List ℕ) → IsReached (state_after (delimited delimiter) st.StartRecord text)
+reached-after delimiter text = subst (λ s. IsReached s) (read_on-state (delimited delimiter) begun text)
     (IsNeat-read_on delimiter begun text IsNeat-begun).reached
 
 -- after a byte that ends a line the record that was begun is whole
@@ -258,7 +259,7 @@ pub IsCutAt-ends : (delimiter : ℕ) (block begun_bytes : List ℕ) (place : Pla
     → IsCutAt delimiter block begun_bytes place → ends_line place byte ≡ true
     → IsCutAt delimiter (block ++ begun_bytes ++ byte ∷ []) [] (next_place delimiter place byte)
 IsCutAt-ends delimiter block begun_bytes place byte delimits cut ends =
-    let cfg = config_of delimiter in
+    let cfg = delimited delimiter in
     let state = state_after cfg st.StartRecord begun_bytes in
     let does = agrees delimiter byte state delimits (reached-after delimiter begun_bytes) in
     let here : ends_line (reader_place state) byte ≡ true = ap (λ p. ends_line p byte) (sym cut.at) ∙ ends in
@@ -276,7 +277,7 @@ pub IsCutAt-goes : (delimiter : ℕ) (block begun_bytes : List ℕ) (place : Pla
     → IsCutAt delimiter block begun_bytes place → ends_line place byte ≡ false
     → IsCutAt delimiter block (begun_bytes ++ byte ∷ []) (next_place delimiter place byte)
 IsCutAt-goes delimiter block begun_bytes place byte delimits cut goes =
-    let cfg = config_of delimiter in
+    let cfg = delimited delimiter in
     let state = state_after cfg st.StartRecord begun_bytes in
     let does = agrees delimiter byte state delimits (reached-after delimiter begun_bytes) in
     let here : ends_line (reader_place state) byte ≡ false = ap (λ p. ends_line p byte) (sym cut.at) ∙ goes in

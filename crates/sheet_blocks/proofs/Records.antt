@@ -12,7 +12,7 @@ use Rattle.csv.specs.declared.parser.State.{State}
 use Rattle.csv.specs.declared.parser.State.TheVariants as st
 use Rattle.csv.specs.declared.parser.Action.{Action}
 use Rattle.csv.specs.declared.parser.Action.TheVariants as act
-use Rattle.sheet_blocks.specs.Sheets.{config_of}
+use Rattle.master_rows.specs.Sheet.{delimited}
 use Rattle.sheet_blocks.specs.Whole.{AreWhole, EndsNone, state_after}
 
 -- ---- reading byte by byte
@@ -172,7 +172,7 @@ between state rows = record { state = state; fields = []; field = []; rows = row
 
 -- after a CR a reader goes on as at the start
 pub step-return : (delimiter byte : ℕ)
-    → step (config_of delimiter) st.AfterCr byte ≡ step (config_of delimiter) st.StartRecord byte
+    → step (delimited delimiter) st.AfterCr byte ≡ step (delimited delimiter) st.StartRecord byte
 step-return delimiter byte = elim (cases_Bool (byte == 10)) [
   | inl feed ↦ elim (cases_Bool (byte == 13)) [
     | inl return ↦ rw (feed, return) refl
@@ -188,15 +188,15 @@ stepped-between true one other rows byte after = refl
 stepped-between false one other rows byte after = refl
 
 restart : (delimiter : ℕ) (state : State) (rows : List (List (List ℕ))) (text : List ℕ) → ends_at_end state ≡ false
-    → finished (read_on (config_of delimiter) (between state rows) text)
-    ≡ finished (read_on (config_of delimiter) (between st.StartRecord rows) text)
+    → finished (read_on (delimited delimiter) (between state rows) text)
+    ≡ finished (read_on (delimited delimiter) (between st.StartRecord rows) text)
 restart delimiter st.StartRecord rows text apart = refl
 restart delimiter st.AfterCr rows [] apart = refl
 restart delimiter st.AfterCr rows (byte ∷ text) apart =
-    let after = step (config_of delimiter) st.AfterCr byte in
-    ap (λ r. finished (read_on (config_of delimiter) r text))
+    let after = step (delimited delimiter) st.AfterCr byte in
+    ap (λ r. finished (read_on (delimited delimiter) r text))
     (stepped-between (is_end after.1) st.AfterCr st.StartRecord rows byte after)
-    ∙ ap (λ after. finished (read_on (config_of delimiter) (stepped (between st.StartRecord rows) byte after) text))
+    ∙ ap (λ after. finished (read_on (delimited delimiter) (stepped (between st.StartRecord rows) byte after) text))
     (step-return delimiter byte)
 restart delimiter st.StartField rows text apart = absurd cc
 restart delimiter st.InField rows text apart = absurd cc
@@ -236,23 +236,23 @@ line_step : (before : State) (test : Bool) → Tidy before (if test then st.Afte
 line_step before true = (tt, λ _. inl refl)
 line_step before false = (tt, λ _. inl refl)
 
-field_step : (delimiter : ℕ) (before : State) (byte : ℕ) → Tidy before (in_field (config_of delimiter) byte)
+field_step : (delimiter : ℕ) (before : State) (byte : ℕ) → Tidy before (in_field (delimited delimiter) byte)
 field_step delimiter before byte = choose (byte == delimiter) before _ _
     (inside before st.StartField act.EndField tt refl)
     (choose ((byte == 13) || (byte == 10)) before _ _ (line_step before (byte == 13))
     (inside before st.InField act.Copy tt refl))
 
-first_step : (delimiter : ℕ) (before : State) (byte : ℕ) → Tidy before (start_field (config_of delimiter) byte)
+first_step : (delimiter : ℕ) (before : State) (byte : ℕ) → Tidy before (start_field (delimited delimiter) byte)
 first_step delimiter before byte = choose (byte == 34) before _ _ (inside before st.InQuoted act.Skip tt refl)
     (field_step delimiter before byte)
 
 record_step : (delimiter : ℕ) (before : State) (byte : ℕ) → ends_at_end before ≡ false
-    → Tidy before (start_record (config_of delimiter) byte)
+    → Tidy before (start_record (delimited delimiter) byte)
 record_step delimiter before byte apart = choose ((byte == 13) || (byte == 10)) before _ _
     (tt, λ _. inr (refl, apart)) (first_step delimiter before byte)
 
 every_step : (delimiter : ℕ) (before : State) (byte : ℕ) → IsReached before
-    → Tidy before (step (config_of delimiter) before byte)
+    → Tidy before (step (delimited delimiter) before byte)
 every_step delimiter st.StartRecord byte reached = record_step delimiter st.StartRecord byte refl
 every_step delimiter st.AfterCr byte reached = choose (byte == 10) st.AfterCr _ _ (tt, λ _. inr (refl, refl))
     (record_step delimiter st.AfterCr byte refl)
@@ -287,10 +287,10 @@ neat_by false reading byte after is neat tidy = record {
 }
 
 pub IsNeat-read_on : (delimiter : ℕ) (reading : Reading) (text : List ℕ) → IsNeat reading
-    → IsNeat (read_on (config_of delimiter) reading text)
+    → IsNeat (read_on (delimited delimiter) reading text)
 IsNeat-read_on delimiter reading [] neat = neat
 IsNeat-read_on delimiter reading (byte ∷ text) neat =
-    let after = step (config_of delimiter) reading.state byte in
+    let after = step (delimited delimiter) reading.state byte in
     IsNeat-read_on delimiter (stepped reading byte after) text
     (neat_by (is_end after.1) reading byte after refl neat (every_step delimiter reading.state byte neat.reached))
 
@@ -299,28 +299,28 @@ pub IsNeat-begun : IsNeat begun
 IsNeat-begun = record { reached = tt; fields = λ _. refl; field = λ _. refl }
 
 -- after whole records a reader stands between two
-pub whole-between : (delimiter : ℕ) (block : List ℕ) → AreWhole (config_of delimiter) block
-    → read_on (config_of delimiter) begun block
-    ≡ between (state_after (config_of delimiter) st.StartRecord block) (records (config_of delimiter) block)
+pub whole-between : (delimiter : ℕ) (block : List ℕ) → AreWhole (delimited delimiter) block
+    → read_on (delimited delimiter) begun block
+    ≡ between (state_after (delimited delimiter) st.StartRecord block) (records (delimited delimiter) block)
 whole-between delimiter block whole =
-    let reading = read_on (config_of delimiter) begun block in
-    let state = read_on-state (config_of delimiter) begun block in
+    let reading = read_on (delimited delimiter) begun block in
+    let state = read_on-state (delimited delimiter) begun block in
     let neat = IsNeat-read_on delimiter begun block IsNeat-begun in
     let apart : ends_at_end reading.state ≡ false = ap ends_at_end state ∙ whole in
-    let all : records (config_of delimiter) block ≡ reading.rows =
-    records-read (config_of delimiter) block ∙ ap (λ b. finished_by b reading) apart in
+    let all : records (delimited delimiter) block ≡ reading.rows =
+    records-read (delimited delimiter) block ∙ ap (λ b. finished_by b reading) apart in
     ap (λ f. record { state = reading.state; fields = f; field = reading.field; rows = reading.rows })
     (neat.fields apart)
     ∙ ap (λ f. record { state = reading.state; fields = []; field = f; rows = reading.rows }) (neat.field apart)
     ∙ ap (λ s. between s reading.rows) state
-    ∙ ap (λ rows. between (state_after (config_of delimiter) st.StartRecord block) rows) (sym all)
+    ∙ ap (λ rows. between (state_after (delimited delimiter) st.StartRecord block) rows) (sym all)
 
 -- the records of a text are those of a block of whole records, and then those of what follows it
-pub records-append : (delimiter : ℕ) (block later : List ℕ) → AreWhole (config_of delimiter) block
-    → records (config_of delimiter) (block ++ later)
-    ≡ records (config_of delimiter) block ++ records (config_of delimiter) later
+pub records-append : (delimiter : ℕ) (block later : List ℕ) → AreWhole (delimited delimiter) block
+    → records (delimited delimiter) (block ++ later)
+    ≡ records (delimited delimiter) block ++ records (delimited delimiter) later
 records-append delimiter block later whole =
-    let cfg = config_of delimiter in
+    let cfg = delimited delimiter in
     let rows = records cfg block in
     let all = read_on cfg begun later in
     records-read cfg (block ++ later)
@@ -346,8 +346,8 @@ read_on-none cfg reading (byte ∷ text) none =
 
 -- a letter goes into a record
 letter_step : (delimiter : ℕ) (state : State) → IsReached state
-    → (ends_at_end (step (config_of delimiter) state 120).0 ≡ true)
-    × (is_end (step (config_of delimiter) state 120).1 ≡ false)
+    → (ends_at_end (step (delimited delimiter) state 120).0 ≡ true)
+    × (is_end (step (delimited delimiter) state 120).1 ≡ false)
 letter_step delimiter st.StartRecord reached =
     elim (cases_Bool (120 == delimiter)) [ inl is ↦ rw is (refl, refl) | inr other ↦ rw other (refl, refl) ]
 letter_step delimiter st.AfterCr reached =
@@ -367,9 +367,9 @@ pub record HasLast (cfg : Config) (text : List ℕ) : Type 0 where
   pub last : List (List ℕ)
   pub records_are : records cfg (text ++ 120 ∷ []) ≡ (read_on cfg begun text).rows ++ last ∷ []
 
-pub records-letter : (delimiter : ℕ) (text : List ℕ) → HasLast (config_of delimiter) text
+pub records-letter : (delimiter : ℕ) (text : List ℕ) → HasLast (delimited delimiter) text
 records-letter delimiter text =
-    let cfg = config_of delimiter in
+    let cfg = delimited delimiter in
     let reading = read_on cfg begun text in
     let neat = IsNeat-read_on delimiter begun text IsNeat-begun in
     let (into, goes) = letter_step delimiter reading.state neat.reached in

@@ -8,7 +8,8 @@ use Rattle.csv.specs.Reading.{records, strip_bom}
 use Rattle.csv.specs.declared.parser.State.TheVariants as st
 use Rattle.sheet_blocks.specs.Front.{IsFront, is_partial_mark}
 use Rattle.sheet_blocks.specs.Places.{ends_line, is_line_end, next_place}
-use Rattle.sheet_blocks.specs.Sheets.{IsDelimiter, config_of, ended_records, records_read, without_last}
+use Rattle.sheet_blocks.specs.Sheets.{IsDelimiter, ended_records, records_read, without_last}
+use Rattle.master_rows.specs.Sheet.{delimited}
 use Rattle.sheet_blocks.specs.Standing.{AreCut, BlocksSeen, Grows, IsOpened, Stands}
 use Rattle.sheet_blocks.specs.Whole.{AreWhole, EndsNone}
 use Rattle.sheet_blocks.specs.declared.place.Place.TheVariants.{Plain, Start}
@@ -80,10 +81,10 @@ without_last-append items last =
 
 -- the records of a beginning that is cut so
 pub ended_records-cut : (delimiter : ℕ) (bytes done rest : List ℕ) → strip_bom bytes ≡ done ++ rest
-    → AreWhole (config_of delimiter) done → EndsNone (config_of delimiter) st.StartRecord rest
-    → ended_records delimiter bytes ≡ records (config_of delimiter) done
+    → AreWhole (delimited delimiter) done → EndsNone (delimited delimiter) st.StartRecord rest
+    → ended_records delimiter bytes ≡ records (delimited delimiter) done
 ended_records-cut delimiter bytes done rest text whole none =
-    let cfg = config_of delimiter in
+    let cfg = delimited delimiter in
     let letter = records-letter delimiter rest in
     let one = letter.last ∷ [] in
     ap without_last (ap (λ l. records cfg (l ++ 120 ∷ [])) text
@@ -96,9 +97,9 @@ ended_records-cut delimiter bytes done rest text whole none =
 -- the records of what was read are those that were taken, and then those of the block
 pub records_read-stands : (bytes taken : List ℕ) (blocks : BlocksSeen) → Stands bytes taken blocks → AreCut blocks
     → records_read blocks.delimiter blocks.whole bytes
-    ≡ records (config_of blocks.delimiter) taken ++ records (config_of blocks.delimiter) blocks.block
+    ≡ records (delimited blocks.delimiter) taken ++ records (delimited blocks.delimiter) blocks.block
 records_read-stands bytes taken blocks stands cut = elim (cases_Bool blocks.whole) [
-  | inl all ↦ rw all (ap (records (config_of blocks.delimiter)) (stands.text
+  | inl all ↦ rw all (ap (records (delimited blocks.delimiter)) (stands.text
       ∙ ap (λ l. taken ++ blocks.block ++ l) (cut.all all) ∙ append-nil (taken ++ blocks.block))
       ∙ records-append blocks.delimiter taken blocks.block stands.taken_whole)
   | inr begins ↦ rw begins (ended_records-cut blocks.delimiter bytes (taken ++ blocks.block) blocks.begun stands.text
@@ -110,12 +111,12 @@ records_read-stands bytes taken blocks stands cut = elim (cases_Bool blocks.whol
 -- whatever more was read, the records that were taken stand at the front of those that have ended
 pub record HasMore (delimiter : ℕ) (bytes taken : List ℕ) : Type 0 where
   pub later : List (List (List ℕ))
-  pub records_are : ended_records delimiter bytes ≡ records (config_of delimiter) taken ++ later
+  pub records_are : ended_records delimiter bytes ≡ records (delimited delimiter) taken ++ later
 
 pub ended_records-more : (delimiter : ℕ) (bytes taken rest : List ℕ) → strip_bom bytes ≡ taken ++ rest
-    → AreWhole (config_of delimiter) taken → HasMore delimiter bytes taken
+    → AreWhole (delimited delimiter) taken → HasMore delimiter bytes taken
 ended_records-more delimiter bytes taken rest text whole =
-    let cfg = config_of delimiter in
+    let cfg = delimited delimiter in
     let letter = records-letter delimiter rest in
     let ended = (read_on cfg begun rest).rows in
     record {
@@ -147,14 +148,14 @@ strip_bom-fed [] = refl
 strip_bom-fed (one ∷ []) = refl
 strip_bom-fed (one ∷ two ∷ rest) = refl
 
-records-feed : (delimiter : ℕ) → records (config_of delimiter) (10 ∷ []) ≡ []
-records-feed delimiter = records-read (config_of delimiter) (10 ∷ [])
+records-feed : (delimiter : ℕ) → records (delimited delimiter) (10 ∷ []) ≡ []
+records-feed delimiter = records-read (delimited delimiter) (10 ∷ [])
 
 pub records-fed : (delimiter : ℕ) (block : List ℕ)
-    → records (config_of delimiter) (strip_bom (10 ∷ block)) ≡ records (config_of delimiter) block
-records-fed delimiter block = ap (records (config_of delimiter)) (strip_bom-fed block)
+    → records (delimited delimiter) (strip_bom (10 ∷ block)) ≡ records (delimited delimiter) block
+records-fed delimiter block = ap (records (delimited delimiter)) (strip_bom-fed block)
     ∙ records-append delimiter (10 ∷ []) block refl
-    ∙ ap (λ l. l ++ records (config_of delimiter) block) (records-feed delimiter)
+    ∙ ap (λ l. l ++ records (delimited delimiter) block) (records-feed delimiter)
 
 -- ---- a part of a mark
 
@@ -168,7 +169,7 @@ cut-none delimiter = record { whole = refl; ends_none = tt; at = refl }
 
 -- no record ends in a part of a mark
 EndsNone-partial : (delimiter : ℕ) (bytes : List ℕ) → IsDelimiter delimiter → is_partial_mark bytes ≡ true
-    → EndsNone (config_of delimiter) st.StartRecord bytes
+    → EndsNone (delimited delimiter) st.StartRecord bytes
 EndsNone-partial delimiter [] delimits partial = tt
 EndsNone-partial delimiter (one ∷ []) delimits partial =
     let is : one ≡ 0xEF = eqb-true one 0xEF partial in
@@ -195,4 +196,4 @@ pub ended_records-partial : (delimiter : ℕ) (bytes : List ℕ) → IsDelimiter
 ended_records-partial delimiter bytes delimits partial =
     ended_records-cut delimiter bytes [] bytes (strip_bom-partial bytes partial) refl
     (EndsNone-partial delimiter bytes delimits partial)
-    ∙ records-read (config_of delimiter) []
+    ∙ records-read (delimited delimiter) []

@@ -5,7 +5,8 @@ use Rattle.csv.specs.declared.parser.State.TheVariants as st
 use Rattle.sheet_blocks.specs.declared.blocks.Kept.{Kept}
 use Rattle.sheet_blocks.specs.declared.place.Place.{Place}
 use Rattle.sheet_blocks.specs.declared.place.Place.TheVariants.{Start, Plain, Quoted, Closed}
-use Rattle.sheet_blocks.specs.Sheets.{IsDelimiter, config_of}
+use Rattle.sheet_blocks.specs.Sheets.{IsDelimiter}
+use Rattle.master_rows.specs.Sheet.{delimited}
 use Rattle.sheet_blocks.specs.Whole.{AreWhole, EndsNone, state_after}
 
 -- the place of a reader at a state of csv's machine
@@ -21,9 +22,9 @@ reader_place st.InComment = Plain
 
 -- these bytes are whole records, no record ends in those after them, and a reader then stands at this place
 pub record IsCutAt (delimiter : ℕ) (block begun : List ℕ) (place : Place) : Type 0 where
-  pub whole : AreWhole (config_of delimiter) block
-  pub ends_none : EndsNone (config_of delimiter) st.StartRecord begun
-  pub at : place ≡ reader_place (state_after (config_of delimiter) st.StartRecord begun)
+  pub whole : AreWhole (delimited delimiter) block
+  pub ends_none : EndsNone (delimited delimiter) st.StartRecord begun
+  pub at : place ≡ reader_place (state_after (delimited delimiter) st.StartRecord begun)
 
 -- what is kept is so
 abbrev pub IsCut : ℕ → Kept → Type 0

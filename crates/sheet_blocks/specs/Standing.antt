@@ -3,7 +3,7 @@ use Rattle.std.specs.Prelude.{◌≡◌, ◌⊎◌, ℕ, Bool, true, false, List
 use Rattle.std.specs.Coded.{Coded, code_by, coded×, coded_bool, coded_list, coded_ℕ}
 use Rattle.std.specs.Io.KnownBytes.{Consumes, IsAtEnd}
 use Rattle.csv.specs.Reading.{strip_bom}
-use Rattle.sheet_blocks.specs.Sheets.{config_of}
+use Rattle.master_rows.specs.Sheet.{delimited}
 use Rattle.sheet_blocks.specs.Whole.{AreWhole, EndsNone}
 use Rattle.csv.specs.declared.parser.State.TheVariants as st
 
@@ -26,21 +26,16 @@ blocks_seen_code = code_by (ℕ × (List ℕ × (List ℕ × Bool)))
 
 -- the block is whole records, and no record ends after it; at the end of the sheet nothing is after it
 pub record AreCut (blocks : BlocksSeen) : Type 0 where
-  pub whole : blocks.whole ≡ false → AreWhole (config_of blocks.delimiter) blocks.block
-  pub ends_none : blocks.whole ≡ false → EndsNone (config_of blocks.delimiter) st.StartRecord blocks.begun
+  pub whole : blocks.whole ≡ false → AreWhole (delimited blocks.delimiter) blocks.block
+  pub ends_none : blocks.whole ≡ false → EndsNone (delimited blocks.delimiter) st.StartRecord blocks.begun
   pub all : blocks.whole ≡ true → blocks.begun ≡ []
 
 -- these bytes of the sheet were read, and of what follows their mark this was taken before, as whole records
 pub record Stands (bytes taken : List ℕ) (blocks : BlocksSeen) : Type 0 where
   pub text : strip_bom bytes ≡ taken ++ blocks.block ++ blocks.begun
-  pub taken_whole : AreWhole (config_of blocks.delimiter) taken
+  pub taken_whole : AreWhole (delimited blocks.delimiter) taken
   pub front : (blocks.whole ≡ true)
       ⊎ ((later : List ℕ) → strip_bom (bytes ++ later) ≡ strip_bom bytes ++ later)
-
--- bytes were taken from the source, and nothing else happened to it
-pub record HasTaken (left after : Option (List ℕ)) : Type 0 where
-  pub bytes : List ℕ
-  pub taken : Consumes left after bytes
 
 -- these blocks were opened over a source: bytes were read, and none taken
 pub record IsOpened (delimiter : ℕ) (left after : Option (List ℕ)) (blocks : BlocksSeen) : Type 0 where

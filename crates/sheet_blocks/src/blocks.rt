@@ -1,7 +1,7 @@
 //! Blocks of whole records.
 ghost use Rattle.std.specs.Prelude.{◌≡◌, ◌≤◌, ◌++◌, ◌∷◌, [], true, false, IfOk, IsErrOf, drop, length};
-ghost use Rattle.desk_base.specs.Faults.{Rose};
-ghost use Rattle.sheet_blocks.specs.Standing.{AreCut, Grows, HasTaken, IsOpened};
+ghost use Rattle.desk_base.specs.Faults.{Rose, HasTaken};
+ghost use Rattle.sheet_blocks.specs.Standing.{AreCut, Grows, IsOpened};
 ghost use Rattle.sheet_blocks.specs.Front.{IsPartOfMark};
 ghost use Rattle.sheet_blocks.specs.Kept.{Follows, IsCut, IsKept};
 ghost use Rattle.csv.specs.Reading.{strip_bom};

@@ -1,9 +1,8 @@
 //! The front of a sheet, where a byte order mark may stand.
 ghost use Rattle.std.specs.Prelude.{◌≡◌, ◌≤◌, length, IfOk, IsErrOf};
 ghost use Rattle.csv.specs.Reading.{strip_bom};
-ghost use Rattle.desk_base.specs.Faults.{Rose};
+ghost use Rattle.desk_base.specs.Faults.{Rose, HasTaken};
 ghost use Rattle.sheet_blocks.specs.Front.{IsFront, IsPartOfMark, is_marked, is_partial_mark};
-ghost use Rattle.sheet_blocks.specs.Standing.{HasTaken};
 
 use crate::fault::BlocksFault;
 use desk_base::Source;

@@ -54,7 +54,8 @@ fn column_fault(setting: &Setting, earlier: &[Str], column: &str) -> Option<Shee
     }
 }
 
-pub(crate) fn begins_with_mark(text: &[u8]) -> bool
+/// Whether the text begins with a byte order mark.
+pub fn begins_with_mark(text: &[u8]) -> bool
     ensures { result ≡ begins_with_mark text.now }
 {
     text.starts_with(&BYTE_ORDER_MARK)

@@ -27,6 +27,7 @@ pub use decided::write_decided;
 pub use drafts::{Drafts, SheetTexts};
 pub use fault::SheetFault;
 pub use fields::fields_of;
+pub use header::begins_with_mark;
 pub use headings::heads;
 pub use layout::{Layout, LayoutFault, layout_of};
 pub use row::row_fault;

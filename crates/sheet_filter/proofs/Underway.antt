@@ -5,13 +5,14 @@ use Rattle.std.specs.Prelude.{Option, Some, None}
 use Rattle.std.proofs.KnownBytes.{Consumes-kept, Consumes-nil, Consumes-trans}
 use Rattle.std.specs.Io.KnownBytes.{Consumes, IsAtEnd, Keeps}
 use Rattle.csv.specs.Reading.{records}
-use Rattle.desk_base.specs.Faults.{Rose}
+use Rattle.desk_base.specs.Faults.{Rose, HasTaken}
 use Rattle.fix_model.specs.declared.kit.Kit.{Kit}
 use Rattle.sheet_blocks.specs.declared.fault.BlocksFault.{BlocksFault}
 use Rattle.sheet_blocks.specs.declared.fault.BlocksFault.TheVariants as blocks_fault
 use Rattle.sheet_blocks.specs.Front.{IsPartOfMark}
-use Rattle.sheet_blocks.specs.Sheets.{IsDelimiter, config_of, records_read, sheet_records}
-use Rattle.sheet_blocks.specs.Standing.{AreCut, BlocksSeen, Grows, HasTaken, IsOpened}
+use Rattle.sheet_blocks.specs.Sheets.{IsDelimiter, records_read, sheet_records}
+use Rattle.master_rows.specs.Sheet.{delimited}
+use Rattle.sheet_blocks.specs.Standing.{AreCut, BlocksSeen, Grows, IsOpened}
 use Rattle.sheet_blocks.specs.Standing.{Stands as BlocksStand}
 use Rattle.sheet_blocks.proofs.Records.{records-append, records-read}
 use Rattle.sheet_blocks.proofs.Standings.{Stands-grown, Stands-taken, ended_records-more, ended_records-partial}
@@ -111,7 +112,7 @@ pub record IsUnderway (kit : Kit) (setting : Setting) (TakeRest : Sheets → Typ
   pub ended : blocks.whole ≡ true → IsAtEnd now.left
   pub delimiter_is : blocks.delimiter ≡ setting.delimiter
   pub stands : BlocksStand bytes taken blocks
-  pub written : Stands kit setting cleaning old.sinks now.sinks (records (config_of blocks.delimiter) taken) sheets
+  pub written : Stands kit setting cleaning old.sinks now.sinks (records (delimited blocks.delimiter) taken) sheets
   pub room : TakeRest sheets
   pub none_fell : NoneFell old now
 
@@ -127,7 +128,7 @@ pub record IsTaken (kit : Kit) (setting : Setting) (TakeRest : Sheets → Type 0
   pub stands : BlocksStand bytes taken blocks
   pub cut : AreCut blocks
   pub written : Stands kit setting cleaning old.sinks now.sinks
-      (records (config_of blocks.delimiter) taken ++ records (config_of blocks.delimiter) blocks.block) sheets
+      (records (delimited blocks.delimiter) taken ++ records (delimited blocks.delimiter) blocks.block) sheets
   pub room : TakeRest sheets
   pub none_fell : NoneFell old now
 
@@ -136,7 +137,7 @@ are-read : (setting : Setting) (blocks : BlocksSeen) (old now : World) (bytes ta
     → Consumes old.left now.left bytes → (blocks.whole ≡ true → IsAtEnd now.left)
     → blocks.delimiter ≡ setting.delimiter → BlocksStand bytes taken blocks → AreCut blocks
     → AreRead setting old now blocks.whole
-    (records (config_of blocks.delimiter) taken ++ records (config_of blocks.delimiter) blocks.block)
+    (records (delimited blocks.delimiter) taken ++ records (delimited blocks.delimiter) blocks.block)
 are-read setting blocks old now bytes taken read ended is stands cut = record {
   bytes = bytes;
   taken = read;
@@ -150,15 +151,15 @@ reads-more : (kit : Kit) (setting : Setting) (cleaning : Cleaning) (blocks : Blo
     (bytes taken more : List ℕ) (sheets : Sheets) → Consumes old.left now.left bytes
     → Consumes now.left new.left more → new.sinks ≡ now.sinks → blocks.delimiter ≡ setting.delimiter
     → BlocksStand bytes taken blocks → blocks.whole ≡ false
-    → Stands kit setting cleaning old.sinks now.sinks (records (config_of blocks.delimiter) taken) sheets
+    → Stands kit setting cleaning old.sinks now.sinks (records (delimited blocks.delimiter) taken) sheets
     → Ends kit setting old new end.NoMemory
 reads-more kit setting cleaning blocks old now new bytes taken more sheets read on same is stands begins written =
     let follows = records_read-more bytes taken more blocks stands begins in
     let all : records_read setting.delimiter false (bytes ++ more)
-    ≡ records (config_of blocks.delimiter) taken ++ follows.later =
+    ≡ records (delimited blocks.delimiter) taken ++ follows.later =
     ap (λ d. records_read d false (bytes ++ more)) (sym is) ∙ follows.records_are in (
       false,
-      records (config_of blocks.delimiter) taken ++ follows.later,
+      records (delimited blocks.delimiter) taken ++ follows.later,
       record {
         bytes = bytes ++ more;
         taken = Consumes-trans old.left now.left new.left bytes more read on;
@@ -166,7 +167,7 @@ reads-more kit setting cleaning blocks old now new bytes taken more sheets read 
         are = sym all;
       },
       rw same (writes-some kit setting cleaning.layout cleaning.summary old.sinks now.sinks
-          (records (config_of blocks.delimiter) taken) follows.later sheets written),
+          (records (delimited blocks.delimiter) taken) follows.later sheets written),
     )
 
 -- ---- the ends
@@ -219,7 +220,7 @@ module _ (kit : Kit) (setting : Setting) (cleaning : Cleaning) where
   ends-done TakeRest blocks old now at whole =
       ends-whole kit setting cleaning.layout cleaning.summary old now _ at.sheets
       (subst (λ w. AreRead setting old now w
-      (records (config_of blocks.delimiter) at.taken ++ records (config_of blocks.delimiter) blocks.block)) whole
+      (records (delimited blocks.delimiter) at.taken ++ records (delimited blocks.delimiter) blocks.block)) whole
       (are-read setting blocks old now at.bytes at.taken at.read at.ended at.delimiter_is at.stands at.cut))
       at.written
 
@@ -230,7 +231,7 @@ module _ (kit : Kit) (setting : Setting) (cleaning : Cleaning) where
       let follows = ended_records-more blocks.delimiter at.bytes at.taken (blocks.block ++ blocks.begun)
       (at.stands.text ∙ append_assoc at.taken blocks.block blocks.begun) at.stands.taken_whole in (
         false,
-        records (config_of blocks.delimiter) at.taken ++ follows.later,
+        records (delimited blocks.delimiter) at.taken ++ follows.later,
         record {
           bytes = at.bytes;
           taken = at.read;
@@ -238,7 +239,7 @@ module _ (kit : Kit) (setting : Setting) (cleaning : Cleaning) where
           are = sym (ap (λ d. records_read d false at.bytes) (sym at.delimiter_is) ∙ follows.records_are);
         },
         writes-some kit setting cleaning.layout cleaning.summary old.sinks now.sinks
-            (records (config_of blocks.delimiter) at.taken) follows.later at.sheets at.written,
+            (records (delimited blocks.delimiter) at.taken) follows.later at.sheets at.written,
       )
 
   -- the block was taken; it is not the last
@@ -268,9 +269,9 @@ module _ (kit : Kit) (setting : Setting) (cleaning : Cleaning) where
       let read = are-read setting blocks old new at.bytes at.taken
       (Consumes-kept old.left now.left new.left at.bytes at.read kept)
       (λ whole. absurd (let e = sym begins ∙ whole in cc)) at.delimiter_is at.stands at.cut in (
-        records (config_of blocks.delimiter) at.taken ++ records (config_of blocks.delimiter) blocks.block,
+        records (delimited blocks.delimiter) at.taken ++ records (delimited blocks.delimiter) blocks.block,
         subst (λ w. AreRead setting old new w
-            (records (config_of blocks.delimiter) at.taken ++ records (config_of blocks.delimiter) blocks.block))
+            (records (delimited blocks.delimiter) at.taken ++ records (delimited blocks.delimiter) blocks.block))
             begins read,
         rw same (writes-all kit setting cleaning.layout cleaning.summary old.sinks now.sinks _ at.sheets at.written),
         Rose-later old.read_faults now.read_faults new.read_faults at.none_fell.read_faults rose,
@@ -325,7 +326,7 @@ module _ (kit : Kit) (setting : Setting) (cleaning : Cleaning) where
     delimiter_is = opened.delimiter_is;
     stands = opened.stands;
     written = rw (none, no_row) (record {
-      none = records-read (config_of blocks.delimiter) [];
+      none = records-read (delimited blocks.delimiter) [];
       written = same;
       sheets_are = refl;
       summary_is = refl;
@@ -393,7 +394,7 @@ faultless-stop HasRoom kit setting summary old now new records sheets NoMemory s
 -- the records of a block, as they are read after a line end
 block-records : (setting : Setting) (blocks : BlocksSeen) (block : List ℕ) → blocks.delimiter ≡ setting.delimiter
     → block ≡ 10 ∷ blocks.block
-    → sheet_records setting.delimiter block ≡ records (config_of blocks.delimiter) blocks.block
+    → sheet_records setting.delimiter block ≡ records (delimited blocks.delimiter) blocks.block
 block-records setting blocks block is fed =
     ap (sheet_records setting.delimiter) fed
     ∙ ap (λ d. sheet_records d (10 ∷ blocks.block)) (sym is)
@@ -405,10 +406,10 @@ module _ (kit : Kit) (setting : Setting) (TakeRest : Sheets → Type 0) (cleanin
     (read_faults : after.read_faults ≡ now.read_faults) (later : Later now.sinks after.sinks) where
   -- the records that were taken before, and those of the block
   abbrev both : List (List (List ℕ))
-  both = records (config_of blocks.delimiter) at.taken ++ sheet_records setting.delimiter block
+  both = records (delimited blocks.delimiter) at.taken ++ sheet_records setting.delimiter block
 
-  both-are : both ≡ records (config_of blocks.delimiter) at.taken ++ records (config_of blocks.delimiter) blocks.block
-  both-are = ap (λ l. records (config_of blocks.delimiter) at.taken ++ l)
+  both-are : both ≡ records (delimited blocks.delimiter) at.taken ++ records (delimited blocks.delimiter) blocks.block
+  both-are = ap (λ l. records (delimited blocks.delimiter) at.taken ++ l)
       (block-records setting blocks block at.delimiter_is fed)
 
   fell : NoneFell old after
@@ -426,7 +427,7 @@ module _ (kit : Kit) (setting : Setting) (TakeRest : Sheets → Type 0) (cleanin
       (records ++ sheet_records setting.delimiter block) (joined sheets more))
       → IsTaken kit setting TakeNew new blocks old after
   block-written TakeMore TakeNew on takes =
-      let (more, took, written) = takes old.sinks (records (config_of blocks.delimiter) at.taken) at.sheets at.written
+      let (more, took, written) = takes old.sinks (records (delimited blocks.delimiter) at.taken) at.sheets at.written
       in
       record {
         bytes = at.bytes;
@@ -456,7 +457,7 @@ module _ (kit : Kit) (setting : Setting) (TakeRest : Sheets → Type 0) (cleanin
       → Ends kit setting old after (stop_end (told new) stop)
   block-stopped HasRoom stop stops =
       ends-stopped kit setting HasRoom (told new) old now after blocks.whole both at.sheets are-both at.none_fell.sinks
-      stop (stops old.sinks (records (config_of blocks.delimiter) at.taken) at.sheets at.written)
+      stop (stops old.sinks (records (delimited blocks.delimiter) at.taken) at.sheets at.written)
 
   read-both : both ≡ records_read setting.delimiter blocks.whole at.bytes
   read-both = both-are ∙ sym (records_read-stands at.bytes at.taken blocks at.stands cut)
@@ -473,7 +474,7 @@ module _ (kit : Kit) (setting : Setting) (TakeRest : Sheets → Type 0) (cleanin
       → IsFaultless (stop_end (told new) stop)
   block-faultless HasRoom HadRoom stop on room stops =
       faultless-stop HasRoom kit setting (told new) old.sinks now.sinks after.sinks both at.sheets stop
-      (stops old.sinks (records (config_of blocks.delimiter) at.taken) at.sheets at.written)
+      (stops old.sinks (records (delimited blocks.delimiter) at.taken) at.sheets at.written)
       (λ lacks. lacks.full (on lacks.due (subst HadRoom lacks.all (room (sheets_of kit setting lacks.header lacks.rows)
       (record {
         bytes = at.bytes;

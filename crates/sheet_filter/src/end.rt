@@ -11,8 +11,9 @@ pub enum End {
     Refused(SheetFault, Option<Summary>),
     /// A read failed. The rows that had ended before were written.
     ReadFault(Option<Summary>),
-    /// A write failed.
+    /// A write failed. Of what was due a beginning was written: the headers of the three sheets of changes stand before
+    /// anything of the clean one.
     WriteFault,
-    /// There was no memory. It may come in place of any other end.
+    /// There was no memory. It may come in place of any other end. Nothing was written, or the header and some rows.
     NoMemory,
 }

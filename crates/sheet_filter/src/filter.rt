@@ -14,7 +14,10 @@ use sheet_blocks::{Blocks, BlocksFault};
 use sheet_clean::Setting;
 use std::alloc::Global;
 
-/// Cleans the sheet that the source has left by the book's rules and masters, row by row.
+/// Cleans the sheet that the source has left (RFC 4180, with the setting's delimiter) by the book's rules and masters,
+/// row by row. The clean sheet has the header and each row as it was decided; the sheets of changes, conflicts and
+/// dissents have their headers and a line for each. Rows count from 1. The end tells a fault of the sheet, of a read or
+/// of a write, and what was written till then. `docs/definitions.md` has the notions.
 pub fn clean<S: Source, W: Sink, C: Sink, B: Book<()>>(
     alloc: Global,
     setting: &Setting,

@@ -53,7 +53,7 @@ places-preserved g c =
       steps = c.places.invariant.steps;
     }
 
--- another is marked before those behind it
+-- another is marked before those after it
 pub places-preserved-in-Continue-1 : goal.places-preserved-in-Continue-1
 places-preserved-in-Continue-1 g c =
     let kit = g.B.Book.kit c.args.book.now in

@@ -6,7 +6,7 @@ use Rattle.fix_model.specs.declared.book.Hit.{Hit}
 use Rattle.fix_model.specs.Comparison.{row_key}
 use Rattle.fix_model.specs.Rules.{from_text}
 use Rattle.master_index.specs.Sorted.{EndsWithKey, IsGrown}
-use Rattle.master_index.proofs.Grouping.{AreEntries-grown, AreEntries-own, ahead-other_key, behind-not_before}
+use Rattle.master_index.proofs.Grouping.{AreEntries-grown, AreEntries-own, ahead-other_key, behind-not_before, nothing}
 use Rattle.master_index.proofs.Grouping.{not_before-sorted}
 use Rattle.master_index.proofs.entries.add.Goals as goal
 
@@ -34,7 +34,6 @@ returns c =
     let ends : EndsWithKey key entries row = rw c.as_slice.ensures
     at (c.ends_with_key.ensures.0 c.if-not-ends_with_key.false) in
     let not_before = not_before-sorted key rows c.requires.rows.sorted c.args.place c.requires.place_within in
-    let nothing : Hit = record { first = 0; other = None } in
     let grows : IsGrown text (get_or entries (length entries - 1) nothing) row
     c.with_row-grown.result = rw (c.as_slice-2.ensures, c.len-end.ensures) at c.with_row-grown.ensures in
     let changed : c.set.new.self ≡ set entries (length entries - 1) c.with_row-grown.result = rw c.len-end.ensures

@@ -1,9 +1,9 @@
 use Rattle.std.proofs.Common.{◌≤◌, ◌++◌, ◌∷◌, ℕ, List, [], get_or, inl, inr, length, take, refl, arith}
-use Rattle.std.specs.Prelude.{None}
 use Rattle.std.proofs.Math.Nat.{eq-or-lt_of_le}
 use Rattle.std.proofs.lemmas.List.{get_or_append_left, get_or_push, length_push, take_more}
 use Rattle.fix_model.specs.declared.book.Hit.{Hit}
 use Rattle.fix_model.specs.Comparison.{row_key}
+use Rattle.master_index.proofs.Grouping.{nothing}
 use Rattle.master_index.specs.Fronts.{AreFronts, IsKeyFront}
 use Rattle.master_index.proofs.part.fronts_of.Goals as goal
 
@@ -32,7 +32,6 @@ pub entries-preserved : goal.entries-preserved
 entries-preserved c =
     let entries = c.args.entries.now in
     let place = c.entries.entry-index in
-    let nothing : Hit = record { first = 0; other = None } in
     rw (c.in_ok-push.ensures.pushed, take_more entries place nothing c.entries-test.true)
     (AreFronts-push (row_key c.args.kit.now c.args.rule.now) (take place entries) c.entries.fronts
     (get_or entries place nothing) c.row_front.result c.entries.invariant c.row_front.ensures)

@@ -1,20 +1,15 @@
 use Rattle.std.proofs.Common.{ℕ, ◌<◌, ◌≤◌, ◌+◌, ◌-◌, ◌*◌, ◌/◌, ◌∙◌, length, sym, arith}
-use Rattle.std.specs.Prelude.{None}
-use Rattle.fix_model.specs.declared.book.Hit.{Hit}
 use Rattle.fix_model.specs.Application.{IsUsable}
 use Rattle.fix_model.specs.Comparison.{row_key, sought_key}
 use Rattle.fix_model.specs.Rules.{from_text, master_of, rule_at}
 use Rattle.fix_model.specs.States.{value_at}
+use Rattle.master_index.proofs.Grouping.{nothing}
 use Rattle.master_index.proofs.Halving.{IsHalved, compares-halved, halves, IsHalved-none, IsHalved-once, IsHit-entry}
 use Rattle.master_index.proofs.Halving.{IsMissed-narrowed, IsNarrowed-greater, IsNarrowed-less, IsNarrowed-whole}
 use Rattle.master_index.proofs.Halving.{RisesByDigits-halved}
 use Rattle.master_index.proofs.search.entry_at.Given.{Over}
 use Rattle.master_index.proofs.search.entry_at.Goals as goal
 use Rattle.master_index.proofs.search.entry_at.Goals.{After-compare_by_fronts}
-
--- what is read past the last entry
-abbrev nothing : Hit
-nothing = record { first = 0; other = None }
 
 -- the place in the middle of what is left
 abbrev middle-at : (g : Over) → After-compare_by_fronts g → ℕ

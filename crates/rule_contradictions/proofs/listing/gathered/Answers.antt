@@ -1,9 +1,10 @@
 use Rattle.std.proofs.Common.{◌≡◌, ◌∙◌, ◌+◌, ◌++◌, ◌∷◌, [], ℕ, Option, ap, get_or, subst, sym, arith}
 use Rattle.std.proofs.Common.{Vec, Global}
 use Rattle.fix_model.specs.Rules.{rule_at}
+use Rattle.master_index.proofs.Grouping.{nothing}
 use Rattle.rule_contradictions.specs.declared.contradiction.Contradiction.{Contradiction}
 use Rattle.rule_contradictions.proofs.Told.{AreGathered-told, AreToldBefore, AreToldBefore-more, AreToldBefore-passed}
-use Rattle.rule_contradictions.proofs.Told.{entry_of, first-fresh, nothing}
+use Rattle.rule_contradictions.proofs.Told.{entry_of, first-fresh}
 use Rattle.rule_contradictions.proofs.listing.gathered.Goals as goal
 use Rattle.rule_contradictions.proofs.listing.gathered.Goals.{in-Some+in_ok-push, in_default}
 

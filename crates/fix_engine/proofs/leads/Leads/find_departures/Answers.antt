@@ -1,4 +1,5 @@
-use Rattle.std.proofs.Common.{rules, ◌≡◌, ◌≢◌, ◌<◌, ◌≤◌, ◌∙◌, ℕ, Bool, length, length-set, true, false, inl, inr, sym, arith}
+use Rattle.std.proofs.Common.{rules, ◌≡◌, ◌≢◌, ◌<◌, ◌≤◌, ◌∙◌, ℕ, Bool, length, length-set, true, false, inl, inr, sym}
+use Rattle.std.proofs.Common.{arith}
 use Rattle.std.proofs.Common.{below_more}
 use Rattle.std.specs.Prelude.{◌↔◌, IsTrue, Option, None, Some}
 use Rattle.std.specs.Option.{is_none}

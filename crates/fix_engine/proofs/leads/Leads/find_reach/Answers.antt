@@ -32,7 +32,7 @@ rules-smaller g c =
     unflagged true none = absurd (none refl)
     unflagged false none = refl
 
--- and the head is covered behind one step more
+-- and the head is covered after one step more
 pub rules-preserved : goal.rules-preserved
 rules-preserved g c =
     let kit = g.B.Book.kit c.args.book.now in

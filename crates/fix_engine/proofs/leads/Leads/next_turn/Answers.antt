@@ -24,4 +24,5 @@ pub returns : goal.returns
 returns g c = λ end led departures passed.
     let kit = g.B.Book.kit c.args.book.now in
     departs_nowhere kit c.rules-2.ensures.valid end c.args.self.now.leads.items c.args.state.now c.requires led
-    (λ place within. c.rules.invariant end led departures passed place (omega (arith, ap length c.rules-2.ensures.rules)))
+    (λ place within. c.rules.invariant end led departures passed place (omega
+    (arith, ap length c.rules-2.ensures.rules)))

@@ -6,8 +6,8 @@ use Rattle.fix_engine.specs.Next.{IsIdle}
 use Rattle.fix_engine.proofs.FirstRuns.{IsBeginning}
 use Rattle.fix_engine.proofs.looks.Looks.complete.Given as goal
 
--- the steps so far lead to the state, and are the beginning of the first run; the rules before the one to go on from are
--- idle
+-- the steps so far lead to the state, and are the beginning of the first run; the rules before the one to go on from
+-- are idle
 abbrev pub invariant-steps : goal.invariant-steps
 invariant-steps g l =
     let kit = g.B.Book.kit l.book in

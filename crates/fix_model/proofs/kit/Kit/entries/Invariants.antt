@@ -8,5 +8,5 @@ abbrev pub invariant-places : goal.invariant-places
 invariant-places l = record {
   sum : l.entries ≡ sum_by (row_count l.self) (filter (λ place. is_none (earlier_twin l.self place))
       (range_with_len 0 l.place));
-  fits : l.entries ≤ 20000 * l.place;
+  fits : l.entries ≤ 2000000 * l.place;
 }

@@ -11,12 +11,16 @@ returns-in_err-row-clause-fault c =
     let is : c.from_residual-in_err-row.result ≡ Err c.in_err-row.field-0.0 = search rules in
     let fault = rw (c.as_slice-2.ensures.value, c.in_ok-fields.ensures) at c.in_err-row.ensures.fault in
     rw is (λ apart later. rw (← c.self.view_is)
-    (read_records-taken inside.columns inside.grid (fields_of c.args.next.now) later c.in_err-row.field-0.0 begun
-    c.self.invariant (fault apart)))
+    (read_records-taken inside.most inside.columns inside.grid
+    (fields_of c.args.next.now) later c.in_err-row.field-0.0 begun
+    c.self.invariant.1 (fault apart)))
 
 pub invariant_of-self-2 : goal.invariant_of-self-2
 invariant_of-self-2 c =
     let inside = c.self.inside in
     let begun : is_none inside.columns ≡ false = search rules in
-    rw c.in_ok-push_row.ensures.pushed
-    (HasNoFault-row inside.columns inside.grid c.in_ok-row.row begun c.self.invariant c.in_ok-row.ensures.faultless)
+    rw c.in_ok-push_row.ensures.pushed (
+      c.self.invariant.0,
+      HasNoFault-row inside.most inside.columns inside.grid c.in_ok-row.row begun c.self.invariant.1
+          c.in_ok-row.ensures.faultless,
+    )

@@ -3,7 +3,8 @@ use Rattle.std.specs.Prelude.{Err}
 use Rattle.csv.specs.Reading.{Reached, reader_state, strip_bom}
 use Rattle.csv.specs.Records.{fields_of}
 use Rattle.csv.proofs.ReadFacts.{rows-end}
-use Rattle.master_rows.proofs.Sheets.{delimited, records-end, records-later}
+use Rattle.master_rows.specs.Sheet.{delimited}
+use Rattle.master_rows.proofs.Sheets.{records-end, records-later}
 use Rattle.master_rows.proofs.Stops.{GoesOn-next, left_of}
 use Rattle.sheet_filter.specs.declared.stop.Stop.{Stop}
 use Rattle.sheet_filter.specs.Outputs.{sinks_seen}
