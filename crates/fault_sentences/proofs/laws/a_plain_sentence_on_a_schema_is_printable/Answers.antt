@@ -1,0 +1,5 @@
+use Rattle.fault_sentences.proofs.PrintableSchemas.{plain_schema_sentence-printable}
+use Rattle.fault_sentences.proofs.laws.a_plain_sentence_on_a_schema_is_printable.Goals as goal
+
+pub returns : goal.returns
+returns c = plain_schema_sentence-printable c.args.fault c.args.text.now

@@ -1,0 +1,12 @@
+use Rattle.std.proofs.Common.{append_assoc}
+use Rattle.fault_sentences.specs.Schemas.{wants_list}
+use Rattle.fault_sentences.proofs.schemas.wants_list.Goals as goal
+
+pub returns : goal.returns
+unfolding wants_list
+returns c =
+    let done = rw (
+      c.in_ok-words-2.ensures,
+      c.in_ok-words.ensures,
+      c.kind_of.ensures,
+    ) at c.words-3.ensures in simp append_assoc (simp append_assoc at done)

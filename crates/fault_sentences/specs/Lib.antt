@@ -1,0 +1,14 @@
+pub mod Shown
+pub mod Places
+pub mod Lists
+pub mod Equals
+pub mod Memory
+pub mod Printable
+pub mod Sights
+pub mod Looks
+pub mod Rules
+pub mod Bindings
+pub mod Records
+pub mod Sheets
+pub mod Published
+pub mod Schemas
