@@ -8,14 +8,14 @@ use Rattle.desk_base.proofs.Rows.{rows_of-append}
 use Rattle.json_parts.specs.Parts.{◌>>=◌, each}
 use Rattle.case_json.specs.Masters.{row_in}
 
--- what stands behind the parts grows by the next one
+-- what stands after the parts grows by the next one
 pub append-next : {A : Type 0} (parts : List A) (part : A) (rest : Option (List A))
     → option_map (λ more. parts ++ more) (rest >>= (λ more. Some (part ∷ more)))
     ≡ option_map (λ more. (parts ++ part ∷ []) ++ more) rest
 append-next parts part None = refl
 append-next parts part (Some more) = grind (arith, common_steps)
 
--- each part that is read stands behind those before it
+-- each part that is read stands after those before it
 pub each-next : {A : Type 0} (read : Data → Option A) (parts : List A) (first : Data) (others : List Data) (part : A)
     → read first ≡ Some part
     → option_map (λ rest. parts ++ rest) (each read (first ∷ others))
@@ -28,7 +28,7 @@ grown : {A : Type 0} (old new : List A) (part : Option (List A)) → option_map 
 grown old new None is = absurd cc
 grown old new (Some more) is = (more, refl, cc)
 
--- the cells of one more row stand behind those of the rows before it
+-- the cells of one more row stand after those of the rows before it
 pub rows-next : (columns count : ℕ) (cells more : List (List ℕ)) (first : Data) (others : List Data)
     → length cells ≡ count * columns → length more ≡ length cells + columns
     → option_map (λ texts. cells ++ texts) (row_in columns first) ≡ Some more

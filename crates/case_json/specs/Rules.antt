@@ -38,7 +38,7 @@ key_in attributes value = do
   items ← items_in value
   key_of attributes items
 
--- the pattern of a word with what stands behind it: `"is",text`, `"not",text`, `"in",texts` or `"not_in",texts`
+-- the pattern of a word with what stands after it: `"is",text`, `"not",text`, `"in",texts` or `"not_in",texts`
 abbrev pub pattern_with : List ℕ → Data → Option Pat
 pattern_with word value =
     if bytes_eq word (codes "is") then option_map Is (text_in value)
@@ -47,7 +47,7 @@ pattern_with word value =
     else if bytes_eq word (codes "not_in") then option_map NoneOf (texts_in value)
     else None
 
--- what stands behind the attribute of a condition: `"any"`, or another word and one value
+-- what stands after the attribute of a condition: `"any"`, or another word and one value
 abbrev pub pattern_of : List ℕ → List Data → Option Pat
 pattern_of word [] = if bytes_eq word (codes "any") then Some Any else None
 pattern_of word (value ∷ []) = pattern_with word value

@@ -39,7 +39,7 @@ fn columns_of(rows: &[Value]) -> Result<u16, PartFault>
     }
 }
 
-/// The rows of so many texts. Each text is put straight behind those before it.
+/// The rows of so many texts. Each text is put straight after those before it.
 fn grid_of(alloc: Global, columns: u16, rows: &[Value]) -> Result<Grid, PartFault>
     requires { length rows.now ≤ MAX_ROWS }
     ensures rows { IfOk result (λ grid. (grid.columns ≡ columns)
@@ -53,7 +53,7 @@ fn grid_of(alloc: Global, columns: u16, rows: &[Value]) -> Result<Grid, PartFaul
     Ok(Grid::from_cells(columns, rows.len() as u32, cells))
 }
 
-/// Puts the texts of a row behind the cells.
+/// Puts the texts of a row after the cells.
 fn push_row(
     alloc: Global,
     cells: &mut List<Text>,
@@ -72,7 +72,7 @@ fn push_row(
     push_texts(alloc, cells, texts)
 }
 
-/// Puts a text for each value behind the cells.
+/// Puts a text for each value after the cells.
 fn push_texts(alloc: Global, cells: &mut List<Text>, values: &[Value]) -> Result<(), PartFault>
     ensures pushed { OnOk result
         (option_map (λ texts. cells.old ++ texts) (each text_in (map view values.now)) ≡ Some cells.new) }

@@ -91,7 +91,7 @@ fn key(alloc: Global, attributes: &Attributes, items: &[Value]) -> Result<(u16, 
     Ok((attribute, column))
 }
 
-/// The pattern of one text or of a set, which stands behind its word.
+/// The pattern of one text or of a set, which stands after its word.
 fn pattern_with(alloc: Global, word: &str, value: &Value) -> Result<Pat, PartFault>
     ensures pattern { IfOk result (λ pattern. pattern_with word.now (view value.now) ≡ Some pattern) }
     ensures none { IsErrOf result PartFault.WrongForm → pattern_with word.now (view value.now) ≡ None }

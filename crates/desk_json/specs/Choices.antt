@@ -1,5 +1,5 @@
 -- How it is printed what a session is about (docs/api.md, Replies).
-use Rattle.std.specs.Prelude.{List, [], ◌∷◌, map, codes}
+use Rattle.std.specs.Prelude.{[], ◌∷◌, map, codes}
 use Rattle.serde_json.specs.Data.{Data, string}
 use Rattle.desk_words.specs.declared.choices.Choices.{Choices}
 use Rattle.desk_words.specs.declared.choices.ShownChoice.{ShownChoice}

@@ -9,13 +9,15 @@ use Rattle.desk_words.specs.declared.desk_look.DeskLook.{DeskLook}
 use Rattle.desk_words.specs.declared.desk_look.DeskLook.TheVariants as desk_looks
 use Rattle.desk_words.specs.declared.look.Look.{Look}
 use Rattle.desk_words.specs.declared.look.Look.TheVariants as looks
+use Rattle.desk_words.specs.declared.proposal.Proposal.{Proposal}
+use Rattle.desk_words.specs.declared.proposal.Proposal.TheVariants.{Schema, Master, Rulebook}
 use Rattle.desk_words.specs.declared.rows.clerk.Digest.{Digest}
 use Rattle.desk_words.specs.declared.steward_work.StewardWork.{StewardWork}
-use Rattle.desk_words.specs.declared.steward_work.StewardWork.TheVariants as steward_works
+use Rattle.desk_words.specs.Proposals.{work_of}
 use Rattle.desk_json.specs.Bodies.Abandon.{abandon}
 use Rattle.desk_json.specs.Bodies.AddClerk.{add_clerk}
 use Rattle.desk_json.specs.Bodies.AddDerived.{add_derived}
-use Rattle.desk_json.specs.Bodies.AddEdition.{add_edition}
+use Rattle.desk_json.specs.Bodies.AddEdition.{proposed_edition}
 use Rattle.desk_json.specs.Bodies.AddRegion.{add_region}
 use Rattle.desk_json.specs.Bodies.Carry.{carry}
 use Rattle.desk_json.specs.Bodies.Commit.{commit}
@@ -30,7 +32,8 @@ use Rattle.desk_json.specs.declared.route.Route.TheVariants.{AddRegion, Enter, C
 use Rattle.desk_json.specs.declared.route.Route.TheVariants.{Batch, View, Suggest, Preview, Report, Records, DeskReport}
 use Rattle.desk_json.specs.declared.route.Route.TheVariants.{Explain, DeskDerive, AddDerived, SeeCarry, Carry, Sessions}
 use Rattle.desk_json.specs.declared.route.Route.TheVariants.{DeskPublished, DeskEdition, DeskRow, DeskRegion}
-use Rattle.desk_json.specs.declared.route.Route.TheVariants.{Choices, Blocked}
+use Rattle.desk_json.specs.declared.route.Route.TheVariants.{Body, Choices, Blocked, DeskContradictions}
+use Rattle.desk_json.specs.declared.route.Route.TheVariants.{CheckSchema, CheckMaster, CheckRulebook, CheckEdition}
 
 -- who asks for what, or the first fault of the body
 pub data Asked : Type 0 where
@@ -39,14 +42,25 @@ pub data Asked : Type 0 where
   seen_by : List ℕ → Checked Look → Asked
   at_desk : Checked DeskLook → Asked
 
+-- the steward asks that what is proposed is published
+abbrev pub to_publish : ℕ → Checked Proposal → Asked
+to_publish n read = by_steward n do
+  proposal ← read
+  Ok (work_of proposal)
+
+-- it is asked what publishing this would come to
+abbrev pub to_check : Checked Proposal → Asked
+to_check read = at_desk do
+  proposal ← read
+  Ok (desk_looks.Check proposal)
+
 -- who asks for what by a route and a body
 abbrev pub asked_in : Route → List ℕ → Asked
 asked_in (AddClerk n) body = by_steward n (add_clerk body)
-asked_in (AddSchema n) body = by_steward n (Ok (steward_works.AddSchema body))
-asked_in (AddMaster n name) body = by_steward n (Ok (steward_works.AddMaster name body))
-asked_in (AddRulebook n name schema version) body =
-    by_steward n (Ok (steward_works.AddRulebook name schema version body))
-asked_in (AddEdition n name) body = by_steward n (add_edition name body)
+asked_in (AddSchema n) body = to_publish n (Ok (Schema body))
+asked_in (AddMaster n name) body = to_publish n (Ok (Master name body))
+asked_in (AddRulebook n name schema version) body = to_publish n (Ok (Rulebook name schema version body))
+asked_in (AddEdition n name) body = to_publish n (proposed_edition name body)
 asked_in (AddRegion n edition version) body = by_steward n (add_region edition version body)
 asked_in (AddDerived n edition version) body = by_steward n (add_derived edition version body)
 asked_in (Enter clerk n edition) body = by_clerk clerk n (enter edition body)
@@ -72,6 +86,12 @@ asked_in DeskPublished body = at_desk (Ok desk_looks.Published)
 asked_in (DeskEdition edition version) body = at_desk (Ok (desk_looks.Edition edition version))
 asked_in (DeskRow master version row) body = at_desk (Ok (desk_looks.Row master version row))
 asked_in (DeskRegion edition version region) body = at_desk (Ok (desk_looks.Region edition version region))
+asked_in (Body what name version) body = at_desk (Ok (desk_looks.Body what name version))
+asked_in (DeskContradictions edition version rule) body = at_desk (Ok (desk_looks.Contradictions edition version rule))
+asked_in CheckSchema body = to_check (Ok (Schema body))
+asked_in (CheckMaster name) body = to_check (Ok (Master name body))
+asked_in (CheckRulebook name schema version) body = to_check (Ok (Rulebook name schema version body))
+asked_in (CheckEdition name) body = to_check (proposed_edition name body)
 
 -- the command that is asked for, where a write has this digest
 abbrev pub command_by : Digest → Asked → Checked Command

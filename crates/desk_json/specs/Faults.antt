@@ -1,5 +1,5 @@
 -- How the fault of a body is printed (docs/api.md, Faults of a body).
-use Rattle.std.specs.Prelude.{ℕ, List, [], ◌∷◌, codes}
+use Rattle.std.specs.Prelude.{ℕ, List, [], ◌∷◌, codes, None}
 use Rattle.serde_json.specs.Data.{Data, string}
 use Rattle.desk_json.specs.Refusals.{error, no_memory, plain}
 use Rattle.json_parts.specs.Shapes.{object_of}
@@ -17,4 +17,4 @@ fault_shown NotJson = fault_at (codes "not_json") []
 fault_shown (Missing key) = fault_at (codes "missing") key
 fault_shown (WrongKind key) = fault_at (codes "wrong_kind") key
 fault_shown (Unknown key) = fault_at (codes "unknown") key
-fault_shown NoMemory = plain no_memory
+fault_shown NoMemory = plain no_memory None

@@ -9,6 +9,7 @@ pub mod Carried
 pub mod Published
 pub mod Choices
 pub mod Blocked
+pub mod Fits
 pub mod Replies
 pub mod Refusals
 pub mod Faults

@@ -15,7 +15,8 @@ use Rattle.desk_words.specs.declared.report.SessionPage.{SessionPage}
 use Rattle.desk_json.specs.Blocked.{blocked_shown}
 use Rattle.desk_json.specs.Carried.{carried_shown}
 use Rattle.desk_json.specs.Choices.{choices_shown}
-use Rattle.desk_json.specs.Refusals.{refusal_shown}
+use Rattle.desk_json.specs.Fits.{fits_shown}
+use Rattle.desk_json.specs.Refusals.{refusal_shown, unfit_shown}
 use Rattle.json_parts.specs.Shapes.{list_of, object_of, or_null, whole}
 use Rattle.desk_json.specs.Published.{catalogue_shown, edition_shown, master_row_shown, region_sheet_shown}
 use Rattle.desk_json.specs.Viewed.{number_shown, run_shown, view_shown}
@@ -97,7 +98,7 @@ page_shown page = object_of (
     ∷ (codes "sessions", list_of (map session_shown page.lines))
     ∷ [])
 
--- a reply; a report, records and derived rows are no JSON
+-- a reply; a report, records, derived rows, contradictions and what was published are no JSON
 abbrev pub reply_shown : Reply → Option Data
 reply_shown (replies.Made made) = Some (made_shown made)
 reply_shown (replies.Opened session) = Some (view_shown session)
@@ -117,4 +118,8 @@ reply_shown (replies.MasterRow sheet) = Some (master_row_shown sheet)
 reply_shown (replies.Region sheet) = Some (region_sheet_shown sheet)
 reply_shown (replies.Choices told) = Some (choices_shown told)
 reply_shown (replies.Blocked told) = Some (blocked_shown told)
+reply_shown (replies.Body what body) = None
+reply_shown (replies.Contradictions sheet) = None
+reply_shown (replies.Fits told) = Some (fits_shown told)
+reply_shown (replies.Unfit refusal says) = Some (unfit_shown refusal says)
 reply_shown (replies.Refused refusal) = Some (refusal_shown refusal)

@@ -28,6 +28,7 @@ kind_word kind.Edition = codes "edition"
 kind_word kind.Session = codes "session"
 kind_word kind.Region = codes "region"
 kind_word kind.Row = codes "row"
+kind_word kind.Rule = codes "rule"
 
 -- the verdict on a row of a region
 abbrev pub verdict_word : RowVerdict → List ℕ

@@ -3,24 +3,27 @@ ghost use Rattle.std.specs.Prelude.{◌≡◌, ◌≢◌, Ok, Err, IfOk, IfErr};
 ghost use Rattle.desk_words.specs.declared.desk_look.DeskLook.TheVariants as desk_looks;
 ghost use Rattle.desk_words.specs.declared.look.Look.TheVariants as looks;
 ghost use Rattle.desk_words.specs.declared.command.Command.TheVariants as commands;
+ghost use Rattle.desk_words.specs.Proposals.{work_of};
 ghost use Rattle.desk_json.specs.Commands.{command_in};
 
 use crate::bodies::abandon::abandon;
 use crate::bodies::add_clerk::add_clerk;
 use crate::bodies::add_derived::add_derived;
-use crate::bodies::add_edition::add_edition;
+use crate::bodies::add_edition::proposed_edition;
 use crate::bodies::add_region::add_region;
 use crate::bodies::carry::carry;
 use crate::bodies::commit::commit;
 use crate::bodies::confirm::{confirm, preview};
 use crate::bodies::desk_derive::desk_derive;
 use crate::bodies::enter::enter;
-use crate::bodies::passed_on::{add_master, add_rulebook, add_schema, batch};
+use crate::bodies::passed_on::{batch, proposed_master, proposed_rulebook, proposed_schema};
 use crate::bodies::withdraw::withdraw;
 use crate::fault::JsonFault;
 use crate::route::Route;
 use desk_base::{Duplicate, NoMemory, Str};
-use desk_words::{ClerkWork, Command, DeskLook, Digest, Look, StewardWork, Ticket};
+use desk_words::{
+    ClerkWork, Command, DeskLook, Digest, Look, Proposal, Publication, StewardWork, Ticket,
+};
 use std::alloc::Global;
 
 /// The command that the route and the body are, or the first fault of the body (docs/api.md). A body that is TOML, CSV
@@ -37,22 +40,24 @@ pub fn command_of(
 {
     match route {
         Route::AddClerk { n } => Ok(by_steward(*n, digest, add_clerk(alloc, body)?)),
-        Route::AddSchema { n } => Ok(by_steward(*n, digest, add_schema(alloc, body)?)),
-        Route::AddMaster { n, name } => Ok(by_steward(*n, digest, add_master(alloc, name, body)?)),
+        Route::AddSchema { n } => Ok(to_publish(*n, digest, proposed_schema(alloc, body)?)),
+        Route::AddMaster { n, name } => {
+            Ok(to_publish(*n, digest, proposed_master(alloc, name, body)?))
+        }
         Route::AddRulebook {
             n,
             name,
             schema,
             version,
         } => {
-            Ok(by_steward(
+            Ok(to_publish(
                 *n,
                 digest,
-                add_rulebook(alloc, name, schema, *version, body)?,
+                proposed_rulebook(alloc, name, schema, *version, body)?,
             ))
         }
         Route::AddEdition { n, name } => {
-            Ok(by_steward(*n, digest, add_edition(alloc, name, body)?))
+            Ok(to_publish(*n, digest, proposed_edition(alloc, name, body)?))
         }
         Route::AddRegion {
             n,
@@ -125,6 +130,24 @@ pub fn command_of(
         } => Ok(Command::Desk(desk_region(edition, *version, *region)?)),
         Route::Choices { clerk, session } => seen_by(clerk, Look::Choices { session: *session }),
         Route::Blocked { clerk, session } => seen_by(clerk, Look::Blocked { session: *session }),
+        Route::Body {
+            what,
+            name,
+            version,
+        } => Ok(Command::Desk(body_seen(*what, name, *version)?)),
+        Route::DeskContradictions {
+            edition,
+            version,
+            rule,
+        } => Ok(Command::Desk(desk_contradictions(edition, *version, rule)?)),
+        Route::CheckSchema => Ok(to_check(proposed_schema(alloc, body)?)),
+        Route::CheckMaster { name } => Ok(to_check(proposed_master(alloc, name, body)?)),
+        Route::CheckRulebook {
+            name,
+            schema,
+            version,
+        } => { Ok(to_check(proposed_rulebook(alloc, name, schema, *version, body)?)) }
+        Route::CheckEdition { name } => Ok(to_check(proposed_edition(alloc, name, body)?)),
     }
 }
 
@@ -133,6 +156,20 @@ fn by_steward(n: u64, digest: Digest, work: StewardWork) -> Command
     ensures { result ≡ commands.Steward (record { number = n; digest = digest }) work }
 {
     Command::Steward(Ticket { number: n, digest }, work)
+}
+
+/// The write of the steward that publishes a proposal.
+fn to_publish(n: u64, digest: Digest, proposal: Proposal) -> Command
+    ensures { result ≡ commands.Steward (record { number = n; digest = digest }) (work_of proposal) }
+{
+    by_steward(n, digest, proposal.publish())
+}
+
+/// The look at what publishing a proposal would come to.
+fn to_check(proposal: Proposal) -> Command
+    ensures { result ≡ commands.Desk (desk_looks.Check proposal) }
+{
+    Command::Desk(DeskLook::Check(proposal))
 }
 
 /// A write of a clerk.
@@ -173,6 +210,17 @@ fn explain(session: u32, name: &Str) -> Result<Look, NoMemory>
     })
 }
 
+/// The look at a version of what was published as a text.
+fn body_seen(what: Publication, name: &Str, version: u32) -> Result<DeskLook, NoMemory>
+    ensures { IfOk result (λ look. look ≡ desk_looks.Body what name.now version) }
+{
+    Ok(DeskLook::Body {
+        what,
+        name: name.copy()?,
+        version,
+    })
+}
+
 /// The look at what carrying a session would change.
 fn carry_seen(session: u32, version: u32) -> Look
     ensures { result ≡ looks.Carry session version }
@@ -209,5 +257,16 @@ fn desk_region(edition: &Str, version: u32, region: u32) -> Result<DeskLook, NoM
         edition: edition.copy()?,
         version,
         region,
+    })
+}
+
+/// A look at the contradictions of a rule.
+fn desk_contradictions(edition: &Str, version: u32, rule: &Str) -> Result<DeskLook, NoMemory>
+    ensures { IfOk result (λ look. look ≡ desk_looks.Contradictions edition.now version rule.now) }
+{
+    Ok(DeskLook::Contradictions {
+        edition: edition.copy()?,
+        version,
+        rule: rule.copy()?,
     })
 }

@@ -2,8 +2,8 @@
 //!
 //! `specs/Commands.antt` says which command a route and a body are, `specs/Bodies` what each body reads as or which
 //! fault it has first; `specs/Replies.antt`, `Viewed.antt`, `Carried.antt`, `Choices.antt`, `Blocked.antt`,
-//! `Published.antt`, `Refusals.antt` and `Faults.antt` how replies and faults are printed. `docs/api.md` says the same
-//! to a client.
+//! `Published.antt`, `Fits.antt`, `Refusals.antt` and `Faults.antt` how replies and faults are printed. `docs/api.md`
+//! says the same to a client.
 #![tactic(auto)]
 
 mod blocked;
@@ -13,6 +13,7 @@ mod carried;
 mod choices;
 mod commands;
 mod fault;
+mod fits;
 mod forms;
 mod published;
 mod refusals;

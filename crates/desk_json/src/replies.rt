@@ -8,14 +8,15 @@ ghost use Rattle.desk_json.specs.Replies.{page_shown, region_shown, reply_shown,
 ghost use Rattle.desk_json.specs.Replies.{version_shown};
 
 use crate::fault::JsonFault;
+use crate::refusals::unfit_text;
 use crate::shown::{Show, field, text};
 use desk_base::{List, NoMemory, Text};
 use desk_words::{Batched, Explained, Kind, Made, Reply, SessionLine, SessionPage, Suggested};
 use json_parts::JsonText;
 use std::alloc::{AllocError, Global};
 
-/// The JSON text of a reply that is no report, no records and no derived rows: compact, with its keys in byte order
-/// (docs/api.md).
+/// The JSON text of a reply that is no report, no records, no derived rows, no contradictions and nothing that was
+/// published: compact, with its keys in byte order (docs/api.md).
 pub fn text_of(alloc: Global, reply: &Reply) -> Result<List<u8>, NoMemory>
     requires json { reply_shown reply.now ≢ None }
     ensures { IfOk result (λ text. option_map compact_text (reply_shown reply.now) ≡ Some text) }
@@ -49,8 +50,12 @@ pub fn text_of(alloc: Global, reply: &Reply) -> Result<List<u8>, NoMemory>
         Reply::Region(sheet) => text(alloc, sheet),
         Reply::Choices(told) => text(alloc, told),
         Reply::Blocked(told) => text(alloc, told),
+        Reply::Fits(told) => text(alloc, told),
+        Reply::Unfit { refusal, says } => unfit_text(alloc, refusal, says),
         Reply::Refused(refusal) => text(alloc, refusal),
-        Reply::Report(_) | Reply::Records(_) | Reply::Derived(_) => unreachable!(),
+        Reply::Report(_) | Reply::Records(_) => unreachable!(),
+        Reply::Derived(_) | Reply::Contradictions(_) => unreachable!(),
+        Reply::Body(_, _) => unreachable!(),
     }
 }
 

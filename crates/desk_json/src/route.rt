@@ -1,5 +1,6 @@
 //! Where a request goes.
 use desk_base::Str;
+use desk_words::Publication;
 
 /// The route of a request, with its parameters: the number `n` of a write among its caller's, and the names and numbers
 /// of what it is about (docs/api.md).
@@ -131,5 +132,27 @@ pub enum Route {
     Blocked {
         clerk: Str,
         session: u32,
+    },
+    Body {
+        what: Publication,
+        name: Str,
+        version: u32,
+    },
+    DeskContradictions {
+        edition: Str,
+        version: u32,
+        rule: Str,
+    },
+    CheckSchema,
+    CheckMaster {
+        name: Str,
+    },
+    CheckRulebook {
+        name: Str,
+        schema: Str,
+        version: u32,
+    },
+    CheckEdition {
+        name: Str,
     },
 }

@@ -70,6 +70,7 @@ fn kind_word(kind: Kind) -> &'static str
         Kind::Session => "session",
         Kind::Region => "region",
         Kind::Row => "row",
+        Kind::Rule => "rule",
     }
 }
 

@@ -10,7 +10,7 @@ number_after-more start place =
     let twice : 2 * (place + 1) ≡ suc (suc (2 * place)) = omega arith in
     rw twice
 
--- the session behind so many is opened by the next two draws
+-- the session after so many is opened by the next two draws
 pub enter_at-more : (start place : ℕ) → let number : ℕ = number_after start (2 * place) in
     enter_at start (place + 1) ≡ enter (place + 1) (drawn (next number)) (drawn (next (next number)))
 enter_at-more start place =

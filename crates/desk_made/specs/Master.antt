@@ -5,7 +5,7 @@ use Rattle.desk_base.specs.Grid.{GridRows}
 use Rattle.master_rows.specs.declared.master.Master.{Master}
 use Rattle.desk_made.specs.declared.master.TheConstants.{ROWS}
 
--- a text with a number behind it
+-- a text with a number after it
 abbrev pub numbered : List ℕ → ℕ → List ℕ
 numbered text number = text ++ decimal number
 

@@ -32,6 +32,6 @@ head_bytes request = request_line request ++ length_line request.body ++ head_li
 unfoldable pub request_bytes : Request → List ℕ
 request_bytes request = head_bytes request ++ request.body
 
--- requests, one behind another
+-- requests, one after another
 abbrev pub stream_of : List Request → List ℕ
 stream_of requests = flat_map request_bytes requests

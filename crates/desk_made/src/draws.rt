@@ -21,7 +21,7 @@ impl Model for Draws {
 }
 
 impl Draws {
-    /// The draws that begin behind a number.
+    /// The draws that begin after a number.
     pub fn new(start: u32) -> Draws
         requires { start < 2 ^ 31 }
         ensures { result ≡ start }

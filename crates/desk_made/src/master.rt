@@ -49,7 +49,7 @@ fn row(alloc: Global, number: u32) -> Result<List<Text>, NoMemory>
     Ok(texts)
 }
 
-/// A text with a number behind it.
+/// A text with a number after it.
 pub fn numbered(alloc: Global, text: &str, number: u32) -> Result<Text, NoMemory>
     requires { length text.now ≤ 32 }
     ensures { IfOk result (λ made. made ≡ numbered text.now number) }

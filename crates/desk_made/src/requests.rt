@@ -4,7 +4,7 @@ ghost use Rattle.desk_made.specs.Requests.{length_line, post, request_bytes, req
 
 use desk_base::NoMemory;
 
-/// Puts the request that posts a body to a target behind these bytes (RFC 9112, sections 2 and 3).
+/// Puts the request that posts a body to a target after these bytes (RFC 9112, sections 2 and 3).
 #[tactic(auto, unfolding(crate::specs::Requests::request_bytes))]
 pub fn push_post(bytes: &mut Vec<u8>, target: &str, body: &[u8]) -> Result<(), NoMemory>
     ensures { OnOk result (bytes.new.items ≡ bytes.old.items ++ request_bytes (post target.now body.now)) }
@@ -16,7 +16,7 @@ pub fn push_post(bytes: &mut Vec<u8>, target: &str, body: &[u8]) -> Result<(), N
     Ok(())
 }
 
-/// Puts the line that posts to a target behind these bytes.
+/// Puts the line that posts to a target after these bytes.
 fn push_target(bytes: &mut Vec<u8>, target: &str) -> Result<(), NoMemory>
     ensures { OnOk result (bytes.new.items ≡ bytes.old.items ++ request_line (post target.now [])) }
 {
@@ -26,7 +26,7 @@ fn push_target(bytes: &mut Vec<u8>, target: &str) -> Result<(), NoMemory>
     Ok(())
 }
 
-/// Puts the line that says how many bytes a body has behind these bytes.
+/// Puts the line that says how many bytes a body has after these bytes.
 fn push_length(bytes: &mut Vec<u8>, body: &[u8]) -> Result<(), NoMemory>
     ensures { OnOk result (bytes.new.items ≡ bytes.old.items ++ length_line body.now) }
 {

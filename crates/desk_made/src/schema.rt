@@ -56,7 +56,7 @@ fn push_listed(text: &mut Vec<u8>, words: &[Text]) -> Result<(), NoMemory>
     Ok(())
 }
 
-/// Puts what stands between a word and the one before it behind a text.
+/// Puts what stands between a word and the one before it after a text.
 fn push_separator(text: &mut Vec<u8>, place: usize) -> Result<(), NoMemory>
     ensures { OnOk result (text.new.items ≡ text.old.items ++ separator place) }
 {

@@ -14,7 +14,7 @@ use desk_base::NoMemory;
 use serde_json::{Value, json};
 use std::alloc::{AllocError, Global};
 
-/// Puts the requests that open so many sessions, by draws from a start, behind these bytes.
+/// Puts the requests that open so many sessions, by draws from a start, after these bytes.
 pub fn push_sessions(bytes: &mut Vec<u8>, count: u32, start: u32) -> Result<(), NoMemory>
     requires { start < 2 ^ 31 }
     ensures { OnOk result (bytes.new.items
@@ -29,7 +29,7 @@ pub fn push_sessions(bytes: &mut Vec<u8>, count: u32, start: u32) -> Result<(), 
     Ok(())
 }
 
-/// Puts the request that opens the session with a number, by two draws, behind these bytes.
+/// Puts the request that opens the session with a number, by two draws, after these bytes.
 fn push_session(bytes: &mut Vec<u8>, number: u32, first: u32, second: u32) -> Result<(), NoMemory>
     ensures { OnOk result (bytes.new.items ≡ bytes.old.items ++ request_bytes (enter number first second)) }
 {

@@ -10,14 +10,14 @@ use crate::schema::{big, schema_text};
 use desk_base::NoMemory;
 use rule_text::print;
 
-/// Puts the request for the clerk `amy` behind these bytes.
+/// Puts the request for the clerk `amy` after these bytes.
 pub fn push_clerk(bytes: &mut Vec<u8>) -> Result<(), NoMemory>
     ensures { OnOk result (bytes.new.items ≡ bytes.old.items ++ request_bytes add_clerk) }
 {
     push_post(bytes, "/steward/1/clerks", b"{\"name\":\"amy\"}")
 }
 
-/// Puts the request for the schema `big` behind these bytes.
+/// Puts the request for the schema `big` after these bytes.
 pub fn push_schema(bytes: &mut Vec<u8>) -> Result<(), NoMemory>
     ensures { OnOk result (bytes.new.items ≡ bytes.old.items ++ request_bytes add_schema) }
 {
@@ -26,7 +26,7 @@ pub fn push_schema(bytes: &mut Vec<u8>) -> Result<(), NoMemory>
     push_post(bytes, "/steward/2/schemas", text.as_slice())
 }
 
-/// Puts the request for the master `m` behind these bytes.
+/// Puts the request for the master `m` after these bytes.
 pub fn push_master(bytes: &mut Vec<u8>) -> Result<(), NoMemory>
     ensures { OnOk result (bytes.new.items ≡ bytes.old.items ++ request_bytes add_master) }
 {
@@ -34,7 +34,7 @@ pub fn push_master(bytes: &mut Vec<u8>) -> Result<(), NoMemory>
     push_post(bytes, "/steward/3/masters/m", sheet.as_slice())
 }
 
-/// Puts the request for the rulebook `b` behind these bytes.
+/// Puts the request for the rulebook `b` after these bytes.
 pub fn push_rulebook(bytes: &mut Vec<u8>) -> Result<(), NoMemory>
     ensures { OnOk result (bytes.new.items ≡ bytes.old.items ++ request_bytes add_rulebook) }
 {
@@ -43,7 +43,7 @@ pub fn push_rulebook(bytes: &mut Vec<u8>) -> Result<(), NoMemory>
     push_post(bytes, "/steward/4/rulebooks/b/big/1", text.as_slice())
 }
 
-/// Puts the request for the edition `e` behind these bytes.
+/// Puts the request for the edition `e` after these bytes.
 pub fn push_edition(bytes: &mut Vec<u8>) -> Result<(), NoMemory>
     ensures { OnOk result (bytes.new.items ≡ bytes.old.items ++ request_bytes add_edition) }
 {

@@ -1,4 +1,4 @@
--- The clerks' own lists that are read one behind another from lines.
+-- The clerks' own lists that are read one after another from lines.
 use Rattle.std.proofs.Common.{◌≡◌, ℕ, suc, ◌+◌, ◌-◌, ◌<◌, List, [], ◌∷◌, ◌++◌, Some}
 use Rattle.std.proofs.Common.{sym}
 use Rattle.std.proofs.Common.{arith}
@@ -7,7 +7,7 @@ use Rattle.desk_packing.specs.Lines.{Line}
 use Rattle.desk_packing.specs.Reading.{list_in, lists_in}
 use Rattle.desk_packing.proofs.Items.{behind, behind-behind}
 
--- a clerk's list stands in front of those of the clerks behind
+-- a clerk's list stands in front of those of the clerks after
 pub lists_in-next : {A : Type 0} (format : Format A) (kind clerks clerk : ℕ) (front : List (List A)) (x : List A)
     (lines rest : List Line) → clerk < clerks → list_in format kind clerk 0 lines ≡ Some (x, rest)
     → behind (front ++ x ∷ []) (lists_in format kind (clerk + 1) (clerks - (clerk + 1)) rest)

@@ -1,4 +1,4 @@
--- Items that are read one behind another.
+-- Items that are read one after another.
 use Rattle.std.proofs.Common.{◌≡◌, ℕ, suc, ◌+◌, ◌-◌, ◌<◌, List, [], ◌∷◌, ◌++◌, Some, None, Option, refl}
 use Rattle.std.proofs.Common.{sym, append_assoc, arith}
 use Rattle.std.specs.Prelude.{option_map}
@@ -14,7 +14,7 @@ pub behind-behind : {A B : Type 0} (front : List A) (x : A) (found : Option (Lis
 behind-behind front x None = refl
 behind-behind front x (Some more) = rw append_assoc refl
 
--- where items are still to be read, the next one stands in front of those behind it
+-- where items are still to be read, the next one stands in front of those after it
 pub items_in-next : {A : Type 0} (format : Format A) (count place : ℕ) (front : List A) (x : A) (left rest : List ℕ)
     → place < count → format.parse left ≡ Some (x, rest)
     → behind (front ++ x ∷ []) (items_in format (count - (place + 1)) rest)

@@ -150,7 +150,7 @@ by_key-permutation = along (λ xs ys. AreApart xs → StaySo xs ys)
       keys = λ line each. other.keys line (one.keys line each);
     })
 
--- lists in order, one behind the other
+-- lists in order, one after the other
 pub AreByKey-append : (P Q : Line → Type 0) → ((one other : Line) → P one → Q other → comes_before one other ≡ true)
     → (xs ys : List Line) → AllByRecursion P xs → AllByRecursion Q ys → AreByKey xs → AreByKey ys → AreByKey (xs ++ ys)
 AreByKey-append P Q before [] ys ps qs order more = more

@@ -1,4 +1,4 @@
--- Parts that are written one behind another.
+-- Parts that are written one after another.
 use Rattle.std.proofs.Common.{◌≡◌, List, ◌++◌, append_assoc}
 
 -- four parts

@@ -36,7 +36,7 @@ kept-free line (other ∷ lines) free = rw free.0 (ap (λ behind. other ∷ behi
 kept-append : (line : Line) (front lines : List Line) → kept line (front ++ lines) ≡ kept line front ++ kept line lines
 kept-append line front lines = filter-append (λ other. not (same_key other line)) front lines
 
--- behind lines that are let stand
+-- after lines that are let stand
 pub puts-behind : (front lines after : List Line) (line : Line) → IsFree line front → Puts lines line after
     → Puts (front ++ lines) line (front ++ after)
 puts-behind front lines after line free puts =
@@ -100,7 +100,7 @@ module _ {A : Type 0} (format : Format A) (kind owner : ℕ) where
       (list_lines-append (place + 1) rows more
       ∙ ap (λ at. list_lines format kind owner (place + 1) rows ++ list_lines format kind owner at more) same)
 
-  -- a list has no line behind its last one, and none before its first
+  -- a list has no line after its last one, and none before its first
   list_lines-above : (line : Line) (place : ℕ) (rows : List A) → place + length rows ≤ line.place
       → IsFree line (list_lines format kind owner place rows)
   list_lines-above line place [] above = tt
@@ -117,7 +117,7 @@ module _ {A : Type 0} (format : Format A) (kind owner : ℕ) where
     list_lines-below line (place + 1) rows (omega arith),
   )
 
-  -- a row behind the others
+  -- a row after the others
   puts-more : (place : ℕ) (rows : List A) (x : A) → Puts (list_lines format kind owner place rows)
       (row_line format kind owner (place + length rows) x) (list_lines format kind owner place (rows ++ x ∷ []))
   puts-more place rows x =

@@ -50,7 +50,7 @@ module _ {A : Type 0} (format : Format A) where
       (list_lines format kind owner 0 rows) (own_lines format kind (owner + 1) lists)
       (list_lines-kind kind owner 0 rows) (own_lines-kind kind (owner + 1) lists)
 
-  -- the lines of the clerks behind one
+  -- the lines of the clerks after one
   pub own_lines-owner : (kind low owner : ℕ) (lists : List (List A)) → low < owner
       → AllByRecursion (λ line. (line.kind ≡ kind) × (low < line.owner)) (own_lines format kind owner lists)
   own_lines-owner kind low owner [] above = tt

@@ -182,7 +182,7 @@ module _ (is_old : Bool) (rows : Rows) where
       rw (← are.each) (lists_in-back format exact kind 0 lists (lines_from is_old rows (kind + 1)) fit are.short
       (λ owner. other_kinds kind owner (lines_from is_old rows (kind + 1)) (StandFrom-lines_from (kind + 1))))
 
-  -- behind the line of the version the tables are read back
+  -- after the line of the version the tables are read back
   pub tables_in-back : AreTables rows → FitFields is_old rows → tables_in is_old (lines_from is_old rows 1) ≡ Some rows
   tables_in-back are fit =
       rw (
@@ -352,7 +352,7 @@ version_in-back : (is_old : Bool) → version_in (version_line is_old) ≡ Some 
 version_in-back false = refl
 version_in-back true = refl
 
--- the line of a version and lines behind it that are read stand for what is read
+-- the line of a version and lines after it that are read stand for what is read
 pub version_stands : (is_old : Bool) (line : Line) (lines : List Line) (rows : Rows) → version_in line ≡ Some is_old
     → tables_in is_old lines ≡ Some rows → StandAs is_old (line ∷ lines) rows
 version_stands is_old line lines rows version found =

@@ -1,4 +1,4 @@
--- How values are written as bytes, one behind another, and read back from the front of bytes.
+-- How values are written as bytes, one after another, and read back from the front of bytes.
 use Rattle.std.specs.Prelude.{◌≡◌, ℕ, zero, suc, ◌<◌, ◌^◌, Bool, true, false, ◌&&◌, IsTrue, if◌then◌else◌, nat_le}
 use Rattle.std.specs.Prelude.{nat_lt}
 use Rattle.std.specs.Prelude.{List, [], ◌∷◌, ◌++◌, length, take, drop, flat_map, slice_get, Option, Some, None}
@@ -9,13 +9,13 @@ use Rattle.std.specs.Int.{w16, w32, w64, to_be_bytes, from_be_bytes}
 use Rattle.std.specs.Str.{is_utf8}
 use Rattle.desk_base.specs.declared.limits.TheConstants.{MAX_TEXT}
 
--- the bytes of a value, which values fit them, and the value in front of bytes with the bytes behind it
+-- the bytes of a value, which values fit them, and the value in front of bytes with the bytes after it
 pub record Format (A : Type 0) : Type 1 where
   pub print : A → List ℕ
   pub Fits : A → Type 0
   pub parse : List ℕ → Option (A × List ℕ)
 
--- a value that fits is read back, whatever stands behind it; and what is read fits, and its bytes stood in front
+-- a value that fits is read back, whatever stands after it; and what is read fits, and its bytes stood in front
 pub record IsExact {A : Type 0} (format : Format A) : Type 0 where
   pub back : (x : A) (rest : List ℕ) → format.Fits x → format.parse (format.print x ++ rest) ≡ Some (x, rest)
   pub only : (bytes rest : List ℕ) (x : A) → format.parse bytes ≡ Some (x, rest)
@@ -59,7 +59,7 @@ u64 = record {
   parse = λ bytes. if has_bytes 8 bytes then Some (from_be_bytes w64 (take 8 bytes), drop 8 bytes) else None;
 }
 
--- so many bytes in front, and those behind them
+-- so many bytes in front, and those after them
 abbrev pub split : ℕ → List ℕ → Option (List ℕ × List ℕ)
 split count bytes = if nat_le count (length bytes) then Some (take count bytes, drop count bytes) else None
 
@@ -67,7 +67,7 @@ split count bytes = if nat_le count (length bytes) then Some (take count bytes, 
 abbrev pub fixed : ℕ → Format (List ℕ)
 fixed count = record { print = λ bytes. bytes; Fits = λ bytes. length bytes ≡ count; parse = split count }
 
--- bytes behind their number
+-- bytes after their number
 abbrev pub sized : Format ℕ → Format (List ℕ)
 sized number = record {
   print = λ bytes. number.print (length bytes) ++ bytes;
@@ -92,14 +92,14 @@ coded_in values (byte ∷ rest) = option_map (λ x. (x, rest)) (slice_get values
 abbrev pub coded : {A : Type 0} → List A → (A → ℕ) → Format A
 coded values code = record { print = λ x. code x ∷ []; Fits = λ _. ⊤; parse = coded_in values }
 
--- so many items, one behind another
+-- so many items, one after another
 abbrev pub items_in : {A : Type 0} → Format A → ℕ → List ℕ → Option (List A × List ℕ)
 items_in format zero bytes = Some ([], bytes)
 items_in format (suc count) bytes = option_and_then
     (λ first. option_map (λ more. (first.0 ∷ more.0, more.1)) (items_in format count first.1))
     (format.parse bytes)
 
--- items behind their number
+-- items after their number
 abbrev pub counted : {A : Type 0} → Format ℕ → Format A → Format (List A)
 counted number format = record {
   print = λ items. number.print (length items) ++ flat_map format.print items;
@@ -107,7 +107,7 @@ counted number format = record {
   parse = λ bytes. option_and_then (λ found. items_in format found.0 found.1) (number.parse bytes);
 }
 
--- one value behind another
+-- one value after another
 abbrev pub both : {A B : Type 0} → Format A → Format B → Format (A × B)
 both first second = record {
   print = λ x. first.print x.0 ++ second.print x.1;
@@ -129,7 +129,7 @@ formed format into back = record {
 abbrev pub is_text : List ℕ → Bool
 is_text bytes = nat_le (length bytes) MAX_TEXT && is_utf8 bytes
 
--- a text of a cell, behind its length in two bytes
+-- a text of a cell, after its length in two bytes
 abbrev pub text : Format (List ℕ)
 text = passing is_text (sized u16)
 
@@ -137,7 +137,7 @@ text = passing is_text (sized u16)
 abbrev pub bytes : Format (List ℕ)
 bytes = sized u32
 
--- items behind their number in four bytes
+-- items after their number in four bytes
 abbrev pub list : {A : Type 0} → Format A → Format (List A)
 list = counted u32
 

@@ -31,7 +31,7 @@ abbrev pub comes_before : Line → Line → Bool
 comes_before a b = nat_lt a.kind b.kind
     || ((a.kind == b.kind) && (nat_lt a.owner b.owner || ((a.owner == b.owner) && nat_lt a.place b.place)))
 
--- each line comes before those behind it
+-- each line comes before those after it
 abbrev pub AreByKey : List Line → Type 0
 AreByKey [] = ⊤
 AreByKey (line ∷ lines) = AllByRecursion (λ other. IsTrue (comes_before line other)) lines × AreByKey lines

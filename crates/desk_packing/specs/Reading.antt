@@ -29,7 +29,7 @@ abbrev pub row_at : {A : Type 0} → Format A → ℕ → Line → Option A
 row_at format place line =
     if (line.place == place) && nat_lt (place + 1) (2 ^ 31) then whole format line.body else None
 
--- the rows of a list, from a place on, that stand in front, and the lines behind them
+-- the rows of a list, from a place on, that stand in front, and the lines after them
 abbrev pub list_in : {A : Type 0} → Format A → ℕ → ℕ → ℕ → List Line → Option (List A × List Line)
 list_in format kind owner place [] = Some ([], [])
 list_in format kind owner place (line ∷ lines) =
@@ -39,7 +39,7 @@ list_in format kind owner place (line ∷ lines) =
     (row_at format place line)
     else Some ([], line ∷ lines)
 
--- the lists of so many clerks, from a clerk on, that stand in front, and the lines behind them
+-- the lists of so many clerks, from a clerk on, that stand in front, and the lines after them
 abbrev pub lists_in : {A : Type 0} → Format A → ℕ → ℕ → ℕ → List Line → Option (List (List A) × List Line)
 lists_in format kind owner zero lines = Some ([], lines)
 lists_in format kind owner (suc clerks) lines = option_and_then
@@ -50,7 +50,7 @@ lists_in format kind owner (suc clerks) lines = option_and_then
 abbrev pub ◌>>=◌ : {A B : Type 0} → Option A → (A → Option B) → Option B
 ◌>>=◌ found next = option_and_then next found
 
--- the tables whose lines these are, behind the line of the version
+-- the tables whose lines these are, after the line of the version
 abbrev pub tables_in : Bool → List Line → Option Rows
 tables_in is_old lines = do
   clerks ← list_in clerk CLERKS 0 0 lines

@@ -1,4 +1,4 @@
--- How each row type is packed: its fields in their order, one behind another.
+-- How each row type is packed: its fields in their order, one after another.
 use Rattle.std.specs.Prelude.{ℕ, Bool, List, [], ◌∷◌}
 use Rattle.desk_words.specs.declared.rows.act.Act.{Act}
 use Rattle.desk_words.specs.declared.rows.act.Act.TheVariants as act
@@ -125,7 +125,7 @@ region_format = formed (both (list u16) (list (list text)))
     (λ f. record { attrs = f.0; rows = f.1 })
     (λ row. (row.attrs, row.rows))
 
--- a region of an edition, behind the place of that
+-- a region of an edition, after the place of that
 abbrev pub region : Format RegionRow
 region = formed (both u32 region_format)
     (λ f. record { edition = f.0; region = f.1 })

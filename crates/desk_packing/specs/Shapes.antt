@@ -74,11 +74,11 @@ shape_of rows = record {
   batches = map length rows.batches;
 }
 
--- one more where a row comes behind so many others, at the place that is their number
+-- one more where a row comes after so many others, at the place that is their number
 abbrev pub with_row : ℕ → ℕ → ℕ
 with_row count place = if place == count then count + 1 else count
 
--- one empty list more where a clerk comes behind so many others
+-- one empty list more where a clerk comes after so many others
 abbrev pub with_empty : List ℕ → ℕ → ℕ → List ℕ
 with_empty counts place clerks = if place == clerks then counts ++ 0 ∷ [] else counts
 
@@ -136,7 +136,7 @@ FitsFields (Session owner place row) = session.Fits row
 FitsFields (Record owner row) = committed.Fits row
 FitsFields (Batch owner row) = batch.Fits row
 
--- a row fits at this place of a list of so many rows: at most behind the others, and the list stays below 2 ^ 31 rows
+-- a row fits at this place of a list of so many rows: at most after the others, and the list stays below 2 ^ 31 rows
 abbrev pub FitsPlace : ℕ → ℕ → Type 0
 FitsPlace place count = (place ≤ count) × (place + 1 < 2 ^ 31)
 

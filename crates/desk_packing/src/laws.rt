@@ -31,7 +31,7 @@ pub fn the_kinds_are()
     ensures batches { BATCHES ≡ 9 }
 {}
 
-/// A packed row is read back, whatever stands behind it; and what is read was packed so.
+/// A packed row is read back, whatever stands after it; and what is read was packed so.
 pub fn packed_rows_are_read_back()
     ensures clerks { IsExact clerk }
     ensures schemas { IsExact schema }

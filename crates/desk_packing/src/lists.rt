@@ -26,7 +26,7 @@ impl<T: Packs + Drop> Packs for List<T> {
     }
 }
 
-/// Reads so many items, and answers them with the bytes behind them.
+/// Reads so many items, and answers them with the bytes after them.
 fn unpack_items<T: Packs + Drop>(
     alloc: Global,
     count: u32,

@@ -10,13 +10,13 @@ pub trait Packs: Sized {
     /// How the value is written and read.
     ghost format: { Format Self };
 
-    /// Writes the value behind the bytes.
+    /// Writes the value after the bytes.
     fn pack(&self, bytes: &mut Vec<u8>) -> Result<(), FieldFault>
         ensures packed { OnOk result (bytes.new.items ≡ bytes.old.items ++ format.print self.now) }
         ensures fits { OnOk result (format.Fits self.now) }
         ensures too_long { IsErrOf result FieldFault.TooLong → format.Fits self.now → ⊥ };
 
-    /// Reads the value in front of the bytes, and answers it with the bytes behind it.
+    /// Reads the value in front of the bytes, and answers it with the bytes after it.
     fn unpack(alloc: Global, bytes: &[u8]) -> Result<(Self, &[u8]), UnpackFault>
         ensures read { IfOk result (λ found. format.parse bytes.now ≡ Some (found.0, found.1.now)) }
         ensures damaged { IsErrOf result UnpackFault.Damaged → format.parse bytes.now ≡ None };

@@ -220,7 +220,7 @@ fn fits_place(place: u32, count: u32) -> bool
     place <= count && (place as usize) < MOST_ROWS - 1
 }
 
-/// Whether a row fits at a place of the list of a clerk: at this one, or else behind the others.
+/// Whether a row fits at a place of the list of a clerk: at this one, or else after the others.
 fn fits_own(counts: &List<u32>, owner: u32, place: Option<u32>) -> bool
     ensures { IsTrue result ↔ ((owner < length counts.now)
         × FitsPlace (unwrap_or place (slice_index counts.now owner)) (slice_index counts.now owner)) }

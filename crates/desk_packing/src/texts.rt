@@ -1,4 +1,4 @@
-//! Bytes behind their number, and texts.
+//! Bytes after their number, and texts.
 ghost use Rattle.std.specs.Prelude.{◌≡◌, ◌++◌, ◌<◌, ◌≤◌, ◌^◌, true, false, Some, None, IfOk, OnOk, IsErrOf};
 ghost use Rattle.std.specs.Prelude.{option_map, length};
 ghost use Rattle.desk_packing.specs.Formats.{bytes, is_text, split, text};
@@ -8,7 +8,7 @@ use crate::packs::Packs;
 use desk_base::{List, Text, TextFault};
 use std::alloc::Global;
 
-/// Writes the number of bytes and then the bytes, behind what is there.
+/// Writes the number of bytes and then the bytes, after what is there.
 pub fn pack_bytes(body: &List<u8>, out: &mut Vec<u8>) -> Result<(), FieldFault>
     ensures packed { OnOk result (out.new.items ≡ out.old.items ++ bytes.print body.now) }
     ensures fits { OnOk result (bytes.Fits body.now) }
@@ -31,7 +31,7 @@ pub fn count_of(count: usize) -> Result<u32, FieldFault>
     }
 }
 
-/// Reads bytes behind their number, and answers them with the bytes behind them.
+/// Reads bytes after their number, and answers them with the bytes after them.
 pub fn unpack_bytes(alloc: Global, packed: &[u8]) -> Result<(List<u8>, &[u8]), UnpackFault>
     ensures read { IfOk result (λ found. bytes.parse packed.now ≡ Some (found.0, found.1.now)) }
     ensures damaged { IsErrOf result UnpackFault.Damaged → bytes.parse packed.now ≡ None }
@@ -41,7 +41,7 @@ pub fn unpack_bytes(alloc: Global, packed: &[u8]) -> Result<(List<u8>, &[u8]), U
     Ok((List::from_vec(Vec::from_slice(alloc, body)?), rest))
 }
 
-/// So many bytes in front, and those behind them.
+/// So many bytes in front, and those after them.
 pub fn split(count: usize, bytes: &[u8]) -> Result<(&[u8], &[u8]), UnpackFault>
     ensures read { IfOk result (λ found. split count bytes.now ≡ Some (found.0.now, found.1.now)) }
     ensures length { IfOk result (λ found. length found.0.now ≡ count) }

@@ -39,7 +39,7 @@ pub fn unpack(alloc: Global, rows: &[PackedRow]) -> Result<Unpacked, UnpackFault
     }
 }
 
-/// Reads back the tables of rows that stand behind the one of the version.
+/// Reads back the tables of rows that stand after the one of the version.
 fn unpack_behind(
     alloc: Global,
     first: &PackedRow,
@@ -106,7 +106,7 @@ fn unpack_tables(alloc: Global, is_old: bool, rows: &[PackedRow]) -> Result<Tabl
     Err(UnpackFault::Damaged)
 }
 
-/// Reads the rows of a list that stand in front, and answers them with the rows behind them.
+/// Reads the rows of a list that stand in front, and answers them with the rows after them.
 fn take_list<T: TableRow + Drop>(
     alloc: Global,
     is_old: bool,
@@ -131,7 +131,7 @@ fn take_list<T: TableRow + Drop>(
 }
 
 /// Reads the clerks' own lists of one kind, a list for each clerk, that stand in front, and answers them with the rows
-/// behind them.
+/// after them.
 fn take_lists<T: TableRow + Drop>(
     alloc: Global,
     is_old: bool,

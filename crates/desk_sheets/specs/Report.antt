@@ -4,7 +4,7 @@ use Rattle.desk_base.specs.Texts.{line}
 use Rattle.desk_words.specs.declared.report.ReportLine.{ReportLine}
 use Rattle.desk_words.specs.declared.report.ReportSheet.{ReportSheet}
 
--- a number, behind a space
+-- a number, after a space
 abbrev pub spaced : ℕ → List ℕ
 spaced number = 32 ∷ decimal number
 

@@ -4,7 +4,7 @@ use Rattle.std.specs.declared.alloc.Global.{Global}
 use Rattle.csv.specs.Writing.{default_writer, fields_written, has_written, row_text, text_written, writer_setup}
 use Rattle.csv.specs.declared.writer.Writer.{Writer}
 
--- these records, and it stands behind the last of them
+-- these records, and it stands after the last of them
 pub record HasWritten (writer : Writer (Vec ℕ Global)) (rows : List (List (List ℕ))) : Type 0 where
   pub setup : writer_setup writer ≡ default_writer
   pub ended : fields_written writer ≡ 0

@@ -22,7 +22,7 @@ pub fn report_text(alloc: Global, sheet: &ReportSheet) -> Result<List<u8>, NoMem
     Ok(List::from_vec(text))
 }
 
-/// Puts the first line behind a text: a clerk's name, or that these are the sessions of all.
+/// Puts the first line after a text: a clerk's name, or that these are the sessions of all.
 fn push_title(text: &mut Vec<u8>, clerk: &Option<Text>) -> Result<(), NoMemory>
     ensures { OnOk result (text.new.items ≡ text.old.items ++ title clerk.now) }
 {
@@ -46,7 +46,7 @@ fn push_lines(text: &mut Vec<u8>, lines: &[ReportLine]) -> Result<(), NoMemory>
     Ok(())
 }
 
-/// Puts the line of an edition behind a text.
+/// Puts the line of an edition after a text.
 fn push_line(text: &mut Vec<u8>, line: &ReportLine) -> Result<(), NoMemory>
     ensures { OnOk result (text.new.items ≡ text.old.items ++ edition_line line.now) }
 {
@@ -84,7 +84,7 @@ fn push_numbers(text: &mut Vec<u8>, numbers: &[u64]) -> Result<(), NoMemory>
     Ok(())
 }
 
-/// Puts a space and a number behind a text.
+/// Puts a space and a number after a text.
 fn push_number(text: &mut Vec<u8>, number: u64) -> Result<(), NoMemory>
     ensures { OnOk result (text.new.items ≡ text.old.items ++ spaced number) }
 {
@@ -94,7 +94,7 @@ fn push_number(text: &mut Vec<u8>, number: u64) -> Result<(), NoMemory>
     Ok(())
 }
 
-/// Puts the sum of the sessions behind a text.
+/// Puts the sum of the sessions after a text.
 fn push_total(text: &mut Vec<u8>, total: u64) -> Result<(), NoMemory>
     ensures { OnOk result (text.new.items ≡ text.old.items ++ total_line total) }
 {

@@ -6,7 +6,7 @@ ghost use Rattle.desk_sheets.specs.Writing.{HasWritten};
 use csv::Writer;
 use desk_base::{NoMemory, Text};
 
-/// Puts texts behind the fields of a row.
+/// Puts texts after the fields of a row.
 pub fn push_texts<'a>(fields: &mut Vec<&'a [u8]>, texts: &'a [Text]) -> Result<(), NoMemory>
     ensures { OnOk result (bytes_of fields.new.items ≡ bytes_of fields.old.items ++ texts.now) }
 {

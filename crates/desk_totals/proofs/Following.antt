@@ -18,7 +18,7 @@ use Rattle.desk_valid.specs.Tallies.{active_count, bytes_in, record_bytes, text_
 use Rattle.desk_totals.specs.declared.totals.Totals.{Totals}
 use Rattle.desk_totals.specs.Totals.{AreTexts, AreTotals, no_totals, totals_of}
 
--- behind the others stands what is read where nothing is
+-- after the others stands what is read where nothing is
 get_or-push_default : {A : Type 0} (items : List A) (place : ℕ) (default : A)
     → get_or (items ++ default ∷ []) place default ≡ get_or items place default
 get_or-push_default [] zero default = refl
@@ -133,7 +133,7 @@ module _ (rows : Rows) (totals : List Totals) (whole : AreTables rows) (are : Ar
         kept = are.kept;
       }
 
-  -- a record is put behind the others of a clerk
+  -- a record is put after the others of a clerk
   pub AreTotals-record : (clerk : ℕ) (row : RecordRow) → Fits rows (Record clerk row) → AreTexts row.texts
       → AreTotals (changed rows (Record clerk row))
       (set totals clerk (totals_of (list_at rows.sessions clerk) (list_at rows.records clerk ++ row ∷ [])))

@@ -38,7 +38,7 @@ cells_read-few name (Err fault) sound = omega arith
 
 -- so a row has at most 960,000 cells
 pub cells_in-few : (row : MasterRow) → cells_in row ≤ 960000
-cells_in-few row = cells_read-few row.name (read_sheet row.body) (λ master is. IsMaster-read_sheet row.body master is)
+cells_in-few row = cells_read-few row.name (read_sheet row.body) (λ master is. IsMaster-read_sheet _ row.body master is)
 
 -- and all rows have that many each at most
 pub master_cells-le : (masters : List MasterRow) → master_cells masters ≤ length masters * 960000

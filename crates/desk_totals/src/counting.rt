@@ -77,7 +77,7 @@ fn count_session(
     totals.set(clerk, Totals { active, bytes });
 }
 
-/// Counts a record that is about to be put behind the others.
+/// Counts a record that is about to be put after the others.
 fn count_record(totals: &mut Room<Totals>, tables: &Tables, clerk: usize, row: &RecordRow)
     requires fits { Fits (rows_of tables.now) (Change.Record clerk row.now) }
     requires whole { AreTables (rows_of tables.now) }

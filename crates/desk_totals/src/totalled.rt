@@ -113,7 +113,7 @@ impl Totalled {
         if changes.is_empty() {
             return Ok(());
         }
-        // All that may want memory comes before the commit, so that nothing behind it can refuse.
+        // All that may want memory comes before the commit, so that nothing after it can refuse.
         let cells = cells_with(alloc, self.cells, changes.as_slice())?;
         let fresh = make_all_room(
             alloc,

@@ -19,7 +19,7 @@ pub narrow-outline : (body : List ℕ) (outline : Outline) → read_outline body
     → length outline.columns ≤ MAX_COLUMNS
 narrow-outline body outline is =
     let (master, reads, outlined) = outlined-master (read_sheet body) outline is in
-    let sound = IsMaster-read_sheet body master reads in
+    let sound = IsMaster-read_sheet _ body master reads in
     rw (ap (λ (one : Outline). length one.columns) outlined) at sound.narrow
 
 -- the header that is told by the outline of a master is the master's
@@ -35,7 +35,7 @@ pub header_in-outline : (row : MasterRow) (outline : Outline) → read_outline r
     → Some (header_over outline) ≡ header_in row
 header_in-outline row outline is =
     let (master, reads, outlined) = outlined-master (read_sheet row.body) outline is in
-    let sound = IsMaster-read_sheet row.body master reads in
+    let sound = IsMaster-read_sheet _ row.body master reads in
     ap (λ (one : Outline). Some (header_over one)) (sym outlined)
     ∙ ap (λ (one : Header). Some one) (header_over-outline master sound.width)
     ∙ ap (λ (given : Result Master SheetFault). option_map header_of (read given)) (sym reads)

@@ -6,8 +6,9 @@ use Rattle.std.proofs.lemmas.List.{length-map, map-append, get_or-map, take_more
 use Rattle.std.proofs.lemmas.List.Elements.{All-map, All-nil}
 use Rattle.std.proofs.lemmas.Option.{option_and_then_some, same_Some}
 use Rattle.schema_core.specs.Schemas.{IsSchema}
+use Rattle.desk_base.specs.declared.limits.TheConstants.{MAX_SHEET_ROWS}
 use Rattle.master_rows.specs.declared.master.Master.{Master}
-use Rattle.master_rows.specs.Master.{IsMaster, IsRow}
+use Rattle.master_rows.specs.Master.{IsMaster, IsMasterWithin, IsRow}
 use Rattle.master_rows.specs.Sheet.{read_sheet}
 use Rattle.master_rows.proofs.Masters.{IsMaster-read_sheet}
 use Rattle.rule_text.specs.Binding.{AreMasters}
@@ -166,14 +167,26 @@ master_at-sound rows place master is =
     let Sound : List ℕ × Master → Type 0 = λ one. IsMaster one.1 × (name_at rows place ≡ Some one.0) in
     let name : Option MasterRow → Option (List ℕ) = λ found. option_map (λ one. one.name) found in
     subst Sound named_is (
-      IsMaster-read_sheet row.body found (Ok-from_read (read_sheet row.body) found reading),
+      IsMaster-read_sheet _ row.body found (Ok-from_read (read_sheet row.body) found reading),
       ap
           name stands,
     ))
 
--- without its rows it is a master too
-IsMaster-bare : (master : Master) → IsMaster master → IsMaster (bare_master master)
-IsMaster-bare master is = record {
+-- a master of the desk is one of those that bind
+IsMasterWithin-desk : (master : Master) → IsMaster master → IsMasterWithin MAX_SHEET_ROWS master
+IsMasterWithin-desk master is = record {
+  headed = is.headed;
+  narrow = is.narrow;
+  columns = is.columns;
+  distinct = is.distinct;
+  width = is.width;
+  few = omega (arith, is.few);
+  rows = is.rows;
+}
+
+-- without its rows it is one too
+IsMasterWithin-bare : (master : Master) → IsMaster master → IsMasterWithin MAX_SHEET_ROWS (bare_master master)
+IsMasterWithin-bare master is = record {
   headed = is.headed;
   narrow = is.narrow;
   columns = is.columns;
@@ -206,8 +219,8 @@ module _ (rows : Published) (places : List ℕ) (masters : List (List ℕ × Mas
   pub AreMasters-whole : length places ≤ 8 → AreNamedApart rows places → AreMasters masters
   AreMasters-whole few named = record {
     few = omega (arith, as_many);
-    each = λ place d within. (master_at-sound rows (get_or places place 0) (get_or masters place d)
-        (found place d within)).0;
+    each = λ place d within. IsMasterWithin-desk _ (master_at-sound rows (get_or places place 0)
+        (get_or masters place d) (found place d within)).0;
     named_apart = apart named;
   }
 
@@ -215,8 +228,8 @@ module _ (rows : Published) (places : List ℕ) (masters : List (List ℕ × Mas
   pub AreMasters-bare : length places ≤ 8 → AreNamedApart rows places → AreMasters (map bare_pair masters)
   AreMasters-bare few named = record {
     few = rw length-map (omega (arith, as_many));
-    each = All-map (λ master. IsMaster master.1) bare_pair masters
-        (λ place d within. IsMaster-bare _ (master_at-sound rows (get_or places place 0) (get_or masters place d)
+    each = All-map (λ master. IsMasterWithin MAX_SHEET_ROWS master.1) bare_pair masters
+        (λ place d within. IsMasterWithin-bare _ (master_at-sound rows (get_or places place 0) (get_or masters place d)
         (found place d within)).0);
     named_apart = λ i j d before within same.
         let inside : j < length masters = rw length-map at within in

@@ -1,4 +1,4 @@
--- The first row through the lists of the clerks, one behind the other.
+-- The first row through the lists of the clerks, one after the other.
 use Rattle.std.proofs.Common.{◌≡◌, ℕ, ◌+◌, ◌*◌, ◌<◌, ◌≤◌, List, [], length, take, Some, sym, subst, ap, inl, inr, arith}
 use Rattle.std.specs.Prelude.{All, slice_get, sum_by}
 use Rattle.std.proofs.lemmas.Bool.{cases_lt, cases_order}
@@ -24,7 +24,7 @@ rows_before-more {T} lists clerk =
           omega (arith, ap total all, ap total more, ap length none)
     ]
 
--- a later clerk's rows stand behind those of an earlier one
+-- a later clerk's rows stand after those of an earlier one
 rows_before-later : {T : Type 0} (lists : List (List T)) (clerk other : ℕ) → clerk < other
     → rows_before lists clerk + length (list_at lists clerk) ≤ rows_before lists other
 rows_before-later {T} lists clerk other less =
@@ -58,7 +58,7 @@ module _ {T : Type 0} (lists : List (List T)) (IsGood : ℕ → ℕ → T → Ty
       let Before : ℕ → Type 0 = λ n. EachBefore (list_at lists n) (IsGood n) own in
       fails.bad (subst Before (sym same) before place fails.row below fails.stands)
 
-  -- the first bad row of a list, behind lists of good rows
+  -- the first bad row of a list, after lists of good rows
   pub IsFirstOwn-found : (before clerk own : ℕ) → AreCounted lists IsGood before clerk
       → IsFirstBad (list_at lists clerk) (IsGood clerk) (Some own) → IsFirstOwn lists IsGood (Some (before + own))
   IsFirstOwn-found before clerk own have found =

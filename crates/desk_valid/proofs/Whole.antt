@@ -70,7 +70,7 @@ undamaged rows Records whole place fails =
 undamaged rows Batches whole place fails =
     fails.fails.bad (whole fails.clerk fails.own fails.fails.row fails.fails.stands)
 
--- the first damaged row of a table behind whole ones is the first damage
+-- the first damaged row of a table after whole ones is the first damage
 pub IsFirstDamage-from : (rows : Rows) (table : Table) (place : ℕ)
     → ((other : Table) → number_of other < number_of table → IsWhole rows other)
     → IsFirstDamaged rows table (Some place) → IsFirstDamage rows (record { table = number_of table; row = place + 1 })

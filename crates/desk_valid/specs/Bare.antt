@@ -38,7 +38,7 @@ counted counts kit place = slice_index_or counts (rule_at kit place).master 0
 abbrev pub entries_over : List ℕ → Kit → ℕ
 entries_over counts kit = sum_by (counted counts kit) (places_of_triples kit)
 
--- these with one more behind them
+-- these with one more after them
 abbrev pub with_master : Bare → List ℕ → Header → Bare
 with_master bare name header = record {
   masters = bare.masters ++ (name, header.bare) ∷ [];

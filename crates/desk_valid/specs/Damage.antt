@@ -35,7 +35,7 @@ pub record FailsAt {T : Type 0} (rows : List T) (IsGood : ℕ → T → Type 0) 
 abbrev pub rows_before : {T : Type 0} → List (List T) → ℕ → ℕ
 rows_before lists clerk = sum_by length (take clerk lists)
 
--- a row of a clerk's list is not good; places count through the lists of the clerks, one behind the other
+-- a row of a clerk's list is not good; places count through the lists of the clerks, one after the other
 pub record FailsOwn {T : Type 0} (lists : List (List T)) (IsGood : ℕ → ℕ → T → Type 0) (place : ℕ) : Type 0 where
   pub clerk : ℕ
   pub own : ℕ

@@ -23,7 +23,7 @@ abbrev pub IsFirstBad : {T : Type 0} → List T → (ℕ → T → Type 0) → O
 IsFirstBad rows IsGood None = EachAt rows IsGood
 IsFirstBad rows IsGood (Some place) = FailsAt rows IsGood place × EachBefore rows IsGood place
 
--- the same through the lists of the clerks, one behind the other
+-- the same through the lists of the clerks, one after the other
 abbrev pub IsFirstOwn : {T : Type 0} → List (List T) → (ℕ → ℕ → T → Type 0) → Option ℕ → Type 0
 IsFirstOwn lists IsGood None = EachOwn lists IsGood
 IsFirstOwn lists IsGood (Some place) =

@@ -20,7 +20,7 @@ pub(crate) struct Bare {
 }
 
 impl Bare {
-    /// Adds a master behind the others.
+    /// Adds a master after the others.
     fn push(&mut self, name: &Text, header: &Header) -> Result<(), NoMemory>
         ensures { OnOk result (self.new ≡ with_master self.old name.now header.now) }
     {

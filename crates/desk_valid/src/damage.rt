@@ -11,7 +11,7 @@ use thiserror::Error;
 pub struct Damage {
     /// The number of the table, 1 to 9.
     pub table: u8,
-    /// The row, counted from 1, in the last three tables through the lists of the clerks, one behind the other.
+    /// The row, counted from 1, in the last three tables through the lists of the clerks, one after the other.
     pub row: u64,
 }
 

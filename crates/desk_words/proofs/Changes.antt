@@ -36,7 +36,7 @@ IsShort-put : {T : Type 0} (items : List T) (place : ℕ) (item : T) → FitsAt 
     (put items place item)
 IsShort-put {T} items place item fits short = grind (arith, nat_tests, length-put items place item)
 
--- so does one that an item fits behind
+-- so does one that an item fits after
 IsShort-behind : {T : Type 0} (items : List T) (item : T) → FitsBehind items → IsShort (items ++ item ∷ [])
 IsShort-behind {T} items item fits = grind (arith, length-append {A = T})
 

@@ -6,7 +6,7 @@ use Rattle.desk_words.specs.declared.change.Change.TheVariants.{Session, Record,
 use Rattle.desk_words.specs.declared.rows.clerk.ClerkRow.{ClerkRow}
 use Rattle.desk_words.specs.Tables.{Rows, list_at, row_limit}
 
--- the list with the item at the place, or behind the others where the place is the length
+-- the list with the item at the place, or after the others where the place is the length
 abbrev pub put : {T : Type 0} → List T → ℕ → T → List T
 put items place item = if place == length items then items ++ item ∷ [] else slice_set items place item
 
@@ -14,7 +14,7 @@ put items place item = if place == length items then items ++ item ∷ [] else s
 abbrev pub with_list : {T : Type 0} → List (List T) → ℕ → List T → List (List T)
 with_list lists clerk list = slice_set lists clerk list
 
--- one empty list more where a clerk is put behind so many others
+-- one empty list more where a clerk is put after so many others
 abbrev pub with_clerk : {T : Type 0} → List (List T) → ℕ → ℕ → List (List T)
 with_clerk lists place clerks = if place == clerks then lists ++ [] ∷ [] else lists
 
@@ -47,11 +47,11 @@ abbrev pub changed_all : Rows → List Change → Rows
 changed_all rows [] = rows
 changed_all rows (change ∷ changes) = changed_all (changed rows change) changes
 
--- an item fits at this place of a list: at most behind the others, and the list stays below its limit
+-- an item fits at this place of a list: at most after the others, and the list stays below its limit
 abbrev pub FitsAt : {T : Type 0} → ℕ → List T → Type 0
 FitsAt place items = (place ≤ length items) × (place + 1 < row_limit)
 
--- an item fits behind the others of a list
+-- an item fits after the others of a list
 abbrev pub FitsBehind : {T : Type 0} → List T → Type 0
 FitsBehind items = FitsAt (length items) items
 

@@ -51,7 +51,7 @@ items_of room = room.items
 abbrev pub lists_of : {T : Type 0} → Roomy (Roomy T) → List (List T)
 lists_of rooms = map items_of rooms.items
 
--- the rows that stand in the rooms; the places reserved behind them are left out
+-- the rows that stand in the rooms; the places reserved after them are left out
 abbrev pub rows_of : Tables → Rows
 rows_of tables = record {
   clerks = tables.clerks.items;

@@ -13,25 +13,25 @@ use desk_base::{Duplicate, NoMemory};
 /// A row that is put into a table. `specs/Changes.antt` says what each change does, and which changes fit.
 #[derive(Debug, Drop)]
 pub enum Change {
-    /// A caller at a place, or behind the others where the place is their number; a new one has empty lists of
+    /// A caller at a place, or after the others where the place is their number; a new one has empty lists of
     /// sessions, records and batches.
     Clerk(u32, ClerkRow),
-    /// Behind the other schemas.
+    /// After the other schemas.
     Schema(SchemaRow),
-    /// Behind the other masters.
+    /// After the other masters.
     Master(MasterRow),
-    /// Behind the other rulebooks.
+    /// After the other rulebooks.
     Rulebook(RulebookRow),
-    /// Behind the other editions.
+    /// After the other editions.
     Edition(EditionRow),
-    /// Behind the other regions.
+    /// After the other regions.
     Region(RegionRow),
-    /// A session of the clerk whose place is the first number: at the place that is the second number, or behind that
+    /// A session of the clerk whose place is the first number: at the place that is the second number, or after that
     /// clerk's others.
     Session(u32, u32, SessionRow),
-    /// Behind the other records of the clerk at this place.
+    /// After the other records of the clerk at this place.
     Record(u32, RecordRow),
-    /// Behind the other batches of the clerk at this place.
+    /// After the other batches of the clerk at this place.
     Batch(u32, BatchRow),
 }
 

@@ -1,5 +1,14 @@
 //! What is looked at at the desk.
+use crate::proposal::Proposal;
 use desk_base::{List, Str};
+
+/// What is published as a text, which stays as it was sent.
+#[derive(Clone, Copy, Debug, PartialEq, Eq)]
+pub enum Publication {
+    Schema,
+    Master,
+    Rulebook,
+}
 
 /// What is looked at at the desk, whoever asks. Nothing changes.
 #[derive(Debug, Drop)]
@@ -32,4 +41,18 @@ pub enum DeskLook {
         version: u32,
         region: u32,
     },
+    /// A version of a schema, a master or a rulebook, as it was published.
+    Body {
+        what: Publication,
+        name: Str,
+        version: u32,
+    },
+    /// Where the master of a rule of a version of an edition contradicts itself.
+    Contradictions {
+        edition: Str,
+        version: u32,
+        rule: Str,
+    },
+    /// What publishing this next would come to.
+    Check(Proposal),
 }

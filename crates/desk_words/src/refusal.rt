@@ -13,6 +13,7 @@ pub enum Kind {
     Session,
     Region,
     Row,
+    Rule,
 }
 
 /// Which reader refuses a body.

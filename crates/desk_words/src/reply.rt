@@ -1,12 +1,15 @@
 //! What is answered.
 use crate::blocked::Blocked;
 use crate::choices::Choices;
+use crate::contradictions::ContradictionSheet;
+use crate::desk_look::Publication;
+use crate::fits::Fits;
 use crate::made::{Batched, Made};
 use crate::published::{Catalogue, EditionSheet, MasterRowSheet, RegionSheet};
 use crate::refusal::Refusal;
 use crate::report::{RecordSheet, ReportSheet, SessionPage};
 use crate::view::View;
-use desk_base::{List, Text};
+use desk_base::{List, Str, Text};
 
 /// What may be confirmed next.
 #[derive(Debug, Drop)]
@@ -78,5 +81,15 @@ pub enum Reply {
     Region(RegionSheet),
     Choices(Choices),
     Blocked(Blocked),
+    /// What was published, byte for byte.
+    Body(Publication, List<u8>),
+    Contradictions(ContradictionSheet),
+    /// What a proposal that fits would be made to.
+    Fits(Fits),
+    /// Why a proposal would be refused, with a sentence for a person.
+    Unfit {
+        refusal: Refusal,
+        says: Str,
+    },
     Refused(Refusal),
 }

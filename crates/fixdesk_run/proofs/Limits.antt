@@ -25,7 +25,7 @@ of_limit (Some limit) least = either (nat_le limit 1000000) (Some (Pipe limit)) 
 of_digits : (digits : List ℕ) → IsLimited (limited (positive 7 digits))
 of_digits digits = of_limit (positive 7 digits) (λ limit is. (positive-bounds 7 digits limit is).0)
 
--- the one of the words behind `pipe`
+-- the one of the words after `pipe`
 of_pipe : (words : List (List ℕ)) → IsLimited (pipe_of words)
 of_pipe [] = lit≤ tt
 of_pipe (option ∷ []) = tt
@@ -49,7 +49,7 @@ of_numbers None start = tt
 of_numbers (Some sessions) None = tt
 of_numbers (Some sessions) (Some start) = of_both sessions start _ refl
 
--- those of the words behind it
+-- those of the words after it
 of_make : (words : List (List ℕ)) → IsLimited (make_of words)
 of_make [] = tt
 of_make (sessions ∷ []) = tt

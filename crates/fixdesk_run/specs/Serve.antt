@@ -24,7 +24,7 @@ use Rattle.fixdesk_run.specs.World.{IsUncalled, loaded}
 abbrev pub serve_usage : List ℕ
 serve_usage = line (codes "usage: fixdeskd PORT COUNT")
 
--- the line behind the last of so many links, so many of which ended early
+-- the line after the last of so many links, so many of which ended early
 abbrev pub served_line : ℕ → ℕ → List ℕ
 served_line count early = line (codes "served " ++ decimal count ++ codes " early " ++ decimal early)
 
@@ -117,7 +117,7 @@ MayBeSaid None old text = text ≡ serve_usage
 MayBeSaid (Some plan) old text = ((early : ℕ) × (early ≤ plan.count) × (text ≡ served_line plan.count early))
     ⊎ MayBeDamageLine old.world.told text
 
--- an output that takes so many bytes takes each line that may be due behind the last link
+-- an output that takes so many bytes takes each line that may be due after the last link
 abbrev pub TakesTally : (ℕ → Type 0) → ℕ → Type 0
 TakesTally takes count = (early : ℕ) → early ≤ count → takes (length (served_line count early))
 

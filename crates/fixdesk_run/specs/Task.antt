@@ -6,7 +6,7 @@ use Rattle.http_cut.specs.Numbers.{positive}
 use Rattle.fixdesk_run.specs.declared.task.Task.{Task}
 use Rattle.fixdesk_run.specs.declared.task.Task.TheVariants.{Once, Pipe, Report, Make}
 
--- behind the word stands no other
+-- after the word stands no other
 abbrev pub alone : Task → List (List ℕ) → Option Task
 alone task [] = Some task
 alone task (word ∷ others) = None
@@ -16,7 +16,7 @@ abbrev pub limited : Option ℕ → Option Task
 limited None = None
 limited (Some limit) = if nat_le limit 1000000 then Some (Pipe limit) else None
 
--- behind `pipe` stands nothing, and the limit is 100,000; or `--limit` with decimal digits that do not begin with 0
+-- after `pipe` stands nothing, and the limit is 100,000; or `--limit` with decimal digits that do not begin with 0
 abbrev pub pipe_of : List (List ℕ) → Option Task
 pipe_of [] = Some (Pipe 100000)
 pipe_of (option ∷ []) = None
@@ -34,7 +34,7 @@ made_from (Some sessions) None = None
 made_from (Some sessions) (Some start) =
     if nat_le sessions 5000 && nat_lt start (2 ^ 31) then Some (Make sessions start) else None
 
--- behind `make` stand how many sessions, in decimal digits that do not begin with 0, and a start
+-- after `make` stand how many sessions, in decimal digits that do not begin with 0, and a start
 abbrev pub make_of : List (List ℕ) → Option Task
 make_of [] = None
 make_of (sessions ∷ []) = None

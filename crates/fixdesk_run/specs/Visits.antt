@@ -26,7 +26,7 @@ pub record IsVisit (before : Standing) (visit : Visit) : Type 0 where
   pub streams : Streams 1 (scene_at visit.opened before) (scene_at visit.closed visit.after) visit.end
   pub answers : visit.answers ≡ streams.answers
 
--- the stream ended otherwise than behind its request, or at once
+-- the stream ended otherwise than after its request, or at once
 abbrev pub is_early : Ended → Bool
 is_early Clean = false
 is_early Limit = false
@@ -83,7 +83,7 @@ abbrev pub AreHandedOut : Option (List (List ℕ)) → Option (List (List ℕ)) 
 AreHandedOut None new visits = new ≡ None
 AreHandedOut (Some waiting) new visits = AreFirst waiting new visits
 
--- the links stand behind those that were closed before, where the door tells these
+-- the links stand after those that were closed before, where the door tells these
 abbrev pub AreClosed : Option (List LinkSeen) → Option (List LinkSeen) → List Visit → Type 0
 AreClosed None new visits = new ≡ None
 AreClosed (Some closed) new visits = new ≡ Some (closed ++ map (λ visit. visit.closed) visits)

@@ -194,7 +194,7 @@ fn summary_line(alloc: Global, counted: &ReportLine) -> Result<List<u8>, NoMemor
     Ok(List::from_vec(text))
 }
 
-/// Puts a word and a number behind a text.
+/// Puts a word and a number after a text.
 fn push_count(text: &mut Vec<u8>, word: &str, number: u64) -> Result<(), NoMemory>
     ensures { OnOk result (text.new.items ≡ text.old.items ++ word.now ++ decimal number) }
 {

@@ -55,8 +55,8 @@ impl ServeEnd {
 /// how many links, from 1 to 1,000,000. Answers the exit status (docs/formats.md, *Statuses of `fixdeskd`*).
 ///
 /// A machine `M` begins over the keeper's tables, and the door is bound to the port. Then the links are served one
-/// after another, each with at most one request, and closed. A link whose stream ends otherwise than behind its
-/// request, or at once, ends alone. Behind the last a line is written that says how many links there were and how many
+/// after another, each with at most one request, and closed. A link whose stream ends otherwise than after its
+/// request, or at once, ends alone. After the last a line is written that says how many links there were and how many
 /// ended so, with status 0. All other words are answered with the usage line, with status 1. An output that fails gives
 /// 3, a keeper that fails at the beginning 4, want of memory 5, damaged tables a line that names the first damaged row,
 /// with status 6, and a door that fails 9. At 1, 4, 5 and 6 the door was not called.

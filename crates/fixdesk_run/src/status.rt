@@ -19,7 +19,7 @@ pub enum Status {
     NoMemory,
     /// The keeper's tables are damaged, and the line that names the first damaged row was written.
     Damaged,
-    /// The input was refused, or ended otherwise than behind a whole request.
+    /// The input was refused, or ended otherwise than after a whole request.
     Refused,
     /// As many requests were answered as may be.
     Limit,

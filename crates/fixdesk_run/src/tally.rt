@@ -1,4 +1,4 @@
-//! The line that is due behind the last link. Room for it is taken before the first.
+//! The line that is due after the last link. Room for it is taken before the first.
 ghost use Rattle.std.specs.Prelude.{◌≡◌, ◌+◌, ◌≤◌, ◌++◌, length, vec_capacity, codes, decimal, IfOk};
 ghost use Rattle.fixdesk_run.specs.Serve.{served_line};
 
@@ -9,7 +9,7 @@ use std::alloc::Global;
 /// The most bytes of the end of the line: ten digits, and LF.
 const END: usize = 11;
 
-/// The front of the line behind so many links, with room for its end.
+/// The front of the line after so many links, with room for its end.
 pub fn begin_line(alloc: Global, count: u32) -> Result<Vec<u8>, NoMemory>
     ensures front { IfOk result
         (λ line. line.items ≡ codes "served " ++ decimal count ++ codes " early ") }

@@ -64,7 +64,7 @@ fn alone(task: Task, others: &[String]) -> Option<Task>
     }
 }
 
-/// The task of the words behind `pipe`.
+/// The task of the words after `pipe`.
 fn pipe_of(others: &[String]) -> Option<Task>
     ensures { result ≡ pipe_of (map string_bytes others.now) }
 {
@@ -87,7 +87,7 @@ fn limited(limit: Option<u64>) -> Option<Task>
     }
 }
 
-/// The task of the words behind `make`.
+/// The task of the words after `make`.
 fn make_of(others: &[String]) -> Option<Task>
     ensures { result ≡ make_of (map string_bytes others.now) }
 {

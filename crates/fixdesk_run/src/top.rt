@@ -27,7 +27,7 @@ const USAGE: &[u8] = b"usage: fixdesk once | pipe [--limit N] | report | make N 
 /// `once` takes the link's bytes, at most 1,048,577 of them, and writes the answer to the case that they
 /// are, with status 0, or the line that refuses them, with status 7. `pipe` begins a machine `M` over the keeper's
 /// tables and answers the requests that the link has left, at most 100,000 or as many as `--limit` says: with status 0
-/// to the end of the bytes, 7 where they end otherwise than behind a whole request, 8 at the limit. `report` writes the
+/// to the end of the bytes, 7 where they end otherwise than after a whole request, 8 at the limit. `report` writes the
 /// report over all sessions in the keeper's tables, with status 0. `make N START` serves a stream of its own, with N
 /// sessions, over an empty desk in memory, and writes how these sessions stand, with status 0; it touches neither the
 /// keeper nor what the link has left. All other words are answered with the usage line, with status 1. A link that

@@ -81,7 +81,7 @@ fn serve_next<M: Machine + Drop, K: Keeper, L: Listener>(
     Ok(end)
 }
 
-/// Whether a stream ended otherwise than behind its request, or at once.
+/// Whether a stream ended otherwise than after its request, or at once.
 fn is_early(end: Ended) -> bool
     ensures { result ≡ is_early end }
 {

@@ -182,14 +182,14 @@ behind_head head fields rest is all =
     (flat_map print_field fields ++ rest) (NoFeed-start head is)))
     ∙ behind_fields fields rest all
 
--- ---- behind the empty lines
+-- ---- after the empty lines
 
 pub BeginsNoLine-token : (word rest : List ℕ) → 0 < length word → AllPass is_token_byte word
     → BeginsNoLine (word ++ rest)
 BeginsNoLine-token word rest some all end behind e =
     newline_not_stopped end behind (word ++ rest) (sym e) (Stops_token word rest some all)
 
--- one text stands behind the empty lines
+-- one text stands after the empty lines
 pub behind_blank : (first then : List LineEnd) (text other : List ℕ) → BeginsNoLine text → BeginsNoLine other
     → print_blank first ++ text ≡ print_blank then ++ other → text ≡ other
 behind_blank [] [] text other none no_other e = e

@@ -41,12 +41,12 @@ method_is_run text target end run (method, token, e) =
           (omega (arith, length-slice_range text 0 end run.ordered run.in_range), inside, cc)
     ]
 
--- one target stands behind the method
+-- one target stands after the method
 BeginsMethod_unique : (text a b : List ℕ) → BeginsMethod text a → BeginsMethod text b → a ≡ b
 BeginsMethod_unique text a b (m, token, e) (n, other, f) =
     (Method_deterministic.unique m n text a b (token.0, token.1, e) (other.0, other.1, f)).1
 
--- the test of the bytes behind the method
+-- the test of the bytes after the method
 pub target_test : (text target : List ℕ) → BeginsMethod text target
     → IsTrue (list_all is_uri_byte target) ↔ EndsBehindMethod text
 target_test text target begins = (
@@ -64,7 +64,7 @@ print_blank-push blank end =
     flat_map-append print_end blank (end ∷ [])
     ∙ ap (λ (t : List ℕ). print_blank blank ++ t) (append-nil (print_end end))
 
--- what stands behind them says whether the bytes end in a target
+-- what stands after them says whether the bytes end in a target
 pub EndsInTarget-behind : (bytes text : List ℕ) → SkipsLines bytes text → EndsBehindMethod text ↔ EndsInTarget bytes
 EndsInTarget-behind bytes text (blank, e, none) = (within, without)
   where

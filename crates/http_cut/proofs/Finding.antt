@@ -29,7 +29,7 @@ use Rattle.http_cut.proofs.Table.{ArePlain, table_plain, Has-plain}
 
 -- ---- segments
 
--- a word without a slash is its own segment, and a slash behind it ends the segment
+-- a word without a slash is its own segment, and a slash after it ends the segment
 segment-word : (word : List ℕ) → has_slash word ≡ false → segment word ≡ word
 segment-word [] free = refl
 segment-word (x ∷ word) free =
@@ -241,7 +241,7 @@ module _ {K : Type 0} where
   or_else-right (Some x) b some = refl
   or_else-right None b some = some
 
-  -- what is found behind a parameter, by the number of bytes that it takes and the rows that go on
+  -- what is found after a parameter, by the number of bytes that it takes and the rows that go on
   module _ (rows : RowsOf K) (key : K) (b : ℕ) (path : List ℕ) where
     abbrev suffix_found : List ℕ
     suffix_found = longest_suffix (segment (b ∷ path)) rows

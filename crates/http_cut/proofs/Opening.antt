@@ -1,5 +1,5 @@
 -- What `Partial` of httparse says of bytes: they may become a head of so few fields, or end in a target, or go on
--- behind the most fields.
+-- after the most fields.
 use Rattle.std.proofs.Common.{◌≡◌, ◌≢◌, ℕ, zero, suc, ◌+◌, ◌-◌, ◌<◌, ◌≤◌, ◌⊎◌, true, List, [], ◌∷◌, ◌++◌, length, take}
 use Rattle.std.proofs.Common.{drop, Option, Some, None, refl, sym, ap, ◌∙◌, subst, arith, append_assoc, append-nil}
 use Rattle.std.proofs.Common.{length-take, length-drop, take-append-drop, inl, inr}
@@ -35,7 +35,7 @@ BeginsNoLine-start head rest is end behind e =
     BeginsNoLine-token head.method (line ++ rest) is.method.0 is.method.1 end behind
     (sym (append_assoc head.method line rest) ∙ e)
 
--- ---- behind the most fields
+-- ---- after the most fields
 
 has_line : (count : ℕ) (text rest : List ℕ) → behind_lines (suc count) text ≡ Some rest
     → (behind : List ℕ) × (behind_line text ≡ Some behind)
@@ -52,7 +52,7 @@ unfolding behind_lines
 no_lines zero byte rest e = cc
 no_lines (suc count) byte rest e = cc
 
--- behind an empty line at the end nothing goes on
+-- after an empty line at the end nothing goes on
 last_line : (count : ℕ) (last : LineEnd) (byte : ℕ) (rest : List ℕ) → behind_lines count (print_end last ++ [])
     ≡ Some (byte ∷ rest)
     → byte ≢ 13 → byte ≢ 10 → ⊥
@@ -97,7 +97,7 @@ many_outside bytes (text, (blank, e, none), (byte, rest, lines, return, feed))
     ∙ ap behind_line (sym text_is) ∙ line.1 in
     cc
 
--- one text stands behind the empty lines, so it says whether the bytes go on
+-- one text stands after the empty lines, so it says whether the bytes go on
 pub many_behind : (bytes text : List ℕ) → SkipsLines bytes text → GoesOn text ↔ HasManyLines bytes
 many_behind bytes text (blank, e, none) = (
   λ goes. (text, (blank, e, none), goes),
@@ -194,7 +194,7 @@ MayBecomeRequest-cases bytes (inl (more, head, (is, e))) within =
           ]
     ]
 
--- where httparse waits, and the bytes don't go on behind the most fields, a head may come
+-- where httparse waits, and the bytes don't go on after the most fields, a head may come
 pub unfinished_awaits : (bytes : List ℕ) → HasNoRequest bytes → MayBecomeRequest bytes → length bytes < MAX_HEAD
     → ¬ (HasManyLines bytes)
     → AwaitsHead bytes

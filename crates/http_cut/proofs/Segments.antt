@@ -11,12 +11,12 @@ abbrev pub starts_segment : List ℕ → Bool
 starts_segment [] = true
 starts_segment (x ∷ rest) = x == 47
 
--- the pattern has ASCII bytes, and parameters with a slash or the end behind
+-- the pattern has ASCII bytes, and parameters with a slash or the end after
 abbrev pub is_plain : List ℕ → Bool
 is_plain [] = true
 is_plain (x ∷ rest) = (ltb x 128 || (x == param_token && starts_segment rest)) && is_plain rest
 
--- behind a parameter a segment starts
+-- after a parameter a segment starts
 pub behind_param : (pattern : List ℕ) → is_plain (param_token ∷ pattern) ≡ true → starts_segment pattern ≡ true
 behind_param pattern plain = (and_parts _ _ plain).0
 

@@ -12,6 +12,7 @@ use Rattle.http_cut.specs.declared.route.Route.{Route}
 use Rattle.http_cut.specs.declared.route.Route.TheVariants.{Steward, Clerk, Look, Desk}
 use Rattle.http_cut.specs.declared.route.StewardRoute.TheVariants.{AddMaster}
 use Rattle.http_cut.specs.declared.route.ClerkRoute.TheVariants.{Batch}
+use Rattle.http_cut.specs.declared.route.DeskRoute.TheVariants.{CheckMaster}
 use Rattle.http_cut.specs.declared.fields.BadLength.{BadLength}
 use Rattle.http_cut.specs.declared.front.HeadParts.{HeadParts}
 use Rattle.http_cut.specs.declared.step.BadRest.{BadRest}
@@ -31,6 +32,7 @@ route_limit-most (Steward asked) = omega arith
 route_limit-most (Clerk Batch) = omega arith
 route_limit-most (Clerk asked) = omega arith
 route_limit-most (Look asked) = omega arith
+route_limit-most (Desk CheckMaster) = omega arith
 route_limit-most (Desk asked) = omega arith
 
 match_limit-most : (found : Option Match) → match_limit found ≤ MAX_LONG_BODY
@@ -60,7 +62,7 @@ open_now bytes least short (inl (awaits, is)) = inl awaits
 open_now bytes least short (inr (head, count, announces, fits, is)) =
     inr (head, count, announces, fits, omega (arith, is))
 
--- bytes that become a bad rest with those behind them hold no head yet, and are few
+-- bytes that become a bad rest with those after them hold no head yet, and are few
 pub bad_before : (bytes more : List ℕ) (kind : BadRest) → IsOpen bytes → IsBadRest (bytes ++ more) kind
     → length bytes < MAX_HEAD
 bad_before bytes more kind (inl awaits) wrong = awaits.1

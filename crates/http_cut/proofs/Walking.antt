@@ -100,7 +100,7 @@ module _ (pattern path : List ℕ) where
   }
   over_bytes (all some) token at tokens_are path_is plain utf8 boundary = cc
 
-  -- behind the part of a parameter
+  -- after the part of a parameter
   pub record Goes (token stop : ℕ) : Type 0 where
     pub tokens : List ℕ
     pub stands : Stands tokens token stop

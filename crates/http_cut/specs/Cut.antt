@@ -77,7 +77,7 @@ IsEnd rest clean = rest ≡ []
 IsEnd rest (bad kind) = IsBadRest rest kind
 IsEnd rest (truncated count) = (rest ≢ []) × (count ≡ length rest) × IsOpen rest
 
--- the bytes begin with these requests, one behind another, and then rest
+-- the bytes begin with these requests, one after another, and then rest
 abbrev pub Begins : List ℕ → List WholeRequest → List ℕ → Type 0
 Begins bytes [] rest = bytes ≡ rest
 Begins bytes (request ∷ requests) rest =

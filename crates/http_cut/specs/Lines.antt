@@ -16,12 +16,12 @@ SkipsLines bytes text = (blank : List LineEnd) × (bytes ≡ print_blank blank +
 
 -- ---- counted lines
 
--- the bytes behind the first line feed
+-- the bytes after the first line feed
 abbrev pub behind_line : List ℕ → Option (List ℕ)
 behind_line [] = None
 behind_line (byte ∷ bytes) = if byte == 10 then Some bytes else behind_line bytes
 
--- the bytes behind so many lines
+-- the bytes after so many lines
 unfoldable pub behind_lines : ℕ → List ℕ → Option (List ℕ)
 behind_lines zero bytes = Some bytes
 behind_lines (suc count) bytes = option_and_then (behind_lines count) (behind_line bytes)
@@ -31,7 +31,7 @@ abbrev pub GoesOn : List ℕ → Type 0
 GoesOn text =
     (byte : ℕ) × (rest : List ℕ) × (behind_lines (MAX_FIELDS + 1) text ≡ Some (byte ∷ rest)) × (byte ≢ 13) × (byte ≢ 10)
 
--- the same behind empty lines
+-- the same after empty lines
 abbrev pub HasManyLines : List ℕ → Type 0
 HasManyLines bytes = (text : List ℕ) × SkipsLines bytes text × GoesOn text
 

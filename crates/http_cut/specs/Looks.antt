@@ -62,7 +62,7 @@ pub record ShowsRequest (bytes : List ℕ) (request : Request) (head : RequestHe
   pub body_fits : IsWithin (length bytes) request.body
   pub has_length : IsTrue request.has_length ↔ SaysLength head
 
--- a head stands whose body is within its limit, and behind so many bytes the request ends
+-- a head stands whose body is within its limit, and after so many bytes the request ends
 abbrev pub EndsAt : List ℕ → ℕ → Type 0
 EndsAt bytes least =
     (head : RequestHead) × (count : ℕ) × Announces bytes head count × (count ≤ body_limit head.target)

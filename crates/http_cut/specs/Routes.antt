@@ -19,7 +19,8 @@ use Rattle.http_cut.specs.declared.route.Route.TheVariants.{Steward, Clerk, Look
 use Rattle.http_cut.specs.declared.route.StewardRoute.TheVariants.{AddMaster, AddRegion}
 use Rattle.http_cut.specs.declared.route.ClerkRoute.TheVariants.{Batch}
 use Rattle.http_cut.specs.declared.route.LookRoute.TheVariants.{Preview}
-use Rattle.http_cut.specs.declared.route.DeskRoute.TheVariants.{DeskDerive}
+use Rattle.http_cut.specs.declared.route.DeskRoute.TheVariants.{DeskDerive, CheckSchema, CheckMaster, CheckRulebook}
+use Rattle.http_cut.specs.declared.route.DeskRoute.TheVariants.{CheckEdition}
 use Rattle.http_cut.specs.declared.route.TheConstants.{NUMBERS, PATTERNS}
 use Rattle.http_cut.specs.Numbers.{positive}
 
@@ -33,20 +34,25 @@ patterns = map (λ row. (row.0.now, row.1)) PATTERNS
 abbrev pub patterns_of : List (Bor (List ℕ) × Route) → List (List ℕ × Route)
 patterns_of rows = map (λ row. (row.0.now, row.1)) rows
 
--- what keeps nothing is asked for by GET, but for a preview and for what a master gives, which have a body
+-- what keeps nothing is asked for by GET, but for a preview, for what a master gives and for checks, which have a body
 abbrev pub method_of : Route → Method
 method_of (Steward asked) = Post
 method_of (Clerk asked) = Post
 method_of (Look Preview) = Post
 method_of (Look asked) = Get
 method_of (Desk DeskDerive) = Post
+method_of (Desk CheckSchema) = Post
+method_of (Desk CheckMaster) = Post
+method_of (Desk CheckRulebook) = Post
+method_of (Desk CheckEdition) = Post
 method_of (Desk asked) = Get
 
--- the most bytes of a body: long are those of a master, of a region's rows and of a batch
+-- the most bytes of a body: long are those of a master, published or checked, of a region's rows and of a batch
 abbrev pub route_limit : Route → ℕ
 route_limit (Steward AddMaster) = MAX_LONG_BODY
 route_limit (Steward AddRegion) = MAX_LONG_BODY
 route_limit (Clerk Batch) = MAX_BATCH_BODY
+route_limit (Desk CheckMaster) = MAX_LONG_BODY
 route_limit asked = MAX_BODY
 
 -- ---- the table as matchit keeps it

@@ -1,6 +1,7 @@
 -- What taking bytes for the next request leaves.
 use Rattle.std.specs.Prelude.{◌≡◌, ℕ, ◌<◌, ◌≤◌, List, [], ◌∷◌, ◌++◌, length, Option, Result, Ok, Err}
 use Rattle.std.specs.Io.KnownBytes.{Consumes}
+use Rattle.desk_base.specs.Faults.{HasTaken}
 use Rattle.desk_base.specs.declared.error.Failed.{Failed}
 use Rattle.http_cut.specs.declared.intake.TheConstants.{PIECE}
 use Rattle.http_cut.specs.declared.intake.IntakeFault.{IntakeFault}
@@ -10,22 +11,17 @@ use Rattle.http_cut.specs.declared.step.Step.TheVariants as step
 use Rattle.http_cut.specs.Cut.{IsOpen}
 use Rattle.http_cut.specs.Looks.{IsStep}
 
--- bytes were taken, and stand behind those that were there
+-- bytes were taken, and stand after those that were there
 pub record Takes (old new : Option (List ℕ)) (before now : List ℕ) : Type 0 where
   pub bytes : List ℕ
   pub taken : Consumes old new bytes
   pub joined : now ≡ before ++ bytes
 
--- bytes were taken, and may be lost
-pub record Loses (old new : Option (List ℕ)) : Type 0 where
-  pub bytes : List ℕ
-  pub taken : Consumes old new bytes
-
 -- what a call leaves of the source and of the bytes that stand, by what it answers
 abbrev pub Fetches : Option (List ℕ) → Option (List ℕ) → List ℕ → List ℕ → Result Step IntakeFault → Type 0
 Fetches old new before now (Ok step) = Takes old new before now × IsStep now step
 Fetches old new before now (Err fault.Failed) = Takes old new before now × IsOpen now
-Fetches old new before now (Err fault.NoMemory) = Loses old new
+Fetches old new before now (Err fault.NoMemory) = HasTaken old new
 
 -- ---- each read
 

@@ -5,7 +5,7 @@ ghost use Rattle.http_cut.specs.Lines.{BeginsNoLine, SkipsLines, behind_line, be
 
 use desk_base::MAX_FIELDS;
 
-/// The bytes behind the empty lines.
+/// The bytes after the empty lines.
 pub fn without_empty_lines(bytes: &[u8]) -> &[u8]
     ensures { SkipsLines bytes.now result.now }
 {
@@ -16,7 +16,7 @@ pub fn without_empty_lines(bytes: &[u8]) -> &[u8]
     text
 }
 
-/// The bytes behind one empty line.
+/// The bytes after one empty line.
 fn behind_empty_line(text: &[u8]) -> Option<&[u8]>
     ensures { MatchOption result (BeginsNoLine text.now)
         (λ rest. (end : LineEnd) × (text.now ≡ print_end end ++ rest.now)) }
@@ -28,14 +28,14 @@ fn behind_empty_line(text: &[u8]) -> Option<&[u8]>
     }
 }
 
-/// Whether the bytes go on behind the most lines that a head may have before its empty line.
+/// Whether the bytes go on after the most lines that a head may have before its empty line.
 pub fn has_many_lines(bytes: &[u8]) -> bool
     ensures { IsTrue result ↔ HasManyLines bytes.now }
 {
     goes_on(without_empty_lines(bytes))
 }
 
-/// Whether a byte that ends no head stands behind a request line and the most fields.
+/// Whether a byte that ends no head stands after a request line and the most fields.
 fn goes_on(text: &[u8]) -> bool
     ensures { IsTrue result ↔ GoesOn text.now }
 {
@@ -45,7 +45,7 @@ fn goes_on(text: &[u8]) -> bool
     }
 }
 
-/// The bytes behind so many lines.
+/// The bytes after so many lines.
 #[tactic(auto, unfolding(crate::specs::Lines::behind_lines))]
 fn behind_lines(text: &[u8], count: usize) -> Option<&[u8]>
     ensures { MatchOption result (behind_lines count text.now ≡ None)
@@ -60,7 +60,7 @@ fn behind_lines(text: &[u8], count: usize) -> Option<&[u8]>
     Some(rest)
 }
 
-/// The bytes behind the first line feed.
+/// The bytes after the first line feed.
 fn behind_line(text: &[u8]) -> Option<&[u8]>
     ensures { MatchOption result (behind_line text.now ≡ None) (λ rest. behind_line text.now ≡ Some rest.now) }
 {

@@ -74,10 +74,18 @@ pub enum DeskRoute {
     DeskEdition,
     DeskRow,
     DeskRegion,
+    SchemaBody,
+    MasterBody,
+    RulebookBody,
+    DeskContradictions,
+    CheckSchema,
+    CheckMaster,
+    CheckRulebook,
+    CheckEdition,
 }
 
 /// The table: each pattern with what it asks for (`docs/formats.md`, *Routes*).
-pub const PATTERNS: [(&str, Route); 30] = [
+pub const PATTERNS: [(&str, Route); 38] = [
     (
         "/steward/{n}/clerks",
         Route::Steward(StewardRoute::AddClerk),
@@ -186,6 +194,35 @@ pub const PATTERNS: [(&str, Route); 30] = [
         "/see/{clerk}/blocked/{session}",
         Route::Look(LookRoute::Blocked),
     ),
+    (
+        "/desk/schemas/{name}/{version}",
+        Route::Desk(DeskRoute::SchemaBody),
+    ),
+    (
+        "/desk/masters/{name}/{version}",
+        Route::Desk(DeskRoute::MasterBody),
+    ),
+    (
+        "/desk/rulebooks/{name}/{version}",
+        Route::Desk(DeskRoute::RulebookBody),
+    ),
+    (
+        "/desk/contradictions/{edition}/{version}/{rule}",
+        Route::Desk(DeskRoute::DeskContradictions),
+    ),
+    ("/desk/check/schema", Route::Desk(DeskRoute::CheckSchema)),
+    (
+        "/desk/check/master/{name}",
+        Route::Desk(DeskRoute::CheckMaster),
+    ),
+    (
+        "/desk/check/rulebook/{name}/{schema}/{version}",
+        Route::Desk(DeskRoute::CheckRulebook),
+    ),
+    (
+        "/desk/check/edition/{name}",
+        Route::Desk(DeskRoute::CheckEdition),
+    ),
 ];
 
 /// The parameters of patterns that are numbers, each with the most digits that it has.
@@ -199,19 +236,22 @@ pub const NUMBERS: [(&str, usize); 6] = [
 ];
 
 impl Route {
-    /// The method by which it is asked for: what keeps nothing is asked for by GET, but for a preview and for what a
-    /// master gives, which have a body.
+    /// The method by which it is asked for: what keeps nothing is asked for by GET, but for a preview, for what a
+    /// master gives and for checks, which have a body.
     pub fn method(self) -> Method
         ensures { result ≡ method_of self }
     {
         match self {
             Route::Look(LookRoute::Preview) | Route::Desk(DeskRoute::DeskDerive) => Method::Post,
+            Route::Desk(DeskRoute::CheckSchema | DeskRoute::CheckMaster) => Method::Post,
+            Route::Desk(DeskRoute::CheckRulebook | DeskRoute::CheckEdition) => Method::Post,
             Route::Look(_) | Route::Desk(_) => Method::Get,
             Route::Steward(_) | Route::Clerk(_) => Method::Post,
         }
     }
 
-    /// The most bytes of its body: long are the bodies of a master, of a region's rows and of a batch.
+    /// The most bytes of its body: long are the bodies of a master, published or checked, of a region's rows and of a
+    /// batch.
     pub fn body_limit(self) -> u64
         ensures limit { result ≡ route_limit self }
         ensures few { result ≤ MAX_LONG_BODY }
@@ -219,6 +259,7 @@ impl Route {
         match self {
             Route::Steward(StewardRoute::AddMaster | StewardRoute::AddRegion) =>
                 MAX_LONG_BODY as u64,
+            Route::Desk(DeskRoute::CheckMaster) => MAX_LONG_BODY as u64,
             Route::Clerk(ClerkRoute::Batch) => MAX_BATCH_BODY as u64,
             _ => MAX_BODY as u64,
         }

@@ -23,7 +23,7 @@ fn ends_behind_method(text: &[u8]) -> bool
     }
 }
 
-/// The bytes behind a method and a space.
+/// The bytes after a method and a space.
 fn behind_method(text: &[u8]) -> Option<&[u8]>
     ensures { MatchOption result ((target : List ℕ) → ¬ (BeginsMethod text.now target))
         (λ target. BeginsMethod text.now target.now) }

@@ -5,7 +5,7 @@ use desk_base::NoMemory;
 use std::alloc::Global;
 use std::marker::Model;
 
-/// Bytes behind a place. What stands before the place is done with; it is moved away only before bytes are added, so
+/// Bytes after a place. What stands before the place is done with; it is moved away only before bytes are added, so
 /// that requests that came together cost no move each.
 #[derive(Debug, Drop)]
 pub struct Window {
@@ -56,7 +56,7 @@ impl Window {
         self.start = self.bytes.len();
     }
 
-    /// Adds bytes behind the others.
+    /// Adds bytes after the others.
     pub fn add(&mut self, piece: &[u8]) -> Result<(), NoMemory>
         ensures added { OnOk result (self.new ≡ self.old ++ piece.now) }
         ensures unchanged { OnErr result (self.new ≡ self.old) }

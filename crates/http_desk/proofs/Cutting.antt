@@ -1,4 +1,4 @@
--- Requests at the front of bytes, and the rest behind them.
+-- Requests at the front of bytes, and the rest after them.
 use Rattle.std.proofs.Common.{◌≡◌, ◌∙◌, inl, inr, ℕ, List, [], ◌∷◌, ◌++◌, refl, ap, sym, subst, length, arith}
 use Rattle.std.specs.Prelude.{◌↔◌}
 use Rattle.httparse.specs.Grammar.{RequestHead}

@@ -7,7 +7,7 @@ use Rattle.http_cut.specs.declared.step.Request.{Request}
 use Rattle.http_cut.specs.declared.step.Step.TheVariants as step
 use Rattle.std.specs.Io.KnownBytes.{Appends, IsAtEnd}
 use Rattle.std.proofs.KnownBytes.{Consumes-nil}
-use Rattle.desk_base.specs.Faults.{AppendsPart, Rose}
+use Rattle.desk_base.specs.Faults.{AppendsPart, Rose, HasTaken}
 use Rattle.desk_base.proofs.Growth.{Appends-then}
 use Rattle.desk_base.specs.declared.limits.TheConstants.{MAX_HEAD}
 use Rattle.keeper_core.specs.Keeping.{IfTold, TellsNoMore}
@@ -20,7 +20,7 @@ use Rattle.http_cut.specs.Cut.{WholeRequest, BeginsRequest, Begins, IsOpen, IsBa
 use Rattle.http_cut.specs.Cut.{IsEnd}
 use Rattle.http_cut.specs.Cut.{IsCut}
 use Rattle.http_cut.specs.Head.{AsksHead}
-use Rattle.http_cut.specs.Taking.{Fetches, Loses, Reading, ReadsNoFurther, ReadsOn, Takes}
+use Rattle.http_cut.specs.Taking.{Fetches, Reading, ReadsNoFurther, ReadsOn, Takes}
 use Rattle.http_cut.proofs.Cuts.{IsBadRest-append, Begins-more, open_end}
 use Rattle.http_desk.specs.declared.serving.Ended.{Ended}
 use Rattle.http_desk.specs.declared.serving.Ended.TheVariants as ended
@@ -195,7 +195,7 @@ module _ {S : Type 0} {calls : S → S → ℕ → Result ℕ Failed → Type 0}
   ends_no_memory : {last at : S} {held : List ℕ} {reads : Type 0} {takes taking : ℕ → Type 0} {keeps : Type 0}
       {limit : ℕ} {old mid new : Scene} {count : ℕ} {window now : List ℕ}
       → Serving calls source last held keeps takes taking limit old mid count window → count < limit
-      → Loses mid.left new.left → (at ≡ last) ⊎ ReadsNoFurther calls last at held now (Err intake.NoMemory)
+      → HasTaken mid.left new.left → (at ≡ last) ⊎ ReadsNoFurther calls last at held now (Err intake.NoMemory)
       → mid.read_faults ≤ new.read_faults → new.written ≡ mid.written → new.write_faults ≡ mid.write_faults
       → new.tables ≡ mid.tables → new.told ≡ mid.told → new.uses ≡ mid.uses
       → Serves calls source at reads takes keeps limit old new ended.NoMemory

@@ -65,7 +65,7 @@ module _ {S : Type 0} (calls : S → S → ℕ → Result ℕ Failed → Type 0)
         in_turn = AreTurns-push source last read [] held t.turns turn window behind t.in_turn on whole;
       }
 
-  -- so many requests were answered in full, and the window holds what was taken behind them
+  -- so many requests were answered in full, and the window holds what was taken after them
   pub record Serving (last : S) (held : List ℕ) (steady : Type 0) (takes taking : ℕ → Type 0) (limit : ℕ) (old new :
       Scene) (count : ℕ)
       (window : List ℕ) : Type 0 where

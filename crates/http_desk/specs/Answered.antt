@@ -45,7 +45,7 @@ pub data Outcome : Type 0 where
   NoMemory : Outcome
 
 -- what a request asks may be answered so over these tables, which leaves these tables and this text. Where the keeper
--- failed, something was to be changed. The text says whether the stream is closed behind it, and has no body to HEAD
+-- failed, something was to be changed. The text says whether the stream is closed after it, and has no body to HEAD
 abbrev pub Answers : Rows → Checked Command → Bool → Bool → Outcome → Rows → List ℕ → Type 0
 Answers before asks closing asks_head (Declines why) after text =
     (asks ≡ Err why) × (after ≡ before) × (text ≡ declined_text why closing asks_head)
@@ -126,7 +126,7 @@ pub record Answered : Type 0 where
   pub tables : Rows
   pub text : List ℕ
 
--- it was answered so over these tables; closing says whether the stream is closed behind it
+-- it was answered so over these tables; closing says whether the stream is closed after it
 abbrev pub IsServed : Rows → Bool → Answered → Type 0
 IsServed before closing a =
     Answers before (command_for a.request) closing (asks_head a.request) a.outcome a.tables a.text
@@ -141,7 +141,7 @@ Served limit count before (a ∷ answers) =
 abbrev pub requests : List Answered → List WholeRequest
 requests answers = map (λ a. a.request) answers
 
--- the texts, one behind another
+-- the texts, one after another
 abbrev pub texts : List Answered → List ℕ
 texts answers = flat_map (λ a. a.text) answers
 

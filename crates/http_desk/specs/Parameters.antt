@@ -13,13 +13,16 @@ use Rattle.http_cut.specs.declared.route.LookRoute.TheVariants as of_look
 use Rattle.http_cut.specs.declared.route.DeskRoute.{DeskRoute}
 use Rattle.http_cut.specs.declared.route.DeskRoute.TheVariants as of_desk
 use Rattle.http_cut.specs.Numbers.{positive}
+use Rattle.desk_words.specs.declared.desk_look.Publication.{Publication}
+use Rattle.desk_words.specs.declared.desk_look.Publication.TheVariants as publication
 use Rattle.desk_json.specs.declared.route.Route.{Route}
 use Rattle.desk_json.specs.declared.route.Route.TheVariants.{AddClerk, AddSchema, AddMaster, AddRulebook, AddEdition}
 use Rattle.desk_json.specs.declared.route.Route.TheVariants.{AddRegion, Enter, Confirm, Withdraw, Commit, Abandon}
 use Rattle.desk_json.specs.declared.route.Route.TheVariants.{Batch, View, Suggest, Preview, Report, Records, DeskReport}
 use Rattle.desk_json.specs.declared.route.Route.TheVariants.{Explain, DeskDerive, AddDerived, SeeCarry, Carry, Sessions}
 use Rattle.desk_json.specs.declared.route.Route.TheVariants.{DeskPublished, DeskEdition, DeskRow, DeskRegion}
-use Rattle.desk_json.specs.declared.route.Route.TheVariants.{Choices, Blocked}
+use Rattle.desk_json.specs.declared.route.Route.TheVariants.{Body, Choices, Blocked, DeskContradictions}
+use Rattle.desk_json.specs.declared.route.Route.TheVariants.{CheckSchema, CheckMaster, CheckRulebook, CheckEdition}
 use Rattle.desk_json.specs.Checked.{◌>>=◌}
 use Rattle.http_desk.specs.Checked.{Checked, or_no_route}
 
@@ -101,6 +104,10 @@ row = numeral NUMBER_DIGITS (codes "row")
 abbrev pub region : Parameter
 region = numeral NUMBER_DIGITS (codes "region")
 
+-- the rule of the edition that it is about
+abbrev pub rule : Parameter
+rule = text (codes "rule")
+
 -- the number of a write
 abbrev pub write_in : Parts → Checked ℕ
 write_in = read_at n
@@ -160,6 +167,10 @@ look_form caller of_look.Sessions = form (from ∷ []) (Sessions caller)
 look_form caller of_look.Choices = form (session ∷ []) (Choices caller)
 look_form caller of_look.Blocked = form (session ∷ []) (Blocked caller)
 
+-- a version of what was published as a text
+abbrev pub body_form : Publication → Form
+body_form what = form (name ∷ version ∷ []) (Body what)
+
 -- what is asked for at the desk
 abbrev pub desk_form : DeskRoute → Form
 desk_form of_desk.DeskReport = form [] DeskReport
@@ -168,6 +179,14 @@ desk_form of_desk.DeskPublished = form [] DeskPublished
 desk_form of_desk.DeskEdition = form (edition ∷ version ∷ []) DeskEdition
 desk_form of_desk.DeskRow = form (master ∷ version ∷ row ∷ []) DeskRow
 desk_form of_desk.DeskRegion = form (edition ∷ version ∷ region ∷ []) DeskRegion
+desk_form of_desk.SchemaBody = body_form publication.Schema
+desk_form of_desk.MasterBody = body_form publication.Master
+desk_form of_desk.RulebookBody = body_form publication.Rulebook
+desk_form of_desk.DeskContradictions = form (edition ∷ version ∷ rule ∷ []) DeskContradictions
+desk_form of_desk.CheckSchema = form [] CheckSchema
+desk_form of_desk.CheckMaster = form (name ∷ []) CheckMaster
+desk_form of_desk.CheckRulebook = form (name ∷ schema ∷ version ∷ []) CheckRulebook
+desk_form of_desk.CheckEdition = form (name ∷ []) CheckEdition
 
 -- the route that a target asks for, with its parameters
 abbrev pub route_in : Target → Parts → Checked Route

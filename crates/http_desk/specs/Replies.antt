@@ -2,20 +2,23 @@
 use Rattle.std.specs.Prelude.{ℕ, List, [], Bool, Option, Some, None}
 use Rattle.serde_json.specs.Data.{Data}
 use Rattle.serde_json.specs.Written.{compact_text}
+use Rattle.desk_words.specs.declared.desk_look.Publication.{Publication}
+use Rattle.desk_words.specs.declared.desk_look.Publication.TheVariants as publication
 use Rattle.desk_words.specs.declared.refusal.Refusal.{Refusal}
 use Rattle.desk_words.specs.declared.refusal.Refusal.TheVariants as refusal
 use Rattle.desk_words.specs.declared.reply.Reply.{Reply}
 use Rattle.desk_words.specs.declared.reply.Reply.TheVariants.{Made, Opened, Committed, Batched, Report, Records}
-use Rattle.desk_words.specs.declared.reply.Reply.TheVariants.{Derived, Refused}
+use Rattle.desk_words.specs.declared.reply.Reply.TheVariants.{Body, Contradictions, Derived, Refused, Unfit}
 use Rattle.desk_json.specs.Faults.{fault_shown}
 use Rattle.desk_json.specs.Replies.{reply_shown}
+use Rattle.desk_sheets.specs.Contradictions.{contradictions_text}
 use Rattle.desk_sheets.specs.Derived.{derived_text}
 use Rattle.desk_sheets.specs.Records.{records_text}
 use Rattle.desk_sheets.specs.Report.{report_text}
 use Rattle.http_desk.specs.declared.declined.Declined.{Declined}
 use Rattle.http_desk.specs.declared.declined.Declined.TheVariants as declined
 use Rattle.http_desk.specs.declared.status.ContentType.{ContentType}
-use Rattle.http_desk.specs.declared.status.ContentType.TheVariants.{Json, Text, Csv}
+use Rattle.http_desk.specs.declared.status.ContentType.TheVariants.{Json, Text, Csv, Toml}
 use Rattle.http_desk.specs.declared.status.Status.{Status}
 use Rattle.http_desk.specs.declared.status.Status.TheVariants as status
 use Rattle.http_desk.specs.Refusals.{refusal_text}
@@ -38,20 +41,29 @@ refusal_status refusal.Unavailable = status.ServiceUnavailable
 refusal_status refusal.NoMemory = status.InsufficientStorage
 refusal_status unfit = status.UnprocessableContent
 
--- the status of a reply: what was made or refused, or else looked at
+-- the status of a reply: what was made or refused, or would be refused, or else looked at
 abbrev pub reply_status : Reply → Status
 reply_status (Made made) = status.Created
 reply_status (Opened session) = status.Created
 reply_status (Committed number session certain) = status.Created
 reply_status (Batched batch) = status.Created
+reply_status (Unfit refusal says) = refusal_status refusal
 reply_status (Refused refusal) = refusal_status refusal
 reply_status reply = status.Ok
+
+-- what a published text is
+abbrev pub published_type : Publication → ContentType
+published_type publication.Schema = Toml
+published_type publication.Master = Csv
+published_type publication.Rulebook = Text
 
 -- what the body of a reply is
 abbrev pub reply_type : Reply → ContentType
 reply_type (Report sheet) = Text
 reply_type (Records sheet) = Csv
 reply_type (Derived sheet) = Csv
+reply_type (Body what body) = published_type what
+reply_type (Contradictions sheet) = Csv
 reply_type reply = Json
 
 -- the text of a value
@@ -64,6 +76,8 @@ abbrev pub reply_body : Reply → List ℕ
 reply_body (Report sheet) = report_text sheet
 reply_body (Records sheet) = records_text sheet
 reply_body (Derived sheet) = derived_text sheet
+reply_body (Body what body) = body
+reply_body (Contradictions sheet) = contradictions_text sheet
 reply_body reply = json_text (reply_shown reply)
 
 -- the response to a request that the machine replies to, which closes the stream or not, and whose method may be HEAD

@@ -7,7 +7,7 @@ use Rattle.http_desk.specs.declared.status.Status.TheVariants.{Conflict, LengthR
 use Rattle.http_desk.specs.declared.status.Status.TheVariants.{UnprocessableContent, NotImplemented}
 use Rattle.http_desk.specs.declared.status.Status.TheVariants.{ServiceUnavailable, InsufficientStorage}
 use Rattle.http_desk.specs.declared.status.ContentType.{ContentType}
-use Rattle.http_desk.specs.declared.status.ContentType.TheVariants.{Json, Text, Csv}
+use Rattle.http_desk.specs.declared.status.ContentType.TheVariants.{Json, Text, Csv, Toml}
 
 -- ---- the status line
 
@@ -48,6 +48,7 @@ abbrev pub type_of : ContentType → List ℕ
 type_of Json = codes "application/json"
 type_of Text = codes "text/plain"
 type_of Csv = codes "text/csv"
+type_of Toml = codes "application/toml"
 
 -- the first line: the version of HTTP, the number of the status and its reason phrase
 abbrev pub status_line : Status → List ℕ
@@ -61,7 +62,7 @@ type_line kind = codes "Content-Type: " ++ (type_of kind ++ crlf_bytes)
 abbrev pub length_line : ℕ → List ℕ
 length_line count = codes "Content-Length: " ++ (decimal count ++ crlf_bytes)
 
--- that the stream is closed behind the response
+-- that the stream is closed after the response
 abbrev pub closing_lines : Bool → List ℕ
 closing_lines closing = if closing then codes "Connection: close" ++ crlf_bytes else []
 

@@ -66,7 +66,7 @@ pub record CutsEnd (old new : Option (List ℕ)) (answers : List Answered) (byte
     pub part : count < length text
     pub written : Appends old new (texts answers ++ take count text)
 
--- the end of a stream of these bytes, of which these were taken, up to a rest behind the answered requests
+-- the end of a stream of these bytes, of which these were taken, up to a rest after the answered requests
 module _ (limit : ℕ) (old new : Scene) (bytes taken : List ℕ) (answers : List Answered) (rest after : List ℕ) where
   -- all requests were answered, which are fewer than the limit, and the stream ends so
   abbrev pub AnswersAll : End → Type 0
@@ -76,7 +76,7 @@ module _ (limit : ℕ) (old new : Scene) (bytes taken : List ℕ) (answers : Lis
   abbrev pub WritesAll : Type 0
   WritesAll = Appends old.written new.written (texts answers)
 
-  -- all requests were answered, and few bytes were taken of the bad rest behind them
+  -- all requests were answered, and few bytes were taken of the bad rest after them
   abbrev pub StopsAt : BadRest → Type 0
   StopsAt kind = AnswersAll (bad kind) × (length rest < MAX_HEAD + PIECE)
 
@@ -147,7 +147,7 @@ IsOwnEnd ended.ReadFault = ⊥
 IsOwnEnd ended.WriteFault = ⊥
 IsOwnEnd ended.NoMemory = ⊥
 
--- the bytes behind the last request, of which none may become bad, say how the stream ends
+-- the bytes after the last request, of which none may become bad, say how the stream ends
 abbrev pub IsEndOf : List ℕ → Ended → Type 0
 IsEndOf rest ended.Clean = rest ≡ []
 IsEndOf rest (ended.Truncated count) = (rest ≢ []) × (count ≡ length rest)

@@ -29,13 +29,13 @@ module _ {S : Type 0} (calls : S → S → ℕ → Result ℕ Failed → Type 0)
       (read : S) × (window behind : List ℕ) × ReadsOn calls old held turn.given read window
       × BeginsRequest window turn.answer.request.0 turn.answer.request.1 behind × AreTurns read behind turns new rest
 
-  -- these are the answers of turns, behind the last of which the rest was held
+  -- these are the answers of turns, after the last of which the rest was held
   pub record TakesTurns (old new : S) (answers : List Answered) (rest : List ℕ) : Type 0 where
     pub turns : List (Turn S)
     pub are : answers ≡ map (λ turn. turn.answer) turns
     pub in_turn : AreTurns old [] turns new rest
 
-  -- what was read behind the last answer, where a rest was held: nothing where it reached the limit or was written
+  -- what was read after the last answer, where a rest was held: nothing where it reached the limit or was written
   -- in part, and else as much as it took to see how the stream ends
   module _ (old new : Scene) (answers : List Answered) (last : S) (held : List ℕ) (now : S) (rest : List ℕ) where
     -- it was read up to such a step, or such a fault
@@ -63,7 +63,7 @@ module _ {S : Type 0} (calls : S → S → ℕ → Result ℕ Failed → Type 0)
         (CutsText old.written new.written answers × (now ≡ last)) ⊎ ((kind : BadRest) × FindsBad kind)
     EndsTurns ended.NoMemory = (now ≡ last) ⊎ Finds (Err fault.NoMemory)
 
-  -- each request was answered before the source was read on: a read was made only where a request was awaited behind
+  -- each request was answered before the source was read on: a read was made only where a request was awaited after
   -- all that were answered
   pub record IsPrompt (source now : S) (old new : Scene) (answers : List Answered) (rest : List ℕ) (end : Ended)
       : Type 0 where

@@ -3,12 +3,13 @@ ghost use Rattle.std.specs.Prelude.{◌≤◌, ◌<◌, ◌^◌, IfOk};
 ghost use Rattle.http_cut.specs.declared.digits.TheConstants.{NUMBER_DIGITS};
 ghost use Rattle.http_cut.specs.declared.route.Route.TheVariants as targets;
 ghost use Rattle.http_desk.specs.Checked.{Finds};
-ghost use Rattle.http_desk.specs.Parameters.{number_at, route_in, text_at, write_in};
+ghost use Rattle.http_desk.specs.Parameters.{body_form, made_in, number_at, route_in, text_at, write_in};
 
 use crate::declined::Declined;
 use crate::refusal::Refused;
 use desk_base::Str;
 use desk_json::Route;
+use desk_words::Publication;
 use http_cut::{
     ClerkRoute, DeskRoute, LookRoute, NUMBER_DIGITS, Route as Target, RouteMatch, StewardRoute,
     WRITE_DIGITS, positive,
@@ -197,7 +198,42 @@ fn desk_route(
             version: number_at(found, "version")?,
             region: number_at(found, "region")?,
         }),
+        DeskRoute::SchemaBody => body_route(alloc, found, Publication::Schema),
+        DeskRoute::MasterBody => body_route(alloc, found, Publication::Master),
+        DeskRoute::RulebookBody => body_route(alloc, found, Publication::Rulebook),
+        DeskRoute::DeskContradictions => Ok(Route::DeskContradictions {
+            edition: text_at(alloc, found, "edition")?,
+            version: number_at(found, "version")?,
+            rule: text_at(alloc, found, "rule")?,
+        }),
+        DeskRoute::CheckSchema => Ok(Route::CheckSchema),
+        DeskRoute::CheckMaster => Ok(Route::CheckMaster {
+            name: text_at(alloc, found, "name")?,
+        }),
+        DeskRoute::CheckRulebook => Ok(Route::CheckRulebook {
+            name: text_at(alloc, found, "name")?,
+            schema: text_at(alloc, found, "schema")?,
+            version: number_at(found, "version")?,
+        }),
+        DeskRoute::CheckEdition => Ok(Route::CheckEdition {
+            name: text_at(alloc, found, "name")?,
+        }),
     }
+}
+
+/// The route of what was published as a text.
+fn body_route(
+    alloc: Global,
+    found: &RouteMatch<'_, '_>,
+    what: Publication,
+) -> Result<Route, Declined>
+    ensures { Finds result (made_in (body_form what) found.now.1) }
+{
+    Ok(Route::Body {
+        what,
+        name: text_at(alloc, found, "name")?,
+        version: number_at(found, "version")?,
+    })
 }
 
 /// The text at a parameter.

@@ -69,7 +69,7 @@ impl Refused {
         }
     }
 
-    /// Its response, which takes no memory. A closing one says that the stream is closed behind it; one to HEAD has no
+    /// Its response, which takes no memory. A closing one says that the stream is closed after it; one to HEAD has no
     /// body.
     pub fn text(self, closing: bool, asks_head: bool) -> &'static str
         ensures { result.now ≡ refusal_text self closing asks_head }

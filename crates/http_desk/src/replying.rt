@@ -1,6 +1,7 @@
 //! The responses to the machine's replies, and to what is declined before it.
-ghost use Rattle.std.specs.Prelude.{◌≡◌, ◌≢◌, ◌⊎◌, IfOk};
+ghost use Rattle.std.specs.Prelude.{◌≡◌, ◌≢◌, ◌⊎◌, ℕ, List, IfOk};
 ghost use Rattle.serde_json.specs.Written.{compact_text};
+ghost use Rattle.desk_words.specs.declared.desk_look.Publication.{Publication as PublicationOf};
 ghost use Rattle.desk_words.specs.declared.refusal.Refusal.TheVariants as refusal;
 ghost use Rattle.desk_words.specs.declared.reply.Reply.TheVariants as reply_variants;
 ghost use Rattle.desk_words.specs.declared.reply.DerivedSheet.{DerivedSheet};
@@ -11,7 +12,8 @@ ghost use Rattle.http_desk.specs.declared.refusal.Refused.TheVariants as refused
 ghost use Rattle.http_desk.specs.Answered.{text_bytes};
 ghost use Rattle.http_desk.specs.Refusals.{refusal_text};
 ghost use Rattle.http_desk.specs.Replies.{declined_text, refusal_status, reply_body, reply_status, reply_text};
-ghost use Rattle.http_desk.specs.Replies.{reply_type};
+ghost use Rattle.http_desk.specs.Replies.{published_type, reply_type};
+ghost use Rattle.http_desk.specs.Responses.{response};
 
 use crate::declined::Declined;
 use crate::refusal::Refused;
@@ -20,8 +22,8 @@ use crate::status::{ContentType, Status};
 use crate::text::Text;
 use desk_base::{List, NoMemory};
 use desk_json::{JsonFault, fault_text, text_of};
-use desk_sheets::{derived_text, records_text, report_text};
-use desk_words::{Refusal, Reply};
+use desk_sheets::{contradictions_text, derived_text, records_text, report_text};
+use desk_words::{Publication, Refusal, Reply};
 use std::alloc::Global;
 
 /// The response to a request that the machine replies to. A reply that there was no memory is want of memory here.
@@ -36,22 +38,34 @@ pub fn reply_text(
     ensures text { IfOk result (λ text. text.items ≡ reply_text reply.now closing asks_head) }
     ensures weighed { IfOk result (λ _. reply.now ≢ reply_variants.Refused refusal.NoMemory) }
 {
-    if let Reply::Refused(Refusal::NoMemory) = reply {
-        return Err(NoMemory);
+    match reply {
+        Reply::Refused(Refusal::NoMemory) => Err(NoMemory),
+        Reply::Body(_, body) => reply_with(alloc, reply, body.as_slice(), closing, asks_head),
+        _ => {
+            let body = reply_body(alloc, reply)?;
+            reply_with(alloc, reply, body.as_slice(), closing, asks_head)
+        }
     }
-    let body = reply_body(alloc, reply)?;
-    response(
-        alloc,
-        reply_status(reply),
-        reply_type(reply),
-        body.as_slice(),
-        closing,
-        asks_head,
-    )
 }
 
-/// The body of a reply.
+/// The response to a reply, with this body.
+fn reply_with(
+    alloc: Global,
+    reply: &Reply,
+    body: &[u8],
+    closing: bool,
+    asks_head: bool,
+) -> Result<Vec<u8>, NoMemory>
+    ensures { IfOk result (λ text.
+        text.items ≡ response (reply_status reply.now) (reply_type reply.now) body.now closing asks_head) }
+{
+    let (status, kind) = (reply_status(reply), reply_type(reply));
+    response(alloc, status, kind, body, closing, asks_head)
+}
+
+/// The body of a reply that is none by itself, as what was published is.
 fn reply_body(alloc: Global, reply: &Reply) -> Result<List<u8>, NoMemory>
+    requires made { (what : PublicationOf) (body : List ℕ) → reply.now ≢ reply_variants.Body what body }
     requires records { (sheet : RecordSheet) → reply.now ≡ reply_variants.Records sheet → IsFull sheet }
     requires derived { (sheet : DerivedSheet) → reply.now ≡ reply_variants.Derived sheet → IsWide sheet }
     ensures { IfOk result (λ text. text ≡ reply_body reply.now) }
@@ -60,7 +74,19 @@ fn reply_body(alloc: Global, reply: &Reply) -> Result<List<u8>, NoMemory>
         Reply::Report(sheet) => report_text(alloc, sheet),
         Reply::Records(sheet) => records_text(alloc, sheet),
         Reply::Derived(sheet) => derived_text(alloc, sheet),
+        Reply::Body(_, _) => unreachable!(),
+        Reply::Contradictions(sheet) => contradictions_text(alloc, sheet),
         _ => text_of(alloc, reply),
+    }
+}
+
+fn published_type(what: Publication) -> ContentType
+    ensures { result ≡ published_type what }
+{
+    match what {
+        Publication::Schema => ContentType::Toml,
+        Publication::Master => ContentType::Csv,
+        Publication::Rulebook => ContentType::Text,
     }
 }
 
@@ -69,7 +95,8 @@ fn reply_type(reply: &Reply) -> ContentType
 {
     match reply {
         Reply::Report(_) => ContentType::Text,
-        Reply::Records(_) | Reply::Derived(_) => ContentType::Csv,
+        Reply::Records(_) | Reply::Derived(_) | Reply::Contradictions(_) => ContentType::Csv,
+        Reply::Body(what, _) => published_type(*what),
         _ => ContentType::Json,
     }
 }
@@ -80,7 +107,7 @@ fn reply_status(reply: &Reply) -> Status
     match reply {
         Reply::Made(_) | Reply::Opened(_) | Reply::Batched(_) => Status::Created,
         Reply::Committed { .. } => Status::Created,
-        Reply::Refused(refusal) => refusal_status(refusal),
+        Reply::Unfit { refusal, .. } | Reply::Refused(refusal) => refusal_status(refusal),
         _ => Status::Ok,
     }
 }

@@ -7,7 +7,7 @@ use crate::status::{ContentType, Status};
 use desk_base::NoMemory;
 use std::alloc::Global;
 
-/// The response with this body (`docs/formats.md`, *Responses*). A closing one says that the stream is closed behind
+/// The response with this body (`docs/formats.md`, *Responses*). A closing one says that the stream is closed after
 /// it; one to HEAD has no body.
 pub fn response(
     alloc: Global,

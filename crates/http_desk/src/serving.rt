@@ -17,7 +17,7 @@ use std::alloc::Global;
 /// How a stream ended.
 #[derive(Clone, Copy, Debug, PartialEq, Eq)]
 pub enum Ended {
-    /// Behind a whole request, or at once.
+    /// After a whole request, or at once.
     Clean,
     /// As many requests were answered as may be.
     Limit,
@@ -27,7 +27,7 @@ pub enum Ended {
     Chunked,
     /// With a head that says too long a body.
     BodyLong,
-    /// So many bytes behind the last whole request.
+    /// So many bytes after the last whole request.
     Truncated(u64),
     /// The source could not be read.
     ReadFault,
@@ -54,7 +54,7 @@ pub fn serve_stream<M: Machine, K: Keeper, S: Source, W: Sink>(
         Streams limit (scene link.old.source link.old.sink machine.old keeper.old)
         (scene link.new.source link.new.sink machine.new keeper.new) result }
 
-    // Each request is answered before the source is read on, and nothing is read behind the one that reaches the limit.
+    // Each request is answered before the source is read on, and nothing is read after the one that reaches the limit.
     ensures prompt { let scene = scene S.left S.read_faults W.written W.write_faults M.rows K.tables K.calls K.faults in
         ServesPromptly S.reads link.old.source link.new.source limit
         (scene link.old.source link.old.sink machine.old keeper.old)
@@ -158,7 +158,7 @@ fn fault_end(fault: IntakeFault) -> Ended
     }
 }
 
-/// How a stream ends, with these bytes behind its last request.
+/// How a stream ends, with these bytes after its last request.
 fn end_of(rest: &[u8]) -> Ended
     ensures { IsEndOf rest.now result }
 {

@@ -67,6 +67,7 @@ pub enum ContentType {
     Json,
     Text,
     Csv,
+    Toml,
 }
 
 impl ContentType {
@@ -78,6 +79,7 @@ impl ContentType {
             ContentType::Json => "application/json",
             ContentType::Text => "text/plain",
             ContentType::Csv => "text/csv",
+            ContentType::Toml => "application/toml",
         }
     }
 }

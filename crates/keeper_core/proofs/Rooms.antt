@@ -44,7 +44,7 @@ IfSome-put P (item ∷ items) (suc place) zero new holds others = others (λ sam
 IfSome-put P (item ∷ items) (suc place) (suc other) new holds others =
     IfSome-put P items place other new holds (λ apart. others (λ same. apart (cc)))
 
--- one item more stands behind the others
+-- one item more stands after the others
 IfSome-push : {A : Type 0} (P Q : A → Type 0) (items : List A) (last : A) (place : ℕ)
     → ((item : A) → P item → Q item) → Q last → IfSome (slice_get items place) P
     → IfSome (slice_get (items ++ last ∷ []) place) Q
@@ -136,7 +136,7 @@ pub lists_of-push : {A : Type 0} (rooms : List (Roomy A)) (room : Roomy A) → r
 lists_of-push rooms room empty =
     map-append items_of rooms (room ∷ []) ∙ ap (λ items. map items_of rooms ++ items ∷ []) empty
 
--- a clerk who is put behind the others has an empty list
+-- a clerk who is put after the others has an empty list
 pub with_clerk-new : {A : Type 0} (lists : List (List A)) (place clerks : ℕ) → place ≡ clerks
     → with_clerk lists place clerks ≡ lists ++ [] ∷ []
 with_clerk-new lists place clerks same = grind (arith, nat_tests)

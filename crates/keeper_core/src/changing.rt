@@ -22,7 +22,7 @@ pub fn change_all(tables: &mut Tables, mut fresh: Fresh, changes: List<Change>)
     }
 }
 
-/// Makes a change that all is ready for. What was ready for the changes behind it is ready for them still.
+/// Makes a change that all is ready for. What was ready for the changes after it is ready for them still.
 pub fn change(tables: &mut Tables, fresh: &mut Fresh, change: Change)
     requires { IsReady tables.old fresh.old (change ∷ []) }
     ensures rows { rows_of tables.new ≡ changed (rows_of tables.old) change }

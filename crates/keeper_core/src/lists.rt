@@ -9,7 +9,7 @@ use desk_base::{NoMemory, Room};
 use desk_words::Change;
 use std::alloc::Global;
 
-/// Puts an item at a place, or behind the others where the place is their number. It refuses nothing: its place is
+/// Puts an item at a place, or after the others where the place is their number. It refuses nothing: its place is
 /// made.
 pub fn put<T: Drop>(room: &mut Room<T>, place: usize, item: T)
     requires place { place ≤ length room.old.items }
@@ -24,7 +24,7 @@ pub fn put<T: Drop>(room: &mut Room<T>, place: usize, item: T)
     }
 }
 
-/// Puts an item into the list of a clerk, at a place or behind the others. It refuses nothing: its place is made.
+/// Puts an item into the list of a clerk, at a place or after the others. It refuses nothing: its place is made.
 pub fn put_own<T: Drop>(lists: &mut Room<Room<T>>, clerk: usize, place: usize, item: T)
     requires clerk { clerk < length lists.old.items }
     requires place { place ≤ length (list_at (lists_of lists.old) clerk) }
@@ -37,7 +37,7 @@ pub fn put_own<T: Drop>(lists: &mut Room<Room<T>>, clerk: usize, place: usize, i
     put(lists.slot(clerk), place, item);
 }
 
-/// Puts an item behind the others of a clerk's list. It refuses nothing: its place is made.
+/// Puts an item after the others of a clerk's list. It refuses nothing: its place is made.
 pub fn push_own<T: Drop>(lists: &mut Room<Room<T>>, clerk: usize, item: T)
     requires clerk { clerk < length lists.old.items }
     requires room { IfSome (slice_get lists.old.items clerk) (λ room. 0 < room.spare) }
@@ -49,7 +49,7 @@ pub fn push_own<T: Drop>(lists: &mut Room<Room<T>>, clerk: usize, item: T)
     lists.slot(clerk).push_reserved(item);
 }
 
-/// Puts an empty list behind the others where a new clerk comes. It refuses nothing: its place is made.
+/// Puts an empty list after the others where a new clerk comes. It refuses nothing: its place is made.
 pub fn add_list<T: Drop>(
     lists: &mut Room<Room<T>>,
     fresh: &mut Vec<Room<T>>,

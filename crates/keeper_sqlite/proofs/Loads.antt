@@ -56,7 +56,7 @@ stopped_between old mid new on counts clean shut = elim (cases_Bool old.is_open)
   ]
 ]
 
--- the call behind the first one was stopped
+-- the call after the first one was stopped
 pub stopped_reading : (old mid new : State) → GoesOn old mid → KeepsTold old mid → GoesOn mid new → HasCleanDisk mid
     → IsStoppedTelling mid new → IsStoppedTelling old new
 stopped_reading old mid new on keeps next clean stop rows told = elim (cases_Bool mid.is_open) [
@@ -104,7 +104,7 @@ stopped_renewing old mid new found on keeps spares clean opened tells why rows t
     subst (λ r. RefusesTables r old new) same
     (renews_from old mid new found on opened (spares clean opened).1 why)
 
--- what a call left, and one behind it that changed nothing
+-- what a call left, and one after it that changed nothing
 pub spares_then : (a b c : State) → Spares a b → Stays b c → Spares a c
 spares_then a b c first stays clean opened =
     let back = stays clean in

@@ -1,4 +1,4 @@
--- Sessions behind others, each at its place.
+-- Sessions after others, each at its place.
 use Rattle.std.proofs.Common.{◌≡◌, ◌∙◌, ◌+◌, ◌<◌, ◌≤◌, ℕ, List, [], ◌∷◌, ◌++◌, length, map, replicate, take, get_or, ap}
 use Rattle.std.proofs.Common.{arith, subst, sym}
 use Rattle.std.specs.Prelude.{All, zip}
@@ -12,7 +12,7 @@ use Rattle.machine_core.specs.declared.column.Column.{Column}
 use Rattle.machine_core.specs.Clerk.Batch.{placed, row_session}
 use Rattle.machine_core.proofs.Widths.{length-typed_over}
 
--- one session more stands at the place behind the others
+-- one session more stands at the place after the others
 placed-push : (sessions : List SessionRow) (session : SessionRow) (count : ℕ)
     → placed count (sessions ++ session ∷ []) ≡ placed count sessions ++ (count + length sessions, session) ∷ []
 placed-push [] session count = ap (λ place. (place, session) ∷ []) (omega arith)

@@ -151,7 +151,7 @@ master-at published place found is =
     option_and_then_some master_in (slice_get published.masters place) found is (λ row stands reads.
     let named : Master → List ℕ × Master = λ one. (row.name, one) in
     let made = option_map-Some named (read (read_sheet row.body)) found reads in
-    subst (λ (one : List ℕ × Master). IsMaster one.1) made.2 (IsMaster-read_sheet row.body made.0
+    subst (λ (one : List ℕ × Master). IsMaster one.1) made.2 (IsMaster-read_sheet _ row.body made.0
     (Ok-from_read (read_sheet row.body) made.0 made.1)))
 
 -- the master that is found is one

@@ -1,8 +1,10 @@
 -- What a look at the desk has found, by the content of its reply.
 use Rattle.std.proofs.Common.{◌≡◌, ℕ, List, None, refl}
-use Rattle.std.specs.Prelude.{Ok, flat_map, ⊤}
+use Rattle.std.specs.Prelude.{Result, Ok, Err, flat_map, ⊤}
 use Rattle.desk_words.specs.declared.desk_look.DeskLook.{DeskLook as DeskLookOf}
 use Rattle.desk_words.specs.declared.desk_look.DeskLook.TheVariants as look
+use Rattle.desk_words.specs.declared.fits.Fits.{Fits}
+use Rattle.desk_words.specs.declared.refusal.Refusal.{Refusal}
 use Rattle.desk_words.specs.declared.reply.Reply.{Reply}
 use Rattle.desk_words.specs.declared.reply.Reply.TheVariants as reply
 use Rattle.desk_words.specs.Tables.{Rows, published_of}
@@ -10,6 +12,9 @@ use Rattle.machine_core.specs.Checked.{Gives}
 use Rattle.machine_core.specs.Content.{Content, advises, content_of, derives, plain, records, refuses, shows}
 use Rattle.machine_core.specs.Deriving.{derived_sheet}
 use Rattle.machine_core.specs.DeskLook.{desk_reply}
+use Rattle.machine_core.specs.DeskLook.Bodies.{body_of}
+use Rattle.machine_core.specs.DeskLook.Check.{check_reply, tried}
+use Rattle.machine_core.specs.DeskLook.Contradictions.{contradictions_shown}
 use Rattle.machine_core.specs.DeskLook.Edition.{edition_shown}
 use Rattle.machine_core.specs.DeskLook.Published.{catalogue}
 use Rattle.machine_core.specs.DeskLook.Region.{region_shown}
@@ -48,3 +53,17 @@ desk-found rows (look.Row master version number) = told-each (row_shown (publish
 desk-found rows (look.Region edition version number) =
     told-each (region_shown (published_of rows) edition version number) reply.Region
     (λ answer. DeskFound rows (look.Region edition version number) (content_of answer)) (λ sheet given. tt)
+desk-found rows (look.Body what name version) =
+    told-each (body_of (published_of rows) what name version) (reply.Body what)
+    (λ answer. DeskFound rows (look.Body what name version) (content_of answer)) (λ body given. tt)
+desk-found rows (look.Contradictions edition version rule) =
+    told-each (contradictions_shown (published_of rows) edition version rule) reply.Contradictions
+    (λ answer. DeskFound rows (look.Contradictions edition version rule) (content_of answer)) (λ sheet given. tt)
+desk-found rows (look.Check proposal) =
+    told-each (tried (published_of rows) proposal) (check_reply (published_of rows) proposal)
+    (λ answer. DeskFound rows (look.Check proposal) (content_of answer)) (λ result given. plainly result)
+  where
+    plainly : (result : Result Fits Refusal)
+        → DeskFound rows (look.Check proposal) (content_of (check_reply (published_of rows) proposal result))
+    plainly (Ok made) = tt
+    plainly (Err refusal) = tt

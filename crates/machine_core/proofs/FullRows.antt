@@ -12,7 +12,7 @@ pub rows-none : (attributes : List (List ℕ)) (rows : List (List (List ℕ))) (
     → run (full_rows attributes 1 rows) ≡ run (full_rows attributes 1 rows >>= joined before)
 rows-none attributes rows before none = rw none (sym (bind-done (full_rows attributes 1 rows)))
 
--- the next row is found: it stands behind what was found before
+-- the next row is found: it stands after what was found before
 pub rows-step : (attributes : List (List ℕ)) (rows : List (List (List ℕ))) (place : ℕ) (texts : List (List ℕ))
     (before after : List (List (List ℕ))) (found : List (List ℕ)) → place < length rows
     → texts ≡ get_or rows place texts

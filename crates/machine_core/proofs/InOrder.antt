@@ -36,7 +36,7 @@ is_listed-any : (attributes : List ℕ) (attribute : ℕ)
 is_listed-any attributes attribute =
     ap (λ (test : ℕ → Bool). list_any test attributes) (λ i one. turned attribute one i)
 
--- it stands behind the others where it is among them
+-- it stands after the others where it is among them
 pub in_order-with : (attributes : List ℕ) (width : ℕ) → list_any (λ one. one == width) attributes ≡ true
     → in_order attributes (width + 1) ≡ in_order attributes width ++ width ∷ []
 in_order-with attributes width is = rw (is_listed-any attributes width ∙ is) at (in_order-more attributes width)

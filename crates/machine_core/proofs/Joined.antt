@@ -6,7 +6,7 @@ use Rattle.desk_words.specs.declared.refusal.Refusal.{Refusal}
 use Rattle.machine_core.specs.Checked.{Checked, IsFound, IsRefused, and_then, done, each, each_behind, run, told, ◌>>=◌}
 use Rattle.machine_core.proofs.Chains.{and_then-assoc, bind-done}
 
--- what is found stands behind what was found before
+-- what is found stands after what was found before
 abbrev pub joined : {B : Type 0} → List B → List B → Checked (List B)
 joined before rest = done (before ++ rest)
 
@@ -23,7 +23,7 @@ pub joined-none : {A B : Type 0} (find : A → Checked B) (items : List A) (befo
     → run (each find items) ≡ run (each find items >>= joined before)
 joined-none find items before none = rw none (sym (bind-done (each find items)))
 
--- the next item is found: it stands behind what was found before
+-- the next item is found: it stands after what was found before
 pub joined-step : {A B : Type 0} (find : A → Checked B) (items : List A) (place : ℕ) (item : A) (before after : List B)
     (found : B) → place < length items → item ≡ get_or items place item → IsFound (find item) found
     → after ≡ before ++ found ∷ []

@@ -22,6 +22,7 @@ pub mod Deriving
 pub mod Answering
 pub mod Looks
 pub mod DeskLooks
+pub mod Trying
 pub mod Pairs
 pub mod ReadRows
 pub mod SheetCells

@@ -1,4 +1,4 @@
--- Sessions that are put behind others.
+-- Sessions that are put after others.
 use Rattle.std.proofs.Common.{◌≡◌, ◌∙◌, ℕ, ◌+◌, List, [], ◌∷◌, ◌++◌, length, sym, ap, append_assoc, arith}
 use Rattle.std.proofs.lemmas.List.{append-nil, length-append}
 use Rattle.desk_words.specs.declared.rows.session.SessionRow.{SessionRow}
@@ -7,7 +7,7 @@ use Rattle.machine_core.specs.Clerk.Batch.{placed}
 use Rattle.machine_core.specs.Own.{put_all}
 use Rattle.desk_words.proofs.Changes.{put-end}
 
--- sessions that are put behind the others, one after another
+-- sessions that are put after the others, one after another
 pub put_all-placed : (sessions news : List SessionRow) (count : ℕ) → count ≡ length sessions
     → put_all sessions (placed count news) ≡ sessions ++ news
 put_all-placed sessions [] count is = sym (append-nil sessions)

@@ -1,5 +1,5 @@
--- Why an attribute is fixed, which rows a grid gives, which cells two views show otherwise, and what is blocked: there is
--- one answer to each at most.
+-- Why an attribute is fixed, which rows a grid gives, which cells two views show otherwise, what is blocked, and where
+-- a master contradicts itself: there is one answer to each at most.
 use Rattle.std.proofs.Common.{◌≡◌, ℕ, ◌<◌, List, inl, inr, sym, arith}
 use Rattle.desk_base.specs.Grid.{GridRows}
 use Rattle.desk_carry.specs.Changes.{AreChanged}
@@ -7,13 +7,17 @@ use Rattle.desk_words.specs.declared.view.View.{View}
 use Rattle.fix_explain.specs.Reasons.{IsReason}
 use Rattle.fix_explain.specs.Uses.{AreUses}
 use Rattle.fix_model.specs.declared.kit.Kit.{Kit}
+use Rattle.fix_model.specs.declared.rule.Rule.{Rule}
 use Rattle.fix_model.specs.declared.state.State.{State}
 use Rattle.fix_model.specs.declared.state.Step.{Step}
+use Rattle.fix_model.specs.Rules.{rule_at}
 use Rattle.region_derive.specs.Derived.{AreDerived}
+use Rattle.rule_contradictions.specs.declared.contradiction.Contradiction.{Contradiction}
+use Rattle.rule_contradictions.specs.Contradictions.{AreContradictions}
 use Rattle.fix_blockers.proofs.OneList.{AreBlocked-one}
 use Rattle.fix_engine.proofs.Once.{IsAnswer-unique}
 use Rattle.machine_core.specs.Checked.{AnswerTo, Explanation, IsAnswered, IsExplanation, Question, advises, compares}
-use Rattle.machine_core.specs.Checked.{blocks, decides, derives, explains}
+use Rattle.machine_core.specs.Checked.{blocks, contradicts, decides, derives, explains}
 use Rattle.machine_core.proofs.Suggestions.{IsSuggestion-unique, same-in_order}
 
 -- of two reasons neither is shorter
@@ -69,6 +73,16 @@ AreChanged-unique before after ones others are are_too =
       λ there. (are.each one.0 one.1).1 ((are_too.each one.0 one.1).0 there),
     ))
 
+AreContradictions-unique : (kit : Kit) (rule : Rule) (ones others : List Contradiction)
+    → AreContradictions kit rule ones → AreContradictions kit rule others → ones ≡ others
+AreContradictions-unique kit rule ones others are are_too =
+    same-in_order (λ (earlier : Contradiction) (later : Contradiction). earlier.row < later.row)
+    (λ one other before after. omega (arith, before, after)) (λ one before. omega (arith, before)) ones others
+    are.in_order are_too.in_order (λ one. (
+      λ there. (are_too.each one).1 ((are.each one).0 there),
+      λ there. (are.each one).1 ((are_too.each one).0 there),
+    ))
+
 -- of the answers to a question one is as it is defined
 pub IsAnswered-unique : (question : Question) (one other : AnswerTo question) → IsAnswered question one
     → IsAnswered question other → one ≡ other
@@ -84,3 +98,5 @@ IsAnswered-unique (derives kit grid attributes columns) one other is is_too =
     AreDerived-unique kit grid attributes columns one other is is_too
 IsAnswered-unique (compares before after) one other is is_too = AreChanged-unique before after one other is is_too
 IsAnswered-unique (blocks kit state) one other is is_too = AreBlocked-one kit state one other is is_too
+IsAnswered-unique (contradicts kit place) one other is is_too =
+    AreContradictions-unique kit (rule_at kit place) one other is is_too

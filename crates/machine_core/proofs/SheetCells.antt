@@ -34,7 +34,7 @@ pub outline-few : (sheet : List ℕ) (outline : Outline) → read_outline sheet 
     → length outline.columns * outline.rows ≤ 960000
 outline-few sheet outline is =
     let told = outlined-master (read_sheet sheet) outline is in
-    let good = IsMaster-read_sheet sheet told.0 told.1 in
+    let good = IsMaster-read_sheet _ sheet told.0 told.1 in
     let few : length told.0.columns * length told.0.grid.rows ≤ 960000 =
     omega (arith, mul-le-mul good.narrow good.few) in
     subst (λ (one : Outline). length one.columns * one.rows ≤ 960000) told.2 few

@@ -19,7 +19,7 @@ use Rattle.region_suggest.specs.Suggestions.{AdvisesAtFix, AdvisesNothing, IsSug
 use Rattle.fix_engine.proofs.Lists.{Contains-behind, Contains-cases, Contains-first}
 use Rattle.region_suggest.proofs.Lists.{Contains-nil}
 
--- the first of a list in order comes before each that the list contains behind it
+-- the first of a list in order comes before each that the list contains after it
 first-before : {A : Type 0} (R : A → A → Type 0) (first : A) (rest : List A) → AllPairs R (first ∷ rest) → (one : A)
     → Contains rest one → R first one
 first-before R first rest in_order one (place, within, is) =
@@ -45,7 +45,7 @@ module _ {A : Type 0} (R : A → A → Type 0) (apart : (one other : A) → R on
     ]
   ]
 
-  -- an item that the one list contains behind its first is behind the first of the other
+  -- an item that the one list contains after its first is after the first of the other
   contains-behind : (first : A) (rest others : List A) → AllPairs R (first ∷ rest) → (one : A) → Contains rest one
       → Contains (first ∷ others) one → Contains others one
   contains-behind first rest others in_order one behind there = elim (Contains-cases first one others there) [
@@ -106,7 +106,7 @@ module _ (kit : Kit) (state : State) where
     heads = closed.heads;
   })
 
-  -- an attribute is needed where the attributes behind it are the same
+  -- an attribute is needed where the attributes after it are the same
   needed-alike : (need other : List ℕ) (attribute : ℕ)
       → ((later : ℕ) → attribute < later → Contains other later → Contains need later)
       → IsNeeded kit state need attribute → IsNeeded kit state other attribute

@@ -124,7 +124,7 @@ each-err {A} {B} find (first ∷ others) refusal gives =
           ]
     ]
 
--- where each item passes behind those before it, what each leaves so holds of all
+-- where each item passes after those before it, what each leaves so holds of all
 pub each_behind-all : {A B : Type 0} (P : List B → Type 0) (find : List B → A → Checked B) (items : List A)
     (before found : List B)
     → ((sofar : List B) (item : A) (value : B) → P sofar → Gives (find sofar item) (Ok value) → P (sofar ++ value ∷ []))
@@ -135,7 +135,7 @@ each_behind-all P find (first ∷ others) before found holds start gives =
     Gives-bind_ok (find before first) (λ one. each_behind (before ++ one ∷ []) find others) found gives in
     each_behind-all P find others (before ++ here ∷ []) found holds (holds before first here start is_here) left
 
--- as many are found as there are items, behind those before them
+-- as many are found as there are items, after those before them
 pub each_behind-length : {A B : Type 0} (find : List B → A → Checked B) (items : List A) (before found : List B)
     → Gives (each_behind before find items) (Ok found) → length found ≡ length before + length items
 each_behind-length find [] before found gives = omega (arith, ap length (done-value before found gives))

@@ -64,8 +64,8 @@ use Rattle.machine_core.specs.Limits.{limit_of}
 use Rattle.machine_core.specs.Look.Suggest.{regions_of}
 use Rattle.machine_core.specs.Machine.{clerk_of}
 use Rattle.machine_core.specs.Named.{GivesText, attributes_in, carried_in, clerk_in, columns_in, edition_in, master_in}
-use Rattle.machine_core.specs.Named.{masters_in, new_name_in, reason_in, region_in, row_in, rulebook_in, schema_in}
-use Rattle.machine_core.specs.Named.{session_in, version_in}
+use Rattle.machine_core.specs.Named.{masters_in, new_name_in, reason_in, region_in, row_in, rule_in, rulebook_in}
+use Rattle.machine_core.specs.Named.{schema_in, session_in, version_in}
 use Rattle.machine_core.specs.Own.{Own, own_of}
 use Rattle.machine_core.specs.Steward.AddEdition.{master_name}
 use Rattle.machine_core.specs.Steward.AddRegion.{region_count}
@@ -328,6 +328,10 @@ Cause rows command (NoSuch kind.Row) =
     × Contains (masters_in command) version × (master_named rows.masters version.0 version.1 ≡ Some place)
     × (master_at (published_of rows) place ≡ Some master) × (row_in command ≡ Some number)
     × (numbered master.1.grid.rows number ≡ None)
+Cause rows command (NoSuch kind.Rule) =
+    (place : ℕ) × (bound : Bound) × (name : List ℕ) × IsAbout rows command place
+    × (bound_at (published_of rows) place ≡ Some bound) × (rule_in command ≡ Some name)
+    × All (λ one. one ≢ name) bound.names.rules
 Cause rows command (Closed stage) =
     (session : SessionRow) × Names rows command session × (session.stage ≡ stage) × (stage ≢ Active)
 Cause rows command (UnknownAttr word) =

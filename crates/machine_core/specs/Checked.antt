@@ -12,11 +12,14 @@ use Rattle.fix_model.specs.declared.kit.Kit.{Kit}
 use Rattle.fix_model.specs.declared.region.Region.{Region}
 use Rattle.fix_model.specs.declared.state.State.{State}
 use Rattle.fix_model.specs.declared.state.Step.{Step}
+use Rattle.fix_model.specs.Rules.{rule_at}
 use Rattle.fix_engine.specs.declared.verdict.Verdict.{Verdict}
 use Rattle.fix_engine.specs.Verdicts.{IsAnswer}
 use Rattle.region_derive.specs.Derived.{AreDerived}
 use Rattle.region_suggest.specs.declared.suggestion.Suggestion.{Suggestion}
 use Rattle.region_suggest.specs.Suggestions.{IsSuggestion}
+use Rattle.rule_contradictions.specs.declared.contradiction.Contradiction.{Contradiction}
+use Rattle.rule_contradictions.specs.Contradictions.{AreContradictions}
 
 -- what the engine answers for a state: the first run, the second, and the verdict
 pub record Answer : Type 0 where
@@ -36,8 +39,8 @@ pub record IsExplanation (kit : Kit) (state : State) (run : List Step) (attribut
   pub uses : AreUses kit state explanation.steps explanation.uses
 
 -- what is asked of the engine on the way: what the rules make of a state, what is suggested for it, why a run fixes an
--- attribute, which rows a grid gives for attributes and columns, which cells two views show otherwise, or what is blocked
--- at a state where nothing fires
+-- attribute, which rows a grid gives for attributes and columns, which cells two views show otherwise, what is blocked
+-- at a state where nothing fires, or where the master of the rule at a place contradicts itself
 pub data Question : Type 0 where
   decides : Kit → State → Question
   advises : Kit → State → List Region → Question
@@ -45,6 +48,7 @@ pub data Question : Type 0 where
   derives : Kit → GridRows → List ℕ → List ℕ → Question
   compares : View → View → Question
   blocks : Kit → State → Question
+  contradicts : Kit → ℕ → Question
 
 -- what is answered to a question
 abbrev pub AnswerTo : Question → Type 0
@@ -54,6 +58,7 @@ AnswerTo (explains kit state run attribute) = Explanation
 AnswerTo (derives kit grid attributes columns) = List (ℕ × List (List ℕ))
 AnswerTo (compares before after) = List (ℕ × ℕ)
 AnswerTo (blocks kit state) = List BlockedAttribute
+AnswerTo (contradicts kit place) = List Contradiction
 
 -- the question is answered as it is defined
 abbrev pub IsAnswered : (question : Question) → AnswerTo question → Type 0
@@ -63,6 +68,7 @@ IsAnswered (explains kit state run attribute) explanation = IsExplanation kit st
 IsAnswered (derives kit grid attributes columns) rows = AreDerived kit grid attributes columns rows
 IsAnswered (compares before after) pairs = AreChanged before after pairs
 IsAnswered (blocks kit state) blocked = AreBlocked kit state blocked
+IsAnswered (contradicts kit place) found = AreContradictions kit (rule_at kit place) found
 
 infixl 10 ◌>>=◌
 -- tests in their order: a value is found, what is refused ends them, a question is asked; or valid tables rule it out
@@ -95,7 +101,7 @@ each find (first ∷ others) = do
   more ← each find others
   done (found ∷ more)
 
--- what is found of each item among those that were found before it, behind these
+-- what is found of each item among those that were found before it, after these
 abbrev pub each_behind : {A B : Type 0} → List B → (List B → A → Checked B) → List A → Checked (List B)
 each_behind before find [] = done before
 each_behind before find (first ∷ others) = do
@@ -125,6 +131,10 @@ changes_for before after = asked (compares before after)
 -- what stands in the way of each attribute that is not covered at a state
 abbrev pub blockers_for : Kit → State → Checked (List BlockedAttribute)
 blockers_for kit state = asked (blocks kit state)
+
+-- where the master of the rule at a place contradicts itself
+abbrev pub contradictions_for : Kit → ℕ → Checked (List Contradiction)
+contradictions_for kit place = asked (contradicts kit place)
 
 -- ---- what comes of tests
 

@@ -3,14 +3,21 @@ pub mod Published
 pub mod Edition
 pub mod Row
 pub mod Region
+pub mod Bodies
+pub mod Contradictions
+pub mod Check
 use Rattle.std.specs.Prelude.{ℕ, List, [], flat_map, Option, Some, None}
 use Rattle.desk_words.specs.declared.desk_look.DeskLook.{DeskLook}
 use Rattle.desk_words.specs.declared.desk_look.DeskLook.TheVariants as look
+use Rattle.desk_words.specs.declared.desk_look.Publication.TheVariants as publication
 use Rattle.desk_words.specs.declared.reply.Reply.{Reply}
 use Rattle.desk_words.specs.declared.reply.Reply.TheVariants as reply
 use Rattle.desk_words.specs.Tables.{Rows, published_of}
 use Rattle.machine_core.specs.Checked.{Checked}
 use Rattle.machine_core.specs.Deriving.{derived_sheet}
+use Rattle.machine_core.specs.DeskLook.Bodies.{body_of}
+use Rattle.machine_core.specs.DeskLook.Check.{check_reply, tried}
+use Rattle.machine_core.specs.DeskLook.Contradictions.{contradictions_shown}
 use Rattle.machine_core.specs.DeskLook.Edition.{edition_shown}
 use Rattle.machine_core.specs.DeskLook.Published.{catalogue}
 use Rattle.machine_core.specs.DeskLook.Region.{region_shown}
@@ -31,6 +38,12 @@ desk_look_at rows (look.Row master version number) =
     told (row_shown (published_of rows) master version number) reply.MasterRow
 desk_look_at rows (look.Region edition version number) =
     told (region_shown (published_of rows) edition version number) reply.Region
+desk_look_at rows (look.Body what name version) =
+    told (body_of (published_of rows) what name version) (reply.Body what)
+desk_look_at rows (look.Contradictions edition version rule) =
+    told (contradictions_shown (published_of rows) edition version rule) reply.Contradictions
+desk_look_at rows (look.Check proposal) =
+    told (tried (published_of rows) proposal) (check_reply (published_of rows) proposal)
 
 -- what is replied to a look at the desk
 abbrev pub desk_reply : Rows → DeskLook → Checked Reply
@@ -39,19 +52,32 @@ desk_reply rows look = reply_of (desk_look_at rows look)
 -- ---- what a look at the desk names
 
 -- a version of an edition, one of its masters by its name, pairs of an attribute and a column of that master, a region
--- of the edition by its number, a version of a master, and a row of that by its number
+-- of the edition by its number, a rule of it by its name, a version of a master, a row of that by its number, and a
+-- version of a schema and of a rulebook
 pub record DeskNaming : Type 0 where
   pub edition : Option (List ℕ × ℕ)
   pub master : Option (List ℕ)
   pub pairs : List (List ℕ × List ℕ)
   pub region : Option ℕ
+  pub rule : Option (List ℕ)
   pub sheet : Option (List ℕ × ℕ)
   pub row : Option ℕ
+  pub schema : Option (List ℕ × ℕ)
+  pub rulebook : Option (List ℕ × ℕ)
 
 -- nothing
 abbrev pub desk_names_nothing : DeskNaming
-desk_names_nothing =
-    record { edition = None; master = None; pairs = []; region = None; sheet = None; row = None }
+desk_names_nothing = record {
+  edition = None;
+  master = None;
+  pairs = [];
+  region = None;
+  rule = None;
+  sheet = None;
+  row = None;
+  schema = None;
+  rulebook = None;
+}
 
 -- what a look at the desk names, one look a case
 abbrev pub desk_named_by : DeskLook → DeskNaming
@@ -64,3 +90,12 @@ desk_named_by (look.Row master version number) =
     record desk_names_nothing { sheet = Some (master, version); row = Some number }
 desk_named_by (look.Region edition version number) =
     record desk_names_nothing { edition = Some (edition, version); region = Some number }
+desk_named_by (look.Body publication.Schema name version) =
+    record desk_names_nothing { schema = Some (name, version) }
+desk_named_by (look.Body publication.Master name version) =
+    record desk_names_nothing { sheet = Some (name, version) }
+desk_named_by (look.Body publication.Rulebook name version) =
+    record desk_names_nothing { rulebook = Some (name, version) }
+desk_named_by (look.Contradictions edition version rule) =
+    record desk_names_nothing { edition = Some (edition, version); rule = Some rule }
+desk_named_by (look.Check proposal) = desk_names_nothing

@@ -3,7 +3,9 @@ pub mod Outcomes
 pub mod Limits
 pub mod Faults
 pub mod Shelves
+pub mod Codes
 pub mod Finding
+pub mod Says
 pub mod Sessions
 pub mod Versions
 pub mod Tests

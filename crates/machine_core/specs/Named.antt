@@ -47,11 +47,13 @@ version_in _ = None
 -- a version of a schema
 abbrev pub schema_in : Command → Option (List ℕ × ℕ)
 schema_in (Steward ticket (AddRulebook name schema version body)) = Some (schema, version)
+schema_in (Desk look) = (desk_named_by look).schema
 schema_in _ = None
 
 -- a version of a rulebook
 abbrev pub rulebook_in : Command → Option (List ℕ × ℕ)
 rulebook_in (Steward ticket (AddEdition name rulebook masters folded)) = Some rulebook
+rulebook_in (Desk look) = (desk_named_by look).rulebook
 rulebook_in _ = None
 
 -- the words of the columns of a sheet that reads
@@ -94,6 +96,11 @@ columns_in _ = []
 abbrev pub region_in : Command → Option ℕ
 region_in (Desk look) = (desk_named_by look).region
 region_in _ = None
+
+-- a rule of the edition, by its name
+abbrev pub rule_in : Command → Option (List ℕ)
+rule_in (Desk look) = (desk_named_by look).rule
+rule_in _ = None
 
 -- a row of a master, by its number
 abbrev pub row_in : Command → Option ℕ

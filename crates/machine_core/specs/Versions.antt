@@ -9,7 +9,7 @@ abbrev pub AreVersions : {T : Type 0} → (T → List ℕ) → (T → ℕ) → L
 AreVersions name_of version_of rows =
     EachAt rows (λ place row. IsVersion name_of rows place (name_of row) (version_of row))
 
--- a row of the name, behind which there is none
+-- a row of the name, after which there is none
 pub record IsLastNamed {T : Type 0} (name_of : T → List ℕ) (rows : List T) (name : List ℕ) (place : ℕ) : Type 0 where
   pub row : T
   pub stands : slice_get rows place ≡ Some row

@@ -9,12 +9,12 @@ use std::alloc::Global;
 /// What an accepted write of a clerk does to the clerk's own rows, and what the clerk's row keeps of it.
 #[derive(Debug, Drop)]
 pub struct Deed {
-    /// Sessions that are put, each at its place, counted from 0. One at the number of sessions stands behind the
+    /// Sessions that are put, each at its place, counted from 0. One at the number of sessions stands after the
     /// others.
     pub sessions: List<(u32, SessionRow)>,
-    /// A record behind the others.
+    /// A record after the others.
     pub record_row: Option<RecordRow>,
-    /// A batch behind the others.
+    /// A batch after the others.
     pub batch: Option<BatchRow>,
     /// What the clerk's row says that the last write did.
     pub act: Act,

@@ -1,6 +1,7 @@
 //! The faults of readers as refusals.
 ghost use Rattle.std.specs.Prelude.{◌≡◌, ◌≢◌, IfOk};
 ghost use Rattle.master_rows.specs.Master.{IsMaster};
+ghost use Rattle.master_rows.specs.Outline.{read_outline};
 ghost use Rattle.master_rows.specs.Sheet.{read_sheet};
 ghost use Rattle.rule_text.specs.Reading.{read_rules};
 ghost use Rattle.rule_text.specs.Rulebooks.{IsRulebook};
@@ -12,7 +13,7 @@ ghost use Rattle.machine_core.specs.Outcomes.{Finds, IfRefused};
 
 use crate::stop::Stop;
 use desk_words::{Reader, Refusal};
-use master_rows::{Master, SheetFault};
+use master_rows::{Master, Outline, SheetFault};
 use rule_text::{BindFault, RuleFault, Rulebook};
 use schema_core::{Schema, SchemaFault};
 use std::alloc::Global;
@@ -35,6 +36,16 @@ pub fn read_master(alloc: Global, body: &[u8]) -> Result<Master, Stop>
 {
     match Master::read(alloc, body) {
         Ok(master) => Ok(master),
+        Err(fault) => Err(sheet_stop(fault)),
+    }
+}
+
+/// The columns of the master of a sheet, and how many rows it has.
+pub(crate) fn read_outline(alloc: Global, body: &[u8]) -> Result<Outline, Stop>
+    ensures { Finds result (value_or (read_outline body.now) sheet_refusal) }
+{
+    match Master::outline(alloc, body) {
+        Ok(outline) => Ok(outline),
         Err(fault) => Err(sheet_stop(fault)),
     }
 }

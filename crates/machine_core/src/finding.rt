@@ -56,7 +56,7 @@ pub fn next_version<T: Versioned>(rows: &[T], name: &str) -> u32
 }
 
 /// The last row of a name. Versions go up, so it is the newest, and its version says how many there are: no rows but
-/// those behind it are looked at, and none is counted.
+/// those after it are looked at, and none is counted.
 fn last_named<T: Versioned>(rows: &[T], name: &str) -> Option<usize>
     ensures last { MatchOption result (count_by (λ row. bytes_eq (T.name_of row) name.now) rows.now ≡ 0)
         (λ place. IsLastNamed T.name_of rows.now name.now place) }

@@ -10,7 +10,7 @@ mod add_schema;
 pub use add_clerk::clerk_row;
 pub use add_derived::derived_region;
 pub use add_edition::edition_row;
-pub(crate) use add_edition::master_name;
+pub(crate) use add_edition::{edition_entries, master_name};
 pub use add_master::master_row;
 pub use add_region::{region_count, region_on};
 pub use add_rulebook::rulebook_row;

@@ -31,7 +31,7 @@ record IsNeedFrom (kit : Kit) (state : State) (first : ℕ) (need : List ℕ) : 
   behind : (attribute : ℕ) → Contains need attribute → first ≤ attribute
   each : (attribute : ℕ) → first ≤ attribute → Contains need attribute ↔ IsNeeded kit state need attribute
 
--- whether an attribute is needed turns on the members behind it
+-- whether an attribute is needed turns on the members after it
 needed-same : (kit : Kit) (state : State) (need other : List ℕ) (attribute : ℕ)
     → ((later : ℕ) → attribute < later → Contains other later → Contains need later)
     → IsNeeded kit state need attribute → IsNeeded kit state other attribute

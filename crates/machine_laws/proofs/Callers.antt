@@ -74,7 +74,7 @@ IsClerkRow-more rows other place row more same is = record {
   target = HasTarget-more rows other more place row.act row.target is.target;
 }
 
--- what a request does that was accepted, by the steward in row 0 or by a clerk behind: its target stands
+-- what a request does that was accepted, by the steward in row 0 or by a clerk after: its target stands
 pub record IsDone (rows : Rows) (place : ℕ) (act : Act) (target : ℕ) : Type 0 where
   pub some : act ≢ Nothing
   pub steward : place ≡ 0 → IsStewardsAct act

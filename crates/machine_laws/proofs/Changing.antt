@@ -112,7 +112,7 @@ module _ (published : Published) (own : Own) (good : IsGoodOwn published own) wh
         batch = refl;
       }))
 
--- Commit: the session is committed, and its record comes behind the others
+-- Commit: the session is committed, and its record comes after the others
 module _ (rows : Rows) (valid : AreValid rows) (own : Own) (good : IsGoodOwn (published_of rows) own) where
   IsSoundDeed-committed : (number : ℕ) (session : SessionRow) (bound : Bound) (end : State)
       → IsActiveAt own.sessions number session → bound_at (published_of rows) session.edition ≡ Some bound

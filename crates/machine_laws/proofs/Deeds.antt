@@ -89,7 +89,7 @@ fit-sessions rows place ((inner, row) ∷ puts) rest clerk within fits last =
           (subst (λ sessions. FitAll (record rows { sessions = sessions }) rest) same last),
     )
 
--- a record or none behind a clerk's others
+-- a record or none after a clerk's others
 abbrev with_records : Rows → ℕ → List RecordRow → Rows
 with_records rows place records = record rows { records = set rows.records place records }
 
@@ -113,7 +113,7 @@ fit-record rows place None rest clerk short last =
 fit-record rows place (Some row) rest clerk short last =
     ((clerk, (omega arith, omega (arith, length-append (list_at rows.records place) (row ∷ [])))), last)
 
--- a batch or none behind a clerk's others
+-- a batch or none after a clerk's others
 abbrev with_batches : Rows → ℕ → List BatchRow → Rows
 with_batches rows place batches = record rows { batches = set rows.batches place batches }
 
@@ -154,7 +154,7 @@ changed-caller rows place row within =
 abbrev pub own_after : Own → Ticket → Deed → Own
 own_after own ticket deed = record (after own deed) { row = ticketed own.row ticket deed.act deed.target }
 
--- the changes of a deed, one part behind another
+-- the changes of a deed, one part after another
 changes-parts : (place : ℕ) (row : ClerkRow) (ticket : Ticket) (deed : Deed)
     → changes_of place row ticket deed ≡ puts_of place deed.sessions
     ++ (map (λ one. change.Record place one) (option_to_list deed.record_row)

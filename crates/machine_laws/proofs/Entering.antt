@@ -45,7 +45,7 @@ PutsFit-placed sessions (session ∷ news) count is few =
           (omega (arith, few, length_is))),
     )
 
--- each row behind the others is one of those that came
+-- each row after the others is one of those that came
 behind-all : {T : Type 0} (P : T → Type 0) (rows news : List T) → All P news → (place : ℕ) (row : T)
     → length rows ≤ place
     → slice_get (rows ++ news) place ≡ Some row → P row
@@ -56,7 +56,7 @@ behind-all P (first ∷ rows) news all (suc place) row past stands =
     behind-all P rows news all place row (omega (arith, past)) stands
 
 module _ (published : Published) (own : Own) (good : IsGoodOwn published own) where
-  -- a session on an edition behind the others
+  -- a session on an edition after the others
   IsSoundDeed-opened : (edition : ℕ) (bound : Bound) (cells : List (ℕ × List ℕ)) (confirmed : List ℕ)
       → bound_at published edition ≡ Some bound → length own.sessions + 1 ≤ 20000
       → IsSoundDeed published own (puts (length own.sessions)
@@ -88,7 +88,7 @@ module _ (published : Published) (own : Own) (good : IsGoodOwn published own) wh
       subst (IsSoundDeed published own) (sym (is ∙ ap (λ one. puts (length own.sessions) one act.Opened) met.is))
       (IsSoundDeed-opened met.edition met.bound met.texts met.places met.binds met.few)
 
-  -- sessions on an edition behind the others, with their batch
+  -- sessions on an edition after the others, with their batch
   IsSoundDeed-entered : (edition : ℕ) (news : List SessionRow) → edition < length published.editions
       → ((batches : List BatchRow) → length own.batches + 1 ≤ length batches → All (IsSessionRow published batches)
       news)

@@ -23,7 +23,7 @@ fails-empty : (P : List Bool → Type 0) → ¬ P [] → (flags : List Bool) →
 fails-empty P fails [] none = fails
 fails-empty P fails (flag ∷ flags) none = absurd (omega (arith, none))
 
--- and what fails behind either flag fails
+-- and what fails after either flag fails
 fails-longer : (P : List Bool → Type 0) (width : ℕ)
     → ((flags : List Bool) → length flags ≡ width → ¬ P (true ∷ flags))
     → ((flags : List Bool) → length flags ≡ width → ¬ P (false ∷ flags))

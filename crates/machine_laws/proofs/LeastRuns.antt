@@ -130,7 +130,7 @@ finds-final kit P state (inl passes) final = inl (
 finds-final kit P state (inr fails) final = inr (λ run maximal passes.
     fails (subst (λ one. P (end_of kit state one)) (sym (empty-only kit state final run maximal)) passes))
 
--- where a step fires, and the runs behind each step are found
+-- where a step fires, and the runs after each step are found
 module _ (kit : Kit) (P : State → Type 0) (state : State) (fired : Step) (fires : Fires kit state fired)
     (later : (step : Step) → Fires kit state step → FindsRun kit P (after kit state step)) where
   -- whether a run whose end passes begins with a step
@@ -155,7 +155,7 @@ module _ (kit : Kit) (P : State → Type 0) (state : State) (fired : Step) (fire
   none-begins none (step ∷ rest) maximal passes =
       none step (record { fires = maximal.0.0; rest = rest; maximal = (maximal.0.1, maximal.1); passes = passes })
 
-  -- the least such step with the least run behind it comes before every other run
+  -- the least such step with the least run after it comes before every other run
   IsRunBefore-least : (step : Step) (rest : List Step) → IsLeast IsBefore (BeginsRun kit P state) step
       → IsLeastRun kit P (after kit state step) rest → (other : List Step) → IsMaximalRun kit state other
       → P (end_of kit state other) → ((step ∷ rest) ≡ other) ⊎ IsRunBefore (step ∷ rest) other

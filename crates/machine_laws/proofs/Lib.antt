@@ -51,4 +51,8 @@ pub mod Looks
 pub mod DeskLooks
 pub mod Refusing
 pub mod MadeOutcomes
+pub mod Tried
+pub mod Checks
 pub mod EveryStep
+pub mod Published
+pub mod Contradicted

@@ -30,7 +30,7 @@ pub next-valid : (rows : Rows) (event : Event) → AreValid rows → IsNumbered 
 next-valid rows event valid numbered step =
     (step-valid rows event.command event.answer event.changes valid numbered step).1
 
--- a caller's last write comes again behind others' requests and refused ones
+-- a caller's last write comes again after others' requests and refused ones
 last-again : (rows : Rows) (caller : Caller) (command : Command) (answer : Reply) (between : List Event) (again : Event)
     → AreValid rows → asks caller command ≡ true → IsLast rows command answer
     → All (λ one. is_write_of caller one ≡ false) between → again.command ≡ command
@@ -101,7 +101,7 @@ stale-listed rows caller event one again earlier later valid asked_it accepted w
         is.found in
         omega (arith, next.0)
 
--- a caller's accepted writes have numbers that go up by one, from the one behind the last
+-- a caller's accepted writes have numbers that go up by one, from the one after the last
 pub numbers-from : (rows : Rows) (caller : Caller) (place : ℕ) (events : List Event) → AreValid rows
     → IsFound (place_of rows caller) place → AreAnswered rows events
     → numbers_of caller events ≡ range_with_len ((own_of rows place).row.last + 1) (length (numbers_of caller events))

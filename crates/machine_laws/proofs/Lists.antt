@@ -68,11 +68,11 @@ module _ {T : Type 0} (rows others : List T) (begins : Begins rows others) where
 pub Begins-same : {T : Type 0} (rows : List T) → Begins rows rows
 Begins-same rows = ([], sym (append-nil rows))
 
--- and with a row behind it
+-- and with a row after it
 pub Begins-push : {T : Type 0} (rows : List T) (row : T) → Begins rows (rows ++ row ∷ [])
 Begins-push rows row = (row ∷ [], refl)
 
--- each row of a longer list is good where the rows of the shorter one were, and the rows behind are
+-- each row of a longer list is good where the rows of the shorter one were, and the rows after are
 pub EachAt-begins : {T : Type 0} (P Q : ℕ → T → Type 0) (rows others : List T) → Begins rows others → EachAt rows P
     → ((place : ℕ) (row : T) → place < length rows → P place row → Q place row)
     → ((place : ℕ) (row : T) → length rows ≤ place → slice_get others place ≡ Some row → Q place row)
@@ -83,7 +83,7 @@ EachAt-begins P Q rows others begins each more behind place row stands = elim (c
   | inr past ↦ behind place row past stands
 ]
 
--- the one row behind the others
+-- the one row after the others
 pub pushed : {T : Type 0} (Q : ℕ → T → Type 0) (rows : List T) (new : T) → Q (length rows) new → (place : ℕ) (row : T)
     → length rows ≤ place → slice_get (rows ++ new ∷ []) place ≡ Some row → Q place row
 pushed {T} Q rows new good place row past stands =

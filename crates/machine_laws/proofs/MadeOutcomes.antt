@@ -37,8 +37,9 @@ use Rattle.machine_core.specs.Finding.{edition_named, master_named, rulebook_nam
 use Rattle.machine_core.specs.Kept.{kept_made, region_made}
 use Rattle.machine_core.specs.Machine.{making_of}
 use Rattle.machine_core.specs.Steward.AddEdition.{AreOthers, another_master, bindable, in_order, master_name, narrow}
-use Rattle.machine_core.specs.Steward.AddEdition.{next_edition}
+use Rattle.machine_core.specs.Steward.AddEdition.{edition_row, next_edition}
 use Rattle.machine_core.specs.Steward.AddRegion.{full_row, full_rows, region_count, short_text}
+use Rattle.machine_core.specs.Steward.AddRulebook.{rulebook_row}
 use Rattle.machine_core.specs.Tests.{another_attribute, proper_name}
 use Rattle.machine_core.specs.Views.{edition_at}
 use Rattle.machine_core.proofs.Deriving.{derivation-derivable}
@@ -254,19 +255,21 @@ module _ (rows : Rows) (valid : AreValid rows) where
   outcome-made act.Committed target is = absurd (is.steward refl)
   outcome-made act.Batched target is = absurd (is.steward refl)
 
-  -- each command of the steward
-  pub outcome-making : (work : StewardWork) → HasOutcome (making_of rows work)
-  outcome-making (AddClerk name) = search plain_tests depth 9
-  outcome-making (AddSchema body) = search plain_tests depth 9
-  outcome-making (AddMaster name body) = search plain_tests depth 9
-  outcome-making (AddRulebook name schema version body) = outcome-bind (outcome-bind (outcome-name name)
+  -- the row of a rulebook
+  pub outcome-rulebook_row : (name schema : List ℕ) (version : ℕ) (body : List ℕ)
+      → HasOutcome (rulebook_row (published_of rows) name schema version body)
+  outcome-rulebook_row name schema version body = outcome-bind (outcome-name name)
       (λ _ _. outcome-bind
       (outcome-some_or (schema_named rows.schemas schema version) (NoSuch kind.Schema)) (λ place found.
       let stands : place < length rows.schemas = place_of-within (λ row. row.name) (λ row. row.version) rows.schemas
       schema version place (record { name = []; version = 0; body = [] })
       (some_or-ok (schema_named rows.schemas schema version) (NoSuch kind.Schema) place found) in
-      outcome-bind (schema-there place stands) (λ over reads. search plain_tests)))) (λ row ok. outcome-done _)
-  outcome-making (AddEdition name rulebook masters folded) = outcome-bind (outcome-bind (outcome-name name)
+      outcome-bind (schema-there place stands) (λ over reads. search plain_tests)))
+
+  -- that of an edition
+  pub outcome-edition_row : (name : List ℕ) (rulebook : List ℕ × ℕ) (masters : List (List ℕ × ℕ))
+      (folded : List (List ℕ)) → HasOutcome (edition_row (published_of rows) name rulebook masters folded)
+  outcome-edition_row name rulebook masters folded = outcome-bind (outcome-name name)
       (λ _ _. outcome-bind
       (outcome-some_or (rulebook_named rows.rulebooks rulebook.0 rulebook.1) (NoSuch kind.Rulebook)) (λ book found.
       let stands : book < length rows.rulebooks = place_of-within (λ row. row.name) (λ row. row.version) rows.rulebooks
@@ -281,7 +284,17 @@ module _ (rows : Rows) (valid : AreValid rows) where
       let row : EditionRow = next_edition rows.editions name book places
       (in_order attributes (length over.schema.attributes)) in
       outcome-bind (outcome-bindable row stands (masters-stand masters places all_ok))
-      (λ _ _. outcome-done row))))))))) (λ row ok. outcome-done _)
+      (λ _ _. outcome-done row))))))))
+
+  -- each command of the steward
+  pub outcome-making : (work : StewardWork) → HasOutcome (making_of rows work)
+  outcome-making (AddClerk name) = search plain_tests depth 9
+  outcome-making (AddSchema body) = search plain_tests depth 9
+  outcome-making (AddMaster name body) = search plain_tests depth 9
+  outcome-making (AddRulebook name schema version body) =
+      outcome-bind (outcome-rulebook_row name schema version body) (λ row ok. outcome-done _)
+  outcome-making (AddEdition name rulebook masters folded) =
+      outcome-bind (outcome-edition_row name rulebook masters folded) (λ row ok. outcome-done _)
   outcome-making (AddRegion edition version attributes texts) = outcome-bind (outcome-bind
       (outcome-some_or (edition_named rows.editions edition version) (NoSuch kind.Edition)) (λ place found.
       let stands = named-within rows valid edition version place found in

@@ -59,7 +59,7 @@ pub record IsSoundMaking (rows : Rows) (making : Making) : Type 0 where
       → (name : List ℕ) × (own_of (changed rows making.change) place ≡ new_own name)
   pub is_done : IsDone (changed rows making.change) 0 making.act making.target
 
--- a row behind the others has the next version of its name
+-- a row after the others has the next version of its name
 pub IsVersion-next : {T : Type 0} (name_of : T → List ℕ) (rows : List T) (row : T) (name : List ℕ)
     → IsTrue (is_name name)
     → IsVersion name_of (rows ++ row ∷ []) (length rows) name (next_version name_of rows name)
@@ -79,7 +79,7 @@ place_of-within name_of version_of rows name version place past is =
 pub name-ok : (text : List ℕ) (passed : Unit {0}) → Gives (tests.proper_name text) (Ok passed) → IsTrue (is_name text)
 name-ok text passed gives = unless-ok (is_name text) (BadName text) passed gives
 
--- nothing stands behind the rows of a table that stays
+-- nothing stands after the rows of a table that stays
 pub stays : {T : Type 0} (Q : ℕ → T → Type 0) (rows : List T) (place : ℕ) (row : T) → length rows ≤ place
     → slice_get rows place ≡ Some row → Q place row
 stays Q rows place row past stands = absurd (nothing-behind rows place row past stands)

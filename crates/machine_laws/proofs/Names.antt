@@ -116,7 +116,7 @@ clerk_in-begins (first ∷ names) others name place begins is =
     ap (λ list. run (clerk_in list name)) begins.1
     ∙ ap (λ one. run (some_or (option_map (λ one. one + 1) one) NoClerk)) longer ∙ ap (λ one. told (Ok one)) found.2
 
--- a clerk who is found stays where clerks come behind
+-- a clerk who is found stays where clerks come after
 pub clerk_of-begins : (clerks others : List ClerkRow) (name : List ℕ) (place : ℕ)
     → Begins (names_of clerks) (names_of others) → IsFound (clerk_of clerks name) place
     → IsFound (clerk_of others name) place

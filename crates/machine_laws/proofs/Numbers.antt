@@ -68,7 +68,7 @@ pub record HasUsed (rows : Rows) (caller : Caller) (number : ℕ) : Type 0 where
 
 module _ (rows : Rows) (valid : AreValid rows) (command : Command) (answer : Reply) (changes : List Change)
     (step : IsStep rows command answer changes) where
-  -- an accepted write has the number behind the last one, and is the last one then
+  -- an accepted write has the number after the last one, and is the last one then
   pub number-next : (caller : Caller) (place : ℕ) → changes ≢ [] → asks caller command ≡ true
       → IsFound (place_of rows caller) place
       → (number_of command ≡ (own_of rows place).row.last + 1)

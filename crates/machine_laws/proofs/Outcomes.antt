@@ -12,13 +12,15 @@ use Rattle.fix_model.specs.declared.state.Step.{Step}
 use Rattle.fix_model.specs.Run.{IsFinal, IsRun, end_of}
 use Rattle.fix_model.specs.States.{Fits}
 use Rattle.fix_model.specs.Valid.{IsValid}
+use Rattle.fix_model.specs.Rules.{rule_at}
+use Rattle.rule_contradictions.proofs.Lists.{AreContradictions-some}
 use Rattle.desk_words.specs.declared.limit.Which.{Which}
 use Rattle.desk_words.specs.declared.refusal.Refusal.{Refusal}
 use Rattle.desk_words.specs.declared.refusal.Refusal.TheVariants.{Limit}
 use Rattle.desk_words.specs.declared.view.View.{View}
 use Rattle.desk_carry.specs.Changes.{AreApart}
 use Rattle.machine_core.specs.Checked.{Checked, done, ◌>>=◌, advice_for, answer_for, blockers_for, certainly}
-use Rattle.machine_core.specs.Checked.{changes_for, each}
+use Rattle.machine_core.specs.Checked.{changes_for, contradictions_for, each}
 use Rattle.machine_core.specs.Checked.{each_behind, explanation_for, refused, rows_for, some_or, unless, value_or}
 use Rattle.machine_core.specs.Checked.{Gives}
 use Rattle.machine_core.specs.Limits.{limit_of, within}
@@ -43,7 +45,7 @@ outcome-done value = record { outcome = Ok value; gives = refl }
 pub outcome-refused : {A : Type 0} (refusal : Refusal) → HasOutcome {A = A} (refused refusal)
 outcome-refused refusal = record { outcome = Err refusal; gives = refl }
 
--- a chain, where its first part has one, and the rest has one behind each value of it
+-- a chain, where its first part has one, and the rest has one after each value of it
 pub outcome-bind : {A B : Type 0} {checked : Checked A} {next : A → Checked B} → HasOutcome checked
     → ((found : A) → Gives checked (Ok found) → HasOutcome (next found)) → HasOutcome (checked >>= next)
 outcome-bind {A} {B} {checked} {next} first rest = by_outcome first.outcome first.gives
@@ -108,7 +110,7 @@ outcome-all find (first ∷ others) has =
     outcome-bind (has first) (λ found ok.
     outcome-bind (outcome-all find others has) (λ more done_too. outcome-done (found ∷ more)))
 
--- also where it is tested behind those before it
+-- also where it is tested after those before it
 pub outcome-behind : {A B : Type 0} (before : List B) (find : List B → A → Checked B) (items : List A)
     → ((sofar : List B) (item : A) → HasOutcome (find sofar item)) → HasOutcome (each_behind before find items)
 outcome-behind before find [] has = outcome-done before
@@ -149,6 +151,12 @@ pub outcome-blockers : (kit : Kit) (state : State) → IsFinal kit state → Has
 outcome-blockers kit state ended =
     let blocked = AreBlocked-some kit state ended in
     record { outcome = Ok blocked.0; gives = (blocked.0, blocked.1, refl) }
+
+-- where the master of a rule contradicts itself
+pub outcome-contradictions : (kit : Kit) (place : ℕ) → HasOutcome (contradictions_for kit place)
+outcome-contradictions kit place =
+    let found = AreContradictions-some kit (rule_at kit place) in
+    record { outcome = Ok found.0; gives = (found.0, found.1, refl) }
 
 -- and which cells two views show otherwise
 pub outcome-changes : (before after : View) → AreApart before.cells → HasOutcome (changes_for before after)

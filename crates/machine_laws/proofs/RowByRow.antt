@@ -71,7 +71,7 @@ within-done which count few =
     ap (λ one. run (unless one (Limit which (limit_of which)))) passes
 
 -- the next number is a new one
-use-next : (row : ClerkRow) (ticket : Ticket) → ticket.number ≡ row.last + 1 → IsFound (use_of row ticket) Fresh
+pub use-next : (row : ClerkRow) (ticket : Ticket) → ticket.number ≡ row.last + 1 → IsFound (use_of row ticket) Fresh
 use-next row ticket next =
     let fresh : nat_le row.last ticket.number ≡ true = grind (arith, nat_tests, next) in
     let near : nat_le ticket.number (row.last + 1) ≡ true = grind (arith, nat_tests, next) in
@@ -357,7 +357,7 @@ IsOneByOne-batch rows name ticket edition body sheet answer changes events valid
           let are_columns = subst (AllZip (IsColumnOf all.bound.names.attributes) all.sheet.columns) (sym same_columns)
           are in
           let same : sheet ≡ all.sheet = same-sheet sheet all.sheet (read_sheet body) reads all.reads in
-          let good = IsMaster-read_sheet body all.sheet all.reads in
+          let good = IsMaster-read_sheet _ body all.sheet all.reads in
           let news : List SessionRow = batch_sessions own all.edition all.bound all.columns all.sheet in
           let all_entered = entered name edition all.sheet.columns (length own.batches + 1) all.edition all.bound
           all.columns

@@ -1,4 +1,4 @@
--- A clerk's sessions: one is replaced, or others come behind.
+-- A clerk's sessions: one is replaced, or others come after.
 use Rattle.std.proofs.Common.{◌≡◌, ◌≢◌, ◌∙◌, ℕ, ◌-◌, ◌<◌, ◌≤◌, Bool, true, false, List, [], ◌∷◌, ◌++◌, length, get_or}
 use Rattle.std.proofs.Common.{map, set, take, Option, Some, None, refl, sym, ap, subst, eqb, eqb-true, arith}
 use Rattle.std.specs.Prelude.{◌==◌, All, AllPairs, IfSome, Ok, slice_get, if◌then◌else◌}
@@ -144,7 +144,7 @@ module _ (published : Published) (sessions : List SessionRow) (records : List Re
       batches_valid = λ index row there. IsBatchRow-set row (are.batches_valid index row there);
     }
 
-    -- and where it is committed, its record comes behind the others
+    -- and where it is committed, its record comes after the others
     pub AreOwnRows-committed : (row : RecordRow) → new.stage ≡ Committed → 1 ≤ row.session → row.session - 1 ≡ place
         → length row.texts ≡ length new.typed → AreOwnRows published (set sessions place new) (records ++ row ∷ [])
         batches
@@ -184,7 +184,7 @@ module _ (published : Published) (sessions : List SessionRow) (records : List Re
             not-named index here.0 (are.records_valid index here.0 here.1)
             (ap (λ (earlier : RecordRow). earlier.session - 1) (sym is) ∙ ap (λ number. number - 1) same ∙ names_it)
 
-  -- others come behind, with a batch or none
+  -- others come after, with a batch or none
   module _ (news : List SessionRow) (more : List BatchRow)
       (good : (place : ℕ) (row : SessionRow) → length sessions ≤ place → slice_get (sessions ++ news) place ≡ Some row
       → IsSessionRow published (batches ++ more) row)

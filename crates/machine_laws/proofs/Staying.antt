@@ -130,7 +130,7 @@ chain-done {A} checked make value = made (run checked)
     made (awaits question more) is = absurd (cc)
     made nothing is = absurd (cc)
 
--- a caller who is found has a row; a clerk's is behind the steward's
+-- a caller who is found has a row; a clerk's is after the steward's
 pub record IsCallerAt (rows : Rows) (caller : Caller) (place : ℕ) : Type 0 where
   pub found : IsFound (place_of rows caller) place
   pub within : place < length rows.clerks
@@ -145,7 +145,7 @@ caller-at rows (clerk name) place tables is = record {
   within = (clerk_of-ok rows.clerks name place (subst (λ one. ComesTo one (Ok place)) (sym is) refl)).within;
 }
 
--- places stay where clerks come behind
+-- places stay where clerks come after
 pub place_of-begins : (rows other : Rows) (caller : Caller) (place : ℕ)
     → Begins (names_of rows.clerks) (names_of other.clerks) → IsFound (place_of rows caller) place
     → IsFound (place_of other caller) place

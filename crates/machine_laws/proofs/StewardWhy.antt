@@ -67,7 +67,7 @@ not-false : (told : Bool) → not told ≡ false → told ≡ true
 not-false true is = refl
 not-false false is = absurd (cc)
 
--- an item stands behind those before it
+-- an item stands after those before it
 Contains-between : {A : Type 0} (items earlier later : List A) (item : A) → items ≡ earlier ++ item ∷ later
     → Contains items item
 Contains-between items earlier later item is = subst (λ list. Contains list item) (sym is)
@@ -181,7 +181,7 @@ masters-places published (master ∷ masters) before found gives =
           one.0 one.1) masters)))) first ∙ ap (option_map (λ values. here ∷ values)) all,
     )
 
--- what stands behind others
+-- what stands after others
 slice_get-behind : {A : Type 0} (before : List A) (item : A) (rest : List A)
     → slice_get (before ++ item ∷ rest) (length before) ≡ Some item
 slice_get-behind [] item rest = refl

@@ -111,7 +111,7 @@ module _ (Holds : ℕ × ℕ → Type 0) (decide : (pair : ℕ × ℕ) → Decid
         )
       ]
 
-  -- behind the last second one the next first one is come to
+  -- after the last second one the next first one is come to
   whole-row : (place : ℕ) (pair : ℕ × ℕ) → Within place (rows place) pair ↔ Within (suc place) 0 pair
   whole-row place pair = (
     (λ within. (

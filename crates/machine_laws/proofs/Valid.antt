@@ -49,7 +49,7 @@ AreOwnRows-same published sessions other_sessions records other_records batches 
     (subst (λ list. AreOwnRows published sessions list other_batches) (sym same_records)
     (subst (λ list. AreOwnRows published sessions records list) (sym same_batches) are))
 
--- the rows that are published behind those before are good
+-- the rows that are published after those before are good
 pub record AreGoodBehind (before now : Published) : Type 0 where
   pub schemas : (place : ℕ) (row : SchemaRow) → length before.schemas ≤ place → slice_get now.schemas place ≡ Some row
       → IsSchemaRow now place row

@@ -145,7 +145,7 @@ sheet-why rows command body (sheet.Ragged row) is why = why _ refl
 sheet-why rows command body (sheet.CellLong row column) is why = why _ refl
 sheet-why rows command body sheet.TooManyRows is why = why _ refl
 sheet-why rows command body sheet.TooManyColumns is why = why _ refl
-sheet-why rows command body sheet.NoMemory is why = absurd (read_sheet-memory body is)
+sheet-why rows command body sheet.NoMemory is why = absurd (read_sheet-memory _ body is)
 
 -- a session that the command names is found active, or there is a cause
 pub active-why : (rows : Rows) (command : Command) (own : Own) (number : ℕ) → AsksWith rows command own

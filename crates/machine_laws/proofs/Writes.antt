@@ -36,7 +36,7 @@ use Rattle.machine_core.proofs.Tested.{some_or-ok}
 use Rattle.machine_core.proofs.Walks.{Gives-Met, Met-Gives}
 use Rattle.desk_words.specs.declared.refusal.Refusal.{Refusal}
 
--- the place of the clerk of a name: behind the steward
+-- the place of the clerk of a name: after the steward
 pub record IsPlaceOf (clerks : List ClerkRow) (name : List ℕ) (place : ℕ) : Type 0 where
   pub found : IsFound (clerk_of clerks name) place
   pub behind : 0 < place

@@ -53,7 +53,7 @@ pub record IsDerivedSheet (published : Published) (edition : List ℕ) (version 
   pub attributes : sheet.attributes ≡ map (λ pair. pair.0) pairs
   pub numbered : sheet.rows ≡ map (λ row. (row.0 + 1, row.1)) found
 
--- a region of the edition comes behind the others, with the texts of these rows from a place on, counted from 1, and no
+-- a region of the edition comes after the others, with the texts of these rows from a place on, counted from 1, and no
 -- more of them than a region has; and the steward's row is put
 pub record AddsDerived (rows : Rows) (ticket : Ticket) (edition : List ℕ) (version : ℕ) (master : List ℕ)
     (pairs : List (List ℕ × List ℕ)) (from : ℕ) (changes : List Change) : Type 0 where

@@ -6,3 +6,6 @@ pub mod OneByOne
 pub mod Carries
 pub mod Explanations
 pub mod Derivations
+pub mod Publishing
+pub mod Contradicting
+pub mod Checking

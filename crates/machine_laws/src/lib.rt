@@ -4,9 +4,12 @@
 pub mod batches;
 pub mod carrying;
 pub mod causes;
+pub mod checking;
+pub mod contradicting;
 pub mod derivations;
 pub mod explaining;
 pub mod isolation;
+pub mod publishing;
 pub mod questions;
 pub mod repeats;
 pub mod reports;

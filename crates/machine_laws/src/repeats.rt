@@ -17,7 +17,7 @@ ghost use Rattle.machine_laws.specs.Events.{AreAnswered, Event, is_accepted, is_
 
 use desk_words::{Command, Tables};
 
-/// An accepted write has the number behind the last one in its caller's row.
+/// An accepted write has the number after the last one in its caller's row.
 pub fn an_accepted_write_has_the_next_number(tables: &Tables, command: &Command)
     requires { AreValid (rows_of tables.now) }
     ensures { (caller : Caller) (own : Own) (answer : ReplyOf) (changes : List ChangeOf)
@@ -26,7 +26,7 @@ pub fn an_accepted_write_has_the_next_number(tables: &Tables, command: &Command)
         → number_of command.now ≡ own.row.last + 1 }
 {}
 
-/// In any list of requests the accepted writes of a caller have numbers that go up by one: from the number behind the
+/// In any list of requests the accepted writes of a caller have numbers that go up by one: from the number after the
 /// last one in the caller's row on, and from one of them on, also where the clerk comes while the list goes on.
 pub fn accepted_numbers_go_up_by_one(tables: &Tables)
     requires { AreValid (rows_of tables.now) }

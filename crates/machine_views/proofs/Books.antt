@@ -4,6 +4,7 @@ use Rattle.std.specs.Prelude.{All, IfSome, IsSomeAnd, Ok, Result, slice_get}
 use Rattle.std.proofs.lemmas.List.Elements.{All-map}
 use Rattle.std.proofs.lemmas.Option.{option_and_then_some, same_Some}
 use Rattle.desk_base.specs.Grid.{GridRows}
+use Rattle.desk_base.specs.declared.limits.TheConstants.{MAX_SHEET_ROWS}
 use Rattle.desk_words.specs.declared.rows.session.SessionRow.{SessionRow}
 use Rattle.desk_words.specs.Tables.{Published, Rows, published_of}
 use Rattle.desk_valid.specs.declared.bound.Bound.{Bound}
@@ -24,9 +25,9 @@ use Rattle.machine_core.proofs.Answering.{Answers-found, Answers-then}
 use Rattle.machine_core.proofs.Widths.{edition-stands, width-bound}
 use Rattle.machine_views.specs.Answered.{IsBookFor, IsNamedBook}
 
--- a master has no more rows than a master may have
+-- a master has no more rows than a sheet may have
 abbrev IsSmall : GridRows → Type 0
-IsSmall master = length master.rows ≤ 20000
+IsSmall master = length master.rows ≤ MAX_SHEET_ROWS
 
 -- so have those of an edition of valid tables
 few-rows : (rows : Rows) (edition : ℕ) (bound : Bound) → AreValid rows

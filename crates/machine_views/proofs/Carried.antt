@@ -31,7 +31,7 @@ list_any-map test make (first ∷ items) = ap (λ rest. test (make first) || res
 abbrev pub apart-words : View → List ViewCell → List (List ℕ)
 apart-words other cells = filter (λ word. not (has_text (words_in other) word)) (map (λ cell. cell.name) cells)
 
--- whether the view has the next cell's says what comes behind those before it
+-- whether the view has the next cell's says what comes after those before it
 pub apart-more : (other : View) (cells : List ViewCell) (place : ℕ) (cell : ViewCell) (shown : Bool)
     → place < length cells → cell ≡ get_or cells place cell
     → shown ≡ list_any (λ one. bytes_eq cell.name one.name) other.cells

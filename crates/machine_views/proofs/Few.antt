@@ -42,7 +42,7 @@ AreFew-weaker most more counts less few = record {
   };
 }
 
--- the sessions of one more clerk come behind those of the others
+-- the sessions of one more clerk come after those of the others
 pub all-more : (lists : List (List SessionRow)) (clerk : ℕ) → clerk < length lists
     → flat_map (λ sessions. sessions) (take (clerk + 1) lists)
     ≡ flat_map (λ sessions. sessions) (take clerk lists) ++ list_at lists clerk

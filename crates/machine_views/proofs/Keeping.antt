@@ -102,7 +102,7 @@ batched-given published own place row verdicts stands are =
     rw stands (Gives-bind (each find sessions) (λ all. done (told (verdicts_of (λ one. one.verdict) all))) are.all
     (Ok (told verdicts)) are.given (ap (λ counts. Ok (told counts)) are.counted))
 
--- the sessions that are put behind others
+-- the sessions that are put after others
 map-placed : (news : List SessionRow) (count : ℕ) → map (λ put. put.1) (placed count news) ≡ news
 map-placed [] count = refl
 map-placed (session ∷ news) count = ap (λ others. session ∷ others) (map-placed news (count + 1))

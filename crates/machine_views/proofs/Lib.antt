@@ -14,3 +14,4 @@ pub mod Carried
 pub mod Derived
 pub mod Choosing
 pub mod Blocked
+pub mod Contradicting

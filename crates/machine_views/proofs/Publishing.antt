@@ -135,5 +135,6 @@ region-found published name version number place region bound sheet found there 
       verdicts = map (λ answer. row_verdict answer.verdict) answers;
     } in
     let whole : sheet ≡ told are.all = is ∙ (λ i. record (told are.all) { verdicts = are.named i }) in
-    rw (found, there, binds) (Gives-bind (row_answers bound.kit region) (λ answers. done (told answers)) are.all (Ok sheet)
+    rw (found, there, binds) (Gives-bind (row_answers bound.kit region) (λ answers. done (told answers)) are.all
+    (Ok sheet)
     are.given (ap Ok whole))

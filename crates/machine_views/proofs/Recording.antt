@@ -25,7 +25,7 @@ records_numbered own = numbered 1 own.records
 
 module _ (own : Own) (edition place : ℕ) (row : RecordRow) (within : place < length own.records)
     (is : row ≡ get_or own.records place row) where
-  -- whether the next record is on the edition says what comes behind those before it
+  -- whether the next record is on the edition says what comes after those before it
   next-kept : (test : Bool) → is_on own edition (place + 1, row) ≡ test
       → filter (is_on own edition) (take (place + 1) (records_numbered own))
       ≡ filter (is_on own edition) (take place (records_numbered own)) ++ cond test ((place + 1, row) ∷ []) []
@@ -38,7 +38,7 @@ module _ (own : Own) (edition place : ℕ) (row : RecordRow) (within : place < l
       (sym (numbered-at 1 own.records place (place + 1) row within is (omega arith)))
       ∙ ap (λ test. before ++ cond test (item ∷ []) []) passes
 
-  -- the line of a record on the edition comes behind the others
+  -- the line of a record on the edition comes after the others
   pub lines-kept : (lines new : List RecordLine) (line : RecordLine) → is_on own edition (place + 1, row) ≡ true
       → lines ≡ map record_line (filter (is_on own edition) (take place (records_numbered own)))
       → line ≡ record_line (place + 1, row) → new ≡ lines ++ line ∷ []

@@ -89,7 +89,7 @@ AreCountsOn-same published edition sessions others counts same are =
 
 module _ (published : Published) (edition : ℕ) (sessions : List SessionRow) (session : SessionRow) (counts : Counts)
     (are : AreCountsOn published edition sessions counts) where
-  -- whether one more session is on the edition says what comes behind those before it
+  -- whether one more session is on the edition says what comes after those before it
   on-push : (test : Bool) → (session.edition == edition) ≡ test
       → filter (λ (other : SessionRow). other.edition == edition) (sessions ++ session ∷ [])
       ≡ filter (λ (other : SessionRow). other.edition == edition) sessions ++ cond test (session ∷ []) []
@@ -127,7 +127,7 @@ module _ (published : Published) (edition : ℕ) (sessions : List SessionRow) (s
 module _ (published : Published) (edition : ℕ) (sessions : List SessionRow) (place : ℕ) (session : SessionRow)
     (within : place < length sessions) (is : session ≡ get_or sessions place session) (earlier : List SessionRow)
     (counts : Counts) (are : AreCountsOn published edition (earlier ++ take place sessions) counts) where
-  -- the next session comes behind those before it
+  -- the next session comes after those before it
   next-push : earlier ++ take (place + 1) sessions ≡ (earlier ++ take place sessions) ++ session ∷ []
   next-push =
       let longer : take (place + 1) sessions ≡ take place sessions ++ session ∷ [] =
@@ -157,12 +157,12 @@ line-given published sessions edition row counts line here are made =
     Gives-bind (each (assessment_of published) (filter on sessions)) (λ all. done (line_over published edition all))
     are.all (Ok line) are.given (ap Ok (made ∙ (λ i. line_of (here i) (are.counted i))))
 
--- one number more stands behind those before it
+-- one number more stands after those before it
 range-push : (count : ℕ) → range_with_len 0 (count + 1) ≡ range_with_len 0 count ++ count ∷ []
 range-push count =
     rw add-one (range_with_len-suc 0 count ∙ ap (λ n. range_with_len 0 count ++ n ∷ []) (omega arith))
 
--- one line more comes behind the others
+-- one line more comes after the others
 pub AreLinesOver-more : (published : Published) (sessions : List SessionRow) (count : ℕ) (lines more : List ReportLine)
     (line : ReportLine) → AreLinesOver published sessions count lines
     → Gives (report_line published sessions count) (Ok line) → more ≡ lines ++ line ∷ []

@@ -1,6 +1,6 @@
 -- What the rules make of a session, as a call leaves it.
 use Rattle.std.specs.Prelude.{◌≡◌, ◌≤◌, List, All, IfSome, length, Some}
-use Rattle.desk_base.specs.declared.limits.TheConstants.{MAX_ROWS}
+use Rattle.desk_base.specs.declared.limits.TheConstants.{MAX_SHEET_ROWS}
 use Rattle.desk_words.specs.declared.rows.session.SessionRow.{SessionRow}
 use Rattle.desk_words.specs.Tables.{Published}
 use Rattle.desk_valid.specs.Bindings.{IsNamedKit, bound_at}
@@ -22,10 +22,10 @@ use Rattle.machine_views.specs.declared.answers.Answered.{Answered}
 abbrev pub answer_in : WorkSeen → Verdict → Answer
 answer_in work verdict = record { first = work.first; second = work.second; verdict = verdict }
 
--- each place of the kit has a name, and no master has more rows than a master may have
+-- each place of the kit has a name, and no master has more rows than a sheet may have
 pub record IsNamedBook (shelved : Shelved) : Type 0 where
   pub named : IsNamedKit (bound_on shelved)
-  pub few_rows : All (λ master. length master.rows ≤ MAX_ROWS) shelved.book.masters
+  pub few_rows : All (λ master. length master.rows ≤ MAX_SHEET_ROWS) shelved.book.masters
 
 -- the kit has as many attributes as the session
 pub record Suits (shelved : Shelved) (session : SessionRow) : Type 0 where

@@ -17,13 +17,13 @@ pub record PutsOne (deed : Deed) : Type 0 where
   pub session : SessionRow
   pub is : deed.sessions ≡ (deed.target, session) ∷ []
 
--- a record behind the others, which is the target
+-- a record after the others, which is the target
 pub record PutsRecord (own : Own) (deed : Deed) : Type 0 where
   pub row : RecordRow
   pub is : deed.record_row ≡ Some row
   pub target : deed.target ≡ length own.records
 
--- a batch behind the others, which is the target, with its sessions behind the others
+-- a batch after the others, which is the target, with its sessions after the others
 pub record PutsBatch (own : Own) (deed : Deed) : Type 0 where
   pub row : BatchRow
   pub is : deed.batch ≡ Some row

@@ -1,4 +1,4 @@
--- What of an answer can be named: attributes, rules and steps of the kit.
+-- What of an answer can be named: attributes, rules, steps and rows of the kit.
 use Rattle.std.specs.Prelude.{ℕ, ◌<◌, ⊤, All, IfSome, length}
 use Rattle.fix_blockers.specs.declared.blocked_attribute.BlockedAttribute.{BlockedAttribute}
 use Rattle.fix_blockers.specs.declared.blocked_attribute.BlockedRule.{BlockedRule}
@@ -8,6 +8,7 @@ use Rattle.fix_choices.specs.declared.choice.Choice.{Choice}
 use Rattle.fix_choices.specs.declared.dissents.Dissent.{Dissent}
 use Rattle.fix_model.specs.declared.kit.Kit.{Kit}
 use Rattle.fix_model.specs.Rules.{IsStepOf}
+use Rattle.rule_contradictions.specs.declared.contradiction.Contradiction.{Contradiction}
 
 -- a choice at an attribute of the kit, which steps of the kit fixed at its ends, if any did
 pub record IsChoiceOf (kit : Kit) (choice : Choice) : Type 0 where
@@ -35,3 +36,8 @@ pub record IsBlockedRuleOf (kit : Kit) (one : BlockedRule) : Type 0 where
 pub record IsBlockedOf (kit : Kit) (one : BlockedAttribute) : Type 0 where
   pub attribute : one.attribute < kit.width
   pub rules : All (IsBlockedRuleOf kit) one.rules
+
+-- a contradiction of two rows of the master of the rule at a place
+pub record IsContradictionOf (kit : Kit) (rule : ℕ) (it : Contradiction) : Type 0 where
+  pub row : IsStepOf kit (record { rule = rule; row = it.row })
+  pub other_row : IsStepOf kit (record { rule = rule; row = it.other_row })

@@ -188,7 +188,7 @@ fn put_session(deed: &Deed) -> &SessionRow
     &deed.sessions.as_slice()[0].1
 }
 
-/// The record that a deed puts behind the others.
+/// The record that a deed puts after the others.
 fn put_record(deed: &Deed) -> &RecordRow
     requires { IsSome deed.now.record_row }
     ensures { deed.now.record_row ≡ Some result.now }
@@ -200,7 +200,7 @@ fn put_record(deed: &Deed) -> &RecordRow
     }
 }
 
-/// The batch that a deed puts behind the others.
+/// The batch that a deed puts after the others.
 fn put_batch(deed: &Deed) -> &BatchRow
     requires { IsSome deed.now.batch }
     ensures { deed.now.batch ≡ Some result.now }

@@ -11,9 +11,9 @@ mod views;
 
 pub use kept::{deed_reply, kept_reply};
 pub use looks::{
-    blocked_at, carrying, catalogue, choices_at, clerk_report, derived_sheet, desk_report,
-    edition_shown, explain, records_of, region_shown, row_shown, sessions_from, suggestion_of,
-    view_at,
+    blocked_at, body_of, carrying, catalogue, choices_at, clerk_report, contradictions_shown,
+    derived_sheet, desk_report, edition_shown, explain, records_of, region_shown, row_shown,
+    sessions_from, suggestion_of, view_at,
 };
 pub use made::{kept_made, region_made};
 pub use views::view_of;

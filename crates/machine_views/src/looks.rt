@@ -1,7 +1,9 @@
 //! What a caller looks at, one look a file.
 mod blocking;
+mod body;
 mod carry;
 mod choosing;
+mod contradictions;
 mod counts;
 mod derive;
 mod edition;
@@ -16,8 +18,10 @@ mod suggest;
 mod view;
 
 pub use blocking::blocked_at;
+pub use body::body_of;
 pub use carry::carrying;
 pub use choosing::choices_at;
+pub use contradictions::contradictions_shown;
 pub use derive::derived_sheet;
 pub use edition::edition_shown;
 pub use explaining::explain;

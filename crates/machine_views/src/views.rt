@@ -157,7 +157,7 @@ pub(crate) fn master_name(shelved: &Shelved, rule: u16) -> Result<Text, NoMemory
 }
 
 /// The rules of a book.
-fn rules(book: &SortedBook) -> &[Rule]
+pub(crate) fn rules(book: &SortedBook) -> &[Rule]
     ensures { result.now ≡ book.now.rules }
 {
     Book::<()>::rules(book)

@@ -68,7 +68,7 @@ ties id a b ha hb =
     value_cmp_total.congr (rowid a) (Int id) (rowid b) (is_eq-true _ ha)
     ∙ tied_back value_cmp_total (rowid b) (Int id) (is_eq-true _ hb)
 
--- no row behind it has its number
+-- no row after it has its number
 none_hit : (x : Row) (rows : List Row) (id : ℤ) → AllByRecursion (λ b. value_cmp (rowid x) (rowid b) ≡ Less) rows
     → has_rowid id x ≡ true → filter (has_rowid id) rows ≡ []
 none_hit x [] id up h = refl

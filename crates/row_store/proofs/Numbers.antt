@@ -48,7 +48,7 @@ fits_between (negsuc n) low high = grind (arith, ints, nat_tests)
 
 -- ---- the number for the next row
 
--- the number behind that of a row
+-- the number after that of a row
 abbrev behind : ℤ → Row → ℤ
 behind n row = number_of row +ℤ pos 1
 
@@ -202,7 +202,7 @@ takes_more count lines a b c put first next stood stands most to =
       next = let most_next = last.next in omega (arith, ints, most_next);
     }
 
--- where there is no room for a line once so many were put, there was none for it behind these
+-- where there is no room for a line once so many were put, there was none for it after these
 pub lacks_before : (count : ℕ) (l : Line) (stood : List Line) (old last : Database) → Stands old stood
     → AllByRecursion HasId (stored_rows last) → LeavesOthers old last → TakesNumbers count old last → LacksRoom 1 l last
     → LacksRoom (count + 1) l old

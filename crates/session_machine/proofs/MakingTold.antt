@@ -162,7 +162,7 @@ before-new regions row =
     take_at regions (row ∷ []) (length regions) refl ∙ sym (take_all (length regions) regions (omega arith))
 
 module _ (rows : Rows) (work : StewardWork) where
-  -- the making of a region, behind the others
+  -- the making of a region, after the others
   abbrev adding : RegionRow → Making
   adding row = put_so (change.Region row) act.Region (length rows.regions)
 

@@ -1,7 +1,8 @@
 //! What is looked at at the desk, one look a case.
-ghost use Rattle.std.specs.Prelude.{IfOk};
+ghost use Rattle.std.specs.Prelude.{◌≡◌, ◌<◌, ◌^◌, IfOk};
 ghost use Rattle.desk_words.specs.Tables.{published_of, rows_of};
 ghost use Rattle.desk_words.specs.declared.command.Command.TheVariants.{Desk};
+ghost use Rattle.desk_valid.specs.Tallies.{master_cells};
 ghost use Rattle.desk_valid.specs.Valid.{AreValid};
 ghost use Rattle.machine_core.specs.DeskLook.{desk_reply};
 ghost use Rattle.machine_core.specs.Machine.{machine};
@@ -13,9 +14,10 @@ use desk_base::List;
 use desk_totals::Totalled;
 use desk_words::{Change, DeskLook, Reply, Tables};
 use fix_engine::Work;
-use machine_core::Stop;
+use machine_core::{Stop, checked};
 use machine_views::{
-    catalogue, derived_sheet, desk_report, edition_shown, region_shown, row_shown,
+    body_of, catalogue, contradictions_shown, derived_sheet, desk_report, edition_shown,
+    region_shown, row_shown,
 };
 use master_index::Shelf;
 use std::alloc::Global;
@@ -37,19 +39,22 @@ pub fn desk_look(
     ensures room { IsFullRoom room.new }
 {
     let tables = totalled.tables();
-    let reply = desk_reply(alloc, tables, shelf, room, look)?;
+    let reply = desk_reply(alloc, tables, totalled.master_cells(), shelf, room, look)?;
     Ok((reply, List::new(alloc)))
 }
 
-/// The reply to a look at the desk.
+/// The reply to a look at the desk, where the masters so far have so many cells.
 fn desk_reply(
     alloc: Global,
     tables: &Tables,
+    cells: u64,
     shelf: &mut Shelf,
     room: &mut Work,
     look: &DeskLook,
 ) -> Result<Reply, Stop>
     requires valid { AreValid (rows_of tables.now) }
+    requires cells { cells ≡ master_cells tables.now.masters.items }
+    requires few { cells < 2 ^ 63 }
     requires held { AreHeld (published_of (rows_of tables.now)) shelf.old }
     requires room { IsFullRoom room.old }
     ensures answers { Answers result (desk_reply (rows_of tables.now) look.now) }
@@ -85,5 +90,18 @@ fn desk_reply(
         } => Ok(Reply::Region(region_shown(
             alloc, tables, shelf, room, edition, *version, *region,
         )?)),
+        DeskLook::Body {
+            what,
+            name,
+            version,
+        } => Ok(Reply::Body(*what, body_of(tables, *what, name, *version)?)),
+        DeskLook::Contradictions {
+            edition,
+            version,
+            rule,
+        } => Ok(Reply::Contradictions(contradictions_shown(
+            alloc, tables, shelf, edition, *version, rule,
+        )?)),
+        DeskLook::Check(proposal) => checked(alloc, tables, cells, proposal),
     }
 }

@@ -118,7 +118,7 @@ module _ (limit : ℕ) where
       one-leaves (command_for a.request) ((count + 1) == limit) (asks_head a.request) a.tables a.text before a.outcome
       (events_of answers) served ∙ stream-leaves (count + 1) a.tables answers rest
 
-  -- what comes behind the first requests of a stream is a stream over the tables that they leave
+  -- what comes after the first requests of a stream is a stream over the tables that they leave
   pub stream-behind : (count : ℕ) (before : Rows) (earlier answers : List Answered)
       → Served limit count before (earlier ++ answers)
       → (later : ℕ) × Served limit later (last_tables before earlier) answers × Served limit count before earlier
@@ -133,7 +133,7 @@ module _ (limit : ℕ) where
       (listed-valid before (events_of answers) valid (stream-answered count before answers served))
 
 -- the requests of a stream and then of another
-events_of-then : (answers others : List Answered)
+pub events_of-then : (answers others : List Answered)
     → events_of (answers ++ others) ≡ events_of answers ++ events_of others
 events_of-then [] others = refl
 events_of-then (a ∷ answers) others =
@@ -141,7 +141,7 @@ events_of-then (a ∷ answers) others =
     ∙ sym (append_assoc (event_for a.outcome (command_for a.request)) (events_of answers) (events_of others))
 
 -- a request that the machine replied to
-event-at : (a : Answered) (command : Command) (reply : Reply) (changes : List Change)
+pub event-at : (a : Answered) (command : Command) (reply : Reply) (changes : List Change)
     → command_for a.request ≡ Ok command → a.outcome ≡ Replied reply changes
     → event_for a.outcome (command_for a.request)
     ≡ record { command = command; answer = reply; changes = changes } ∷ []
@@ -160,7 +160,7 @@ last-asked limit count before (a ∷ front) last reply changes (served, rest) re
     last-asked limit (count + 1) a.tables front last reply changes rest replied
 
 -- something is changed
-some-changes : (changes : List Change) → changes ≢ [] → has_changes changes ≡ true
+pub some-changes : (changes : List Change) → changes ≢ [] → has_changes changes ≡ true
 some-changes [] some = absurd (some refl)
 some-changes (change ∷ changes) some = refl
 

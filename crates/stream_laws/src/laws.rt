@@ -2,9 +2,12 @@
 ghost use Rattle.std.specs.Prelude.{◌≡◌, ◌≢◌, ℕ, All, List, [], ◌∷◌, ◌++◌, true, false, Ok};
 ghost use Rattle.desk_words.specs.declared.change.Change.{Change as ChangeOf};
 ghost use Rattle.desk_words.specs.declared.command.Command.{Command as CommandOf};
+ghost use Rattle.desk_words.specs.declared.command.Command.TheVariants.{Desk};
+ghost use Rattle.desk_words.specs.declared.desk_look.DeskLook.TheVariants.{Body};
+ghost use Rattle.desk_words.specs.declared.desk_look.Publication.{Publication as PublicationOf};
 ghost use Rattle.desk_words.specs.declared.refusal.Refusal.TheVariants.{Stale};
 ghost use Rattle.desk_words.specs.declared.reply.Reply.{Reply as ReplyOf};
-ghost use Rattle.desk_words.specs.declared.reply.Reply.TheVariants.{Refused};
+ghost use Rattle.desk_words.specs.declared.reply.Reply.TheVariants.{Body as Shown, Refused};
 ghost use Rattle.desk_words.specs.Tables.{Rows, rows_of};
 ghost use Rattle.desk_valid.specs.Valid.{AreValid};
 ghost use Rattle.http_desk.specs.Answered.{Answered, Replied, Served, last_tables};
@@ -12,13 +15,14 @@ ghost use Rattle.http_desk.specs.Commands.{command_for};
 ghost use Rattle.machine_laws.specs.Callers.{Caller, asks};
 ghost use Rattle.machine_laws.specs.Events.{AreAnswered, answers_to, commands_of, is_write_of, tables_after};
 ghost use Rattle.machine_laws.specs.Events.{without_others};
+ghost use Rattle.stream_laws.specs.Published.{PublishesItsBody};
 ghost use Rattle.stream_laws.specs.Requests.{HasWriteOf, events_of};
 
 use desk_base::Str;
 use desk_words::Tables;
 
 /// The requests of a stream that the machine replied to are requests one after another: each is answered by the machine
-/// over the tables that those before it left, and the tables behind them are those that the stream leaves, which are
+/// over the tables that those before it left, and the tables after them are those that the stream leaves, which are
 /// valid where those before it were. So the laws of `machine_laws` over lists of requests hold of the requests of a
 /// stream.
 pub fn a_stream_is_requests_one_after_another(limit: u32)
@@ -57,6 +61,18 @@ pub fn passed_requests_are_stale(limit: u32, tables: &Tables)
         → HasWriteOf caller (events_of between)
         → again.outcome ≡ Replied answer others
         → (last : ℕ) × (answer ≡ Refused (Stale last)) × (others ≡ []) }
+{}
+
+/// The body of an accepted request that published a schema, a master or a rulebook is what each later look at its name
+/// and its version is replied, byte for byte, whatever was asked between.
+pub fn published_bodies_are_shown(limit: u32, tables: &Tables)
+    requires { AreValid (rows_of tables.now) }
+    ensures { (count : ℕ) (earlier between later : List Answered) (publishing look : Answered)
+        (what : PublicationOf) (name : List ℕ) (version : ℕ) (answer : ReplyOf) (changes : List ChangeOf)
+        → Served limit count (rows_of tables.now) (earlier ++ publishing ∷ (between ++ look ∷ later))
+        → PublishesItsBody publishing what name version
+        → command_for look.request ≡ Ok (Desk (Body what name version)) → look.outcome ≡ Replied answer changes
+        → answer ≡ Shown what publishing.request.1 }
 {}
 
 /// What a clerk is replied in a stream is what is replied in a stream without the requests of other clerks.

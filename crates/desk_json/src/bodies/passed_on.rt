@@ -1,10 +1,10 @@
-//! The commands whose bodies are TOML, CSV or rule text, which are passed on as they stand.
+//! The bodies that are TOML, CSV or rule text, which are passed on as they stand.
 ghost use Rattle.std.specs.Prelude.{◌≡◌, IfOk};
 ghost use Rattle.desk_words.specs.declared.clerk_work.ClerkWork.TheVariants as clerk_works;
-ghost use Rattle.desk_words.specs.declared.steward_work.StewardWork.TheVariants as steward_works;
+ghost use Rattle.desk_words.specs.declared.proposal.Proposal.TheVariants as proposals;
 
 use desk_base::{Duplicate, List, NoMemory, Str};
-use desk_words::{ClerkWork, StewardWork};
+use desk_words::{ClerkWork, Proposal};
 use std::alloc::Global;
 
 fn bytes(alloc: Global, body: &[u8]) -> Result<List<u8>, NoMemory>
@@ -13,33 +13,33 @@ fn bytes(alloc: Global, body: &[u8]) -> Result<List<u8>, NoMemory>
     Ok(List::from_vec(Vec::from_slice(alloc, body)?))
 }
 
-pub fn add_schema(alloc: Global, body: &[u8]) -> Result<StewardWork, NoMemory>
-    ensures { IfOk result (λ work. work ≡ steward_works.AddSchema body.now) }
+pub fn proposed_schema(alloc: Global, body: &[u8]) -> Result<Proposal, NoMemory>
+    ensures { IfOk result (λ proposal. proposal ≡ proposals.Schema body.now) }
 {
-    Ok(StewardWork::AddSchema {
+    Ok(Proposal::Schema {
         body: bytes(alloc, body)?,
     })
 }
 
-pub fn add_master(alloc: Global, name: &Str, body: &[u8]) -> Result<StewardWork, NoMemory>
-    ensures { IfOk result (λ work. work ≡ steward_works.AddMaster name.now body.now) }
+pub fn proposed_master(alloc: Global, name: &Str, body: &[u8]) -> Result<Proposal, NoMemory>
+    ensures { IfOk result (λ proposal. proposal ≡ proposals.Master name.now body.now) }
 {
-    Ok(StewardWork::AddMaster {
+    Ok(Proposal::Master {
         name: name.copy()?,
         body: bytes(alloc, body)?,
     })
 }
 
-pub fn add_rulebook(
+pub fn proposed_rulebook(
     alloc: Global,
     name: &Str,
     schema: &Str,
     version: u32,
     body: &[u8],
-) -> Result<StewardWork, NoMemory>
-    ensures { IfOk result (λ work. work ≡ steward_works.AddRulebook name.now schema.now version body.now) }
+) -> Result<Proposal, NoMemory>
+    ensures { IfOk result (λ proposal. proposal ≡ proposals.Rulebook name.now schema.now version body.now) }
 {
-    Ok(StewardWork::AddRulebook {
+    Ok(Proposal::Rulebook {
         name: name.copy()?,
         schema: schema.copy()?,
         version,

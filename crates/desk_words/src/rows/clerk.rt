@@ -1,4 +1,4 @@
-//! The callers: the steward in row 0, and the clerks behind.
+//! The callers: the steward in row 0, and the clerks after.
 use crate::rows::act::Act;
 use desk_base::{Duplicate, NoMemory, Text};
 

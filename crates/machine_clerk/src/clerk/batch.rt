@@ -153,7 +153,7 @@ fn batch_rows(alloc: Global, own: &Own, heading: &Heading, grid: &Grid) -> Resul
     })
 }
 
-/// The session of each row, behind so many others, each with its place.
+/// The session of each row, after so many others, each with its place.
 fn row_sessions(
     alloc: Global,
     heading: &Heading,

@@ -47,7 +47,7 @@ row_session edition width batch columns cells =
     new_session edition width (map (λ cell. (cell.0.attribute, cell.1)) (zip columns cells))
     (map (λ cell. cell.0.attribute) (filter is_confirmed (zip columns cells))) batch
 
--- the sessions behind this many others, each at its place
+-- the sessions after this many others, each at its place
 abbrev pub placed : ℕ → List SessionRow → List (ℕ × SessionRow)
 placed count sessions = zip (range_with_len count (length sessions)) sessions
 
@@ -61,7 +61,7 @@ batch_deed own edition count sessions = record {
   target = length own.batches;
 }
 
--- the limits, in their order, and the deed: a session for each row behind the others, and the batch of them
+-- the limits, in their order, and the deed: a session for each row after the others, and the batch of them
 abbrev pub batch_rows : Own → ℕ → ℕ → List Column → List (List (List ℕ)) → Checked Deed
 batch_rows own edition width columns rows = do
   within which.BatchRows (length rows)

@@ -45,7 +45,7 @@ enter_row published own edition_name cells confirmed = do
   within which.Bytes (text_bytes own.sessions own.records + bytes_in session.typed)
   done session
 
--- the deed: the new session comes behind the others
+-- the deed: the new session comes after the others
 abbrev pub enter : Published → Own → List ℕ → List (List ℕ × List ℕ) → List (List ℕ) → Checked Deed
 enter published own edition_name cells confirmed = do
   session ← enter_row published own edition_name cells confirmed

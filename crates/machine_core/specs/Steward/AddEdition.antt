@@ -1,8 +1,8 @@
 -- AddEdition: the next version of an edition's name, of a rulebook and masters that bind.
-use Rattle.std.specs.Prelude.{◌<◌, All, ℕ, ◌+◌, nat_le, not, List, [], filter, length, slice_index_or}
+use Rattle.std.specs.Prelude.{◌≡◌, ◌<◌, ◌≤◌, All, Some, ℕ, ◌+◌, nat_le, not, List, [], filter, length, slice_index_or}
 use Rattle.std.specs.List.{list_any, range_with_len}
 use Rattle.std.specs.Str.{bytes_eq}
-use Rattle.desk_base.specs.declared.limits.TheConstants.{MAX_ENTRIES}
+use Rattle.desk_base.specs.declared.limits.TheConstants.{MAX_ENTRIES, MAX_MASTERS}
 use Rattle.desk_words.specs.declared.limit.Which.TheVariants as which
 use Rattle.desk_words.specs.declared.refusal.Kind.TheVariants as kind
 use Rattle.desk_words.specs.declared.refusal.Reader.TheVariants as reader
@@ -11,10 +11,12 @@ use Rattle.desk_words.specs.declared.rows.edition.EditionRow.{EditionRow}
 use Rattle.desk_words.specs.declared.rows.master.MasterRow.{MasterRow}
 use Rattle.desk_words.specs.Tables.{Published}
 use Rattle.desk_valid.specs.declared.parts.Parts.{Parts}
+use Rattle.desk_valid.specs.declared.reading.Rules.{Rules}
 use Rattle.desk_valid.specs.Bindings.{binding, parts_of}
 use Rattle.desk_valid.specs.Readings.{rules_at}
 use Rattle.desk_valid.specs.Rows.Edition.{AreNamedApart}
 use Rattle.fix_model.specs.Entries.{entries}
+use Rattle.rule_text.specs.Binding.{AreFolded}
 use Rattle.desk_base.specs.Places.{is_listed}
 use Rattle.machine_core.specs.Checked.{Checked, ◌>>=◌, ◌>>◌, done, each_behind, value_or, some_or, unless, certainly}
 use Rattle.machine_core.specs.Faults.{bind_refusal}
@@ -30,6 +32,14 @@ master_name masters place = (slice_index_or masters place (record { name = []; v
 pub record AreOthers (published : Published) (places : List ℕ) : Type 0 where
   pub stand : All (λ place. place < length published.masters) places
   pub apart : AreNamedApart published places
+
+-- the parts of a row of an edition: its rulebook stands, and so do its masters, at most 8 under distinct names; what is
+-- folded are attributes of the schema
+pub record HasParts (published : Published) (row : EditionRow) : Type 0 where
+  pub rulebook : row.rulebook < length published.rulebooks
+  pub masters : AreOthers published row.masters
+  pub few : length row.masters ≤ MAX_MASTERS
+  pub folded : (rules : Rules) → rules_at published row.rulebook ≡ Some rules → AreFolded rules.schema row.folded
 
 -- the place of a version of a master whose name none before it has
 abbrev pub another_master : List MasterRow → List ℕ → List ℕ × ℕ → Checked ℕ

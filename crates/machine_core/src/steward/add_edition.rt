@@ -14,7 +14,8 @@ ghost use Rattle.desk_valid.specs.Bindings.{AreBindable};
 ghost use Rattle.desk_valid.specs.Valid.{AreValid};
 ghost use Rattle.machine_core.specs.Checked.{each_behind, unless};
 ghost use Rattle.machine_core.specs.Outcomes.{Finds, WantsNone};
-ghost use Rattle.machine_core.specs.Steward.AddEdition.{AreOthers, another_master, bindable, edition_row, in_order};
+ghost use Rattle.machine_core.specs.DeskLook.Check.{entries_of};
+ghost use Rattle.machine_core.specs.Steward.AddEdition.{AreOthers, HasParts, another_master, bindable, edition_row, in_order};
 ghost use Rattle.machine_core.specs.Steward.AddEdition.{next_edition, master_name, narrow};
 
 use crate::attributes::{another_attributes, is_among};
@@ -39,8 +40,9 @@ pub fn edition_row(
     folded: &[Str],
 ) -> Result<EditionRow, Stop>
     requires { AreValid (rows_of tables.now) }
-    ensures { Finds result
+    ensures row { Finds result
         (edition_row (published_of (rows_of tables.now)) name.now rulebook.now masters.now folded.now) }
+    ensures parts { IfOk result (HasParts (published_of (rows_of tables.now))) }
 {
     proper_name(name)?;
     let book = named(
@@ -62,6 +64,26 @@ pub fn edition_row(
     let row = next_edition(alloc, tables, name, book, places, folded)?;
     bindable(alloc, tables, rules, &row)?;
     Ok(row)
+}
+
+/// How many entries the index of an edition has.
+pub(crate) fn edition_entries(alloc: Global, tables: &Tables, row: &EditionRow) -> Result<u64, Stop>
+    requires valid { AreValid (rows_of tables.now) }
+    requires parts { HasParts (published_of (rows_of tables.now)) row.now }
+    ensures { Finds result (entries_of (published_of (rows_of tables.now)) row.now) }
+{
+    let rules = rules_of(alloc, tables, row.rulebook)?;
+    let masters = masters_of(alloc, tables, row.masters.as_slice())?;
+    match bind(
+        alloc,
+        &rules.rulebook,
+        &rules.schema,
+        masters.as_slice(),
+        row.folded.as_slice(),
+    ) {
+        Ok(kit) => Ok(kit.entries()),
+        Err(fault) => Err(bind_stop(fault)),
+    }
 }
 
 /// The next version of an edition's name, with these masters and folded attributes.

@@ -1,4 +1,5 @@
 //! AddRulebook: the next version of a rulebook's name, over a version of a schema.
+ghost use Rattle.std.specs.Prelude.{◌<◌, length, IfOk};
 ghost use Rattle.desk_words.specs.Tables.{published_of, rows_of};
 ghost use Rattle.desk_valid.specs.Valid.{AreValid};
 ghost use Rattle.machine_core.specs.Outcomes.{Finds};
@@ -24,8 +25,9 @@ pub fn rulebook_row(
     body: &List<u8>,
 ) -> Result<RulebookRow, Stop>
     requires { AreValid (rows_of tables.now) }
-    ensures { Finds result
+    ensures row { Finds result
         (rulebook_row (published_of (rows_of tables.now)) name.now schema.now version body.now) }
+    ensures over { IfOk result (λ row. row.schema < length tables.now.schemas.items) }
 {
     proper_name(name)?;
     let place = named(tables.schemas.as_slice(), schema, version, Kind::Schema)?;

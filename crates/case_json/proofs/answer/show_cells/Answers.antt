@@ -14,7 +14,8 @@ attributes-preserved g c =
     let within : place < length names = omega (arith, c.from-place.ensures, c.requires.wide, c.requires.named) in
     let name : c.index-attributes-place.result ≡ get_or names place [] =
     get_or_read names place _ within c.index-attributes-place.is [] in
-    let shows : c.show_cell.new.out ≡ with_value c.attributes.out (attribute_shown names kit c.args.state.now attribute) =
+    let shows : c.show_cell.new.out ≡ with_value c.attributes.out
+    (attribute_shown names kit c.args.state.now attribute) =
     rw (
       c.in_ok-show_cell.ensures,
       c.as_slice.ensures,

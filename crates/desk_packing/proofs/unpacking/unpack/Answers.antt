@@ -11,7 +11,7 @@ use Rattle.desk_packing.specs.Stands.{StandAs}
 use Rattle.desk_packing.proofs.Stood.{none_stand, version_stands}
 use Rattle.desk_packing.proofs.unpacking.unpack.Goals as goal
 
--- what is read behind the line of a version stands for the lines
+-- what is read after the line of a version stands for the lines
 stands : (result : Result Unpacked UnpackFault) (lines rest : List Line) (first : Line) → lines ≡ first ∷ rest
     → IfOk result (λ found. version_in first ≡ Some found.is_old)
     → IfOk result (λ found. tables_in found.is_old rest ≡ Some (rows_of found.tables))

@@ -15,7 +15,7 @@ use Rattle.desk_packing.proofs.whole.migrated.Goals as goal
 
 module _ (place : ℕ) (items : List EditionRow) (row : EditionRow) (within : place < length items)
     (is : row ≡ get_or items place row) where
-  -- one line more stands in front of the lines of the editions behind it
+  -- one line more stands in front of the lines of the editions after it
   next_line : (done : List PackedRow) (packed : PackedRow) (all : List Line)
       → line_of packed ≡ row_line edition EDITIONS 0 place row
       → map line_of done ++ list_lines edition EDITIONS 0 place (drop place items) ≡ all

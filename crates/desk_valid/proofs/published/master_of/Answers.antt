@@ -35,5 +35,5 @@ returns-clause-master c =
 pub returns-clause-sound : goal.returns-clause-sound
 returns-clause-sound c =
     let row = c.index-as_slice-place.result in
-    IsMaster-read_sheet row.body c.in-Some.master
+    IsMaster-read_sheet _ row.body c.in-Some.master
     (Ok-from_read (read_sheet row.body) c.in-Some.master (sym c.in_ok-master.ensures ∙ c.in-Some.is))

@@ -2,12 +2,13 @@ use Rattle.std.proofs.Common.{◌≡◌, ◌+◌, ◌<◌, ◌≤◌, ℕ, List,
 use Rattle.std.proofs.Common.{subst, arith}
 use Rattle.std.proofs.Common.{append-nil, append_assoc, length-append, rules}
 use Rattle.std.proofs.KnownBytes.{Consumes-kept, Consumes-nil, Consumes-trans}
+use Rattle.desk_base.specs.Faults.{HasTaken}
 use Rattle.http_cut.specs.declared.step.Step.{Step}
 use Rattle.http_cut.specs.declared.intake.TheConstants.{PIECE}
 use Rattle.http_cut.specs.declared.intake.IntakeFault.TheVariants.{Failed, NoMemory}
 use Rattle.http_cut.specs.Cut.{IsOpen, BeginsRequest, IsBadRest}
 use Rattle.http_cut.specs.Looks.{IsStep, Awaits}
-use Rattle.http_cut.specs.Taking.{Takes, Loses, Fetches, Reading, ReadsOn, ReadsNoFurther}
+use Rattle.http_cut.specs.Taking.{Takes, Fetches, Reading, ReadsOn, ReadsNoFurther}
 use Rattle.http_cut.proofs.Cuts.{request_shorter}
 use Rattle.http_cut.proofs.Reading.{ReadsOn-push, gave}
 use Rattle.http_cut.proofs.Waiting.{open_few, open_now, awaits_on, bad_before, request_ends_in_last}
@@ -66,7 +67,7 @@ pub returns-in_err-add-clause-fetched : goal.returns-in_err-add-clause-fetched
 returns-in_err-add-clause-fetched g c =
     let so_far = c.reads.invariant.takes in
     let read : List ℕ = take c.in_ok-count.count c.read.new.buf in
-    let lost : Loses (g.S.Source.left c.args.source.now) (g.S.Source.left c.read.new.self) = record {
+    let lost : HasTaken (g.S.Source.left c.args.source.now) (g.S.Source.left c.read.new.self) = record {
       bytes = so_far.bytes ++ read;
       taken = Consumes-trans _ _ _ so_far.bytes read so_far.taken c.in_ok-count.ensures.bytes.0;
     } in

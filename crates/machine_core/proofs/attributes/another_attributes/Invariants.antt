@@ -3,7 +3,7 @@ use Rattle.machine_core.specs.Checked.{each_behind, run}
 use Rattle.machine_core.specs.Tests.{another_attribute}
 use Rattle.machine_core.proofs.attributes.another_attributes.Given as goal
 
--- what is found of the words left behind those found is what is found of all
+-- what is found of the words left after those found is what is found of all
 abbrev pub invariant-words : goal.invariant-words
 invariant-words l = record {
   found : run (each_behind [] (another_attribute l.attributes) l.words)

@@ -4,7 +4,7 @@ use Rattle.machine_core.specs.Checked.{each_behind, run}
 use Rattle.machine_core.specs.Deriving.{another_pair}
 use Rattle.machine_core.proofs.derived.places_of.Given as goal
 
--- what is found of the pairs left behind those found is what is found of all
+-- what is found of the pairs left after those found is what is found of all
 abbrev pub invariant-pairs : goal.invariant-pairs
 invariant-pairs l = record {
   found : run (each_behind [] (another_pair l.words l.names) l.pairs)

@@ -1,7 +1,8 @@
-use Rattle.std.proofs.Common.{List, [], Ok, subst, sym}
+use Rattle.std.proofs.Common.{◌≡◌, List, [], Ok, subst, sym}
 use Rattle.desk_words.specs.declared.change.Change.{Change}
 use Rattle.desk_words.specs.declared.command.Command.TheVariants.{Desk}
 use Rattle.desk_words.specs.Tables.{Rows, published_of, rows_of}
+use Rattle.desk_valid.specs.Tallies.{master_cells}
 use Rattle.desk_valid.specs.Valid.{AreValid}
 use Rattle.machine_core.specs.Checked.{Gives}
 use Rattle.machine_core.specs.Machine.{machine}
@@ -13,6 +14,11 @@ use Rattle.session_machine.proofs.desk_look.desk_look.Goals as goal
 
 pub desk_reply-requires-clause-valid : goal.desk_reply-requires-clause-valid
 desk_reply-requires-clause-valid c = subst AreValid (sym c.tables-tables.ensures.tables) c.requires.valid
+
+pub desk_reply-requires-clause-cells : goal.desk_reply-requires-clause-cells
+desk_reply-requires-clause-cells c =
+    let Counted : Rows → Type 0 = λ rows. c.master_cells.result ≡ master_cells rows.masters in
+    subst Counted (sym c.tables-tables.ensures.tables) c.master_cells.ensures.cells
 
 pub desk_reply-requires-clause-held : goal.desk_reply-requires-clause-held
 desk_reply-requires-clause-held c =

@@ -6,6 +6,9 @@ use Rattle.desk_words.specs.Tables.{published_of, rows_of}
 use Rattle.machine_core.specs.Checked.{Gives, done}
 use Rattle.machine_core.specs.Deriving.{derived_sheet}
 use Rattle.machine_core.specs.DeskLook.{desk_reply}
+use Rattle.machine_core.specs.DeskLook.Bodies.{body_of}
+use Rattle.machine_core.specs.DeskLook.Check.{checked}
+use Rattle.machine_core.specs.DeskLook.Contradictions.{contradictions_shown}
 use Rattle.machine_core.specs.DeskLook.Edition.{edition_shown}
 use Rattle.machine_core.specs.DeskLook.Region.{region_shown}
 use Rattle.machine_core.specs.DeskLook.Row.{row_shown}
@@ -102,3 +105,57 @@ returns-in_err-region_shown-in-Region-clause-answers c =
     subst Shown (sym c.in-Region.is) (Answers-stopped checked (λ one. done (reply.Region one)) stop result
     c.from_residual-in_err-region_shown-in-Region.ensures.1
     c.in_err-region_shown-in-Region.ensures.region)
+
+pub returns-in_ok-body_of-in-Body-clause-answers : goal.returns-in_ok-body_of-in-Body-clause-answers
+returns-in_ok-body_of-in-Body-clause-answers c =
+    let rows = rows_of c.args.tables.now in
+    let found = c.in_ok-body_of-in-Body.field-0 in
+    let what = c.in-Body.what in
+    let checked = body_of (published_of rows) what c.in-Body.name c.in-Body.version in
+    let Shown : DeskLookOf → Type 0 = λ look. Gives (desk_reply rows look) (Ok (reply.Body what found)) in
+    subst Shown (sym c.in-Body.is) (reply-gives checked (reply.Body what) found
+    (Answers-found checked (Ok found) c.in_ok-body_of-in-Body.ensures.body))
+
+pub returns-in_err-body_of-in-Body-clause-answers : goal.returns-in_err-body_of-in-Body-clause-answers
+returns-in_err-body_of-in-Body-clause-answers c =
+    let rows = rows_of c.args.tables.now in
+    let result = c.from_residual-in_err-body_of-in-Body.result in
+    let stop = c.in_err-body_of-in-Body.field-0.0 in
+    let what = c.in-Body.what in
+    let checked = body_of (published_of rows) what c.in-Body.name c.in-Body.version in
+    let Shown : DeskLookOf → Type 0 = λ look. Answers result (desk_reply rows look) in
+    subst Shown (sym c.in-Body.is) (Answers-stopped checked (λ one. done (reply.Body what one)) stop result
+    c.from_residual-in_err-body_of-in-Body.ensures.1
+    (Answers-found checked (Err stop) c.in_err-body_of-in-Body.ensures.body))
+
+pub returns-in_ok-contradictions_shown-in-Contradictions-clause-answers :
+    goal.returns-in_ok-contradictions_shown-in-Contradictions-clause-answers
+returns-in_ok-contradictions_shown-in-Contradictions-clause-answers c =
+    let rows = rows_of c.args.tables.now in
+    let found = c.in_ok-contradictions_shown-in-Contradictions.field-0 in
+    let checked = contradictions_shown (published_of rows) c.in-Contradictions.edition c.in-Contradictions.version
+    c.in-Contradictions.rule in
+    let Shown : DeskLookOf → Type 0 = λ look. Gives (desk_reply rows look) (Ok (reply.Contradictions found)) in
+    subst Shown (sym c.in-Contradictions.is) (reply-gives checked reply.Contradictions found
+    c.in_ok-contradictions_shown-in-Contradictions.ensures.contradictions)
+
+pub returns-in_err-contradictions_shown-in-Contradictions-clause-answers :
+    goal.returns-in_err-contradictions_shown-in-Contradictions-clause-answers
+returns-in_err-contradictions_shown-in-Contradictions-clause-answers c =
+    let rows = rows_of c.args.tables.now in
+    let result = c.from_residual-in_err-contradictions_shown-in-Contradictions.result in
+    let stop = c.in_err-contradictions_shown-in-Contradictions.field-0.0 in
+    let checked = contradictions_shown (published_of rows) c.in-Contradictions.edition c.in-Contradictions.version
+    c.in-Contradictions.rule in
+    let Shown : DeskLookOf → Type 0 = λ look. Answers result (desk_reply rows look) in
+    subst Shown (sym c.in-Contradictions.is) (Answers-stopped checked (λ one. done (reply.Contradictions one)) stop
+    result c.from_residual-in_err-contradictions_shown-in-Contradictions.ensures.1
+    c.in_err-contradictions_shown-in-Contradictions.ensures.contradictions)
+
+pub returns-in-Check-clause-answers : goal.returns-in-Check-clause-answers
+returns-in-Check-clause-answers c =
+    let rows = rows_of c.args.tables.now in
+    let result = c.checked.result in
+    let Shown : DeskLookOf → Type 0 = λ look. Answers result (desk_reply rows look) in
+    subst Shown (sym c.in-Check.is)
+    (Answers-found (checked (published_of rows) c.in-Check.proposal) result c.checked.ensures)

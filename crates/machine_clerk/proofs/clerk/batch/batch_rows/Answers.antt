@@ -1,8 +1,13 @@
 use Rattle.std.proofs.Common.{◌∙◌, ◌+◌, ap, arith, length, map, refl}
 use Rattle.std.proofs.lemmas.List.{length-map}
+use Rattle.std.specs.Prelude.{Ok}
+use Rattle.desk_words.specs.declared.limit.Which.TheVariants as which
 use Rattle.desk_valid.specs.Tallies.{typed_bytes}
 use Rattle.machine_core.specs.Clerk.Batch.{row_session}
+use Rattle.machine_core.specs.Limits.{within}
+use Rattle.machine_core.proofs.Answering.{Answers-found}
 use Rattle.machine_core.proofs.Stopping.{EndsWith-stopped}
+use Rattle.machine_core.proofs.Tested.{within-ok}
 use Rattle.machine_clerk.proofs.Placed.{length-placed, narrow-sessions, placed-sessions}
 use Rattle.machine_clerk.proofs.clerk.batch.batch_rows.Goals as goal
 
@@ -12,14 +17,15 @@ typed_bytes-requires-clause-few c =
     let heading = c.args.heading.now in
     let session_of = row_session heading.edition heading.width (length own.batches + 1) heading.columns.now in
     let sessions = rw (c.sessions-2.ensures, c.batches-2.ensures) at c.in_ok-sessions.ensures.sessions in
+    let count = length c.args.grid.now.rows in
+    let rows = rw (c.from.ensures, c.rows-count.ensures.rows) at c.in_ok-within.ensures.finds in
     omega (
       arith,
       ap length c.as_slice.ensures,
       ap length sessions,
       length-placed (length own.sessions) (map session_of c.args.grid.now.rows),
       length-map c.args.grid.now.rows session_of,
-      c.rows-count.ensures.rows,
-      c.rows-count.ensures.few,
+      within-ok which.BatchRows count tt (Answers-found (within which.BatchRows count) (Ok tt) rows),
     )
 
 pub typed_bytes-requires-clause-narrow : goal.typed_bytes-requires-clause-narrow

@@ -3,7 +3,7 @@ use Rattle.machine_core.specs.Checked.{each_behind, run}
 use Rattle.machine_core.specs.Clerk.Batch.{another_column}
 use Rattle.machine_clerk.proofs.clerk.batch.columns_of.Given as goal
 
--- what is found of the columns left behind those found is what is found of all
+-- what is found of the columns left after those found is what is found of all
 abbrev pub invariant-words : goal.invariant-words
 invariant-words l = record {
   found : run (each_behind [] (another_column l.attributes) l.words)

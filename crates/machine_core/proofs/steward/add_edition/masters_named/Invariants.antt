@@ -4,7 +4,7 @@ use Rattle.machine_core.specs.Checked.{each_behind, run}
 use Rattle.machine_core.specs.Steward.AddEdition.{AreOthers, another_master}
 use Rattle.machine_core.proofs.steward.add_edition.masters_named.Given as goal
 
--- what is found of the masters left behind those found is what is found of all, each of another name
+-- what is found of the masters left after those found is what is found of all, each of another name
 abbrev pub invariant-masters : goal.invariant-masters
 invariant-masters l = record {
   found : run (each_behind [] (another_master l.tables.masters.items) l.masters)

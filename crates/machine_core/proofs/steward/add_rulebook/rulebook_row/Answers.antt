@@ -7,8 +7,8 @@ use Rattle.machine_core.specs.Limits.{within}
 use Rattle.machine_core.proofs.Stopping.{EndsWith-stopped}
 use Rattle.machine_core.proofs.steward.add_rulebook.rulebook_row.Goals as goal
 
-pub returns-in_err-read_rulebook : goal.returns-in_err-read_rulebook
-returns-in_err-read_rulebook c =
+pub returns-in_err-read_rulebook-clause-row : goal.returns-in_err-read_rulebook-clause-row
+returns-in_err-read_rulebook-clause-row c =
     let place = rw c.as_slice.ensures at c.in_ok-place.ensures.finds in
     let read = rw c.as_slice-2.ensures at c.in_err-read_rulebook.ensures.finds in
     rw (c.in_ok-proper_name.ensures.finds, place, c.in_ok-read.ensures.schema)
@@ -16,8 +16,8 @@ returns-in_err-read_rulebook c =
     c.in_err-read_rulebook.field-0.0 c.from_residual-in_err-read_rulebook.result
     c.from_residual-in_err-read_rulebook.ensures.1 read)
 
-pub returns-in_err-within : goal.returns-in_err-within
-returns-in_err-within c =
+pub returns-in_err-within-clause-row : goal.returns-in_err-within-clause-row
+returns-in_err-within-clause-row c =
     let place = rw c.as_slice.ensures at c.in_ok-place.ensures.finds in
     let read = rw c.as_slice-2.ensures at c.in_ok-read_rulebook.ensures.finds in
     let few = rw c.as_slice-rulebooks.ensures at c.in_err-within.ensures.finds in
@@ -30,8 +30,8 @@ pub next_version-next-requires-clause-versions : goal.next_version-next-requires
 next_version-next-requires-clause-versions c = rw c.as_slice-rulebooks.ensures
     (λ place row stands. (c.requires.rulebooks place row stands).version)
 
-pub returns : goal.returns
-returns c =
+pub returns-clause-row : goal.returns-clause-row
+returns-clause-row c =
     let place = rw c.as_slice.ensures at c.in_ok-place.ensures.finds in
     let read = rw c.as_slice-2.ensures at c.in_ok-read_rulebook.ensures.finds in
     let few = rw c.as_slice-rulebooks.ensures at c.in_ok-within.ensures.finds in

@@ -19,13 +19,13 @@ returns-in_err-row c =
     let found : Checked EditionRow =
     edition_row (published_of rows) c.args.name.now c.args.rulebook.now c.args.masters.now c.args.folded.now in
     let stop = c.in_err-row.field-0.0 in
-    let finds = rw (c.as_slice-masters.ensures, c.as_slice-folded.ensures) at c.in_err-row.ensures in
+    let finds = rw (c.as_slice-masters.ensures, c.as_slice-folded.ensures) at c.in_err-row.ensures.row in
     row-unmade rows work found (λ row. put_so (change.Edition row) act.Edition (length rows.editions)) stop
     c.from_residual.result refl c.from_residual.ensures.1 (Answers-found found (Err stop) finds)
 
 pub returns : goal.returns
 returns c =
-    let found = rw (c.as_slice-masters.ensures, c.as_slice-folded.ensures) at c.in_ok-row.ensures in
+    let found = rw (c.as_slice-masters.ensures, c.as_slice-folded.ensures) at c.in_ok-row.ensures.row in
     edition-made (rows_of c.args.tables.now) c.len-target.result c.in_ok-copy.field-0 c.args.name.now
     c.args.rulebook.now c.args.masters.now c.args.folded.now c.in_ok-row.row found c.in_ok-copy.ensures.copied
     c.len-target.ensures
