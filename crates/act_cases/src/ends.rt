@@ -1,4 +1,4 @@
-//! What is asked of a desk behind the steps of a case.
+//! What is asked of a desk after the steps of a case.
 use crate::showing::{tell_counts, tell_sessions};
 use desk_cases::{Answer, Case};
 use desk_trials::KeptDesk;

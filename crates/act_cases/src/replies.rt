@@ -5,17 +5,20 @@ ghost use Rattle.desk_sheets.specs.Records.{IsFull};
 
 use desk_base::List;
 use desk_json::{JsonFault, fault_text, text_of};
-use desk_sheets::{derived_text, records_text, report_text};
+use desk_sheets::{contradictions_text, derived_text, records_text, report_text};
 use desk_words::{DerivedSheet, RecordSheet, Reply};
 use std::alloc::Global;
 use std::test::Fail;
 
-/// A word for the reply, and its JSON text; a report, records and derived rows are their text alone.
+/// A word for the reply, and its JSON text; a report, records, derived rows, contradictions and what was published are
+/// their text alone.
 pub fn tell(text: &mut String, alloc: Global, reply: &Reply) -> Result<(), Fail> {
     match reply {
         Reply::Report(sheet) => push(text, &report_text(alloc, sheet)?),
         Reply::Records(sheet) => tell_records(text, alloc, sheet),
         Reply::Derived(sheet) => tell_derived(text, alloc, sheet),
+        Reply::Body(_, body) => push(text, body),
+        Reply::Contradictions(sheet) => push(text, &contradictions_text(alloc, sheet)?),
         _ => {
             text.push_str(word_of(reply))?;
             push(text, &text_of(alloc, reply)?)
@@ -64,6 +67,10 @@ fn word_of(reply: &Reply) -> &'static str {
         Reply::Region(_) => "region ",
         Reply::Choices(_) => "choices ",
         Reply::Blocked(_) => "blocked ",
+        Reply::Body(_, _) => "body ",
+        Reply::Contradictions(_) => "contradictions ",
+        Reply::Fits(_) => "fits ",
+        Reply::Unfit { .. } => "unfit ",
         Reply::Refused(_) => "refused ",
     }
 }

@@ -9,7 +9,7 @@ use machine_core::is_numbered;
 use std::alloc::Global;
 use std::test::Fail;
 
-/// The reply to a request: its target, and behind a space or the end of the line its body. The first word of the
+/// The reply to a request: its target, and after a space or the end of the line its body. The first word of the
 /// step's name stands for the digest.
 pub fn tell_reply(
     text: &mut String,
@@ -66,7 +66,7 @@ fn act(
     told
 }
 
-/// The target stands up to the first space or line feed, and the body behind that.
+/// The target stands up to the first space or line feed, and the body after that.
 fn target_and_body(request: &[u8]) -> (&[u8], &[u8]) {
     let end = request
         .iter()
@@ -77,7 +77,7 @@ fn target_and_body(request: &[u8]) -> (&[u8], &[u8]) {
     }
 }
 
-/// The digest that the first word of a name stands for: the word's bytes, and zeros behind them.
+/// The digest that the first word of a name stands for: the word's bytes, and zeros after them.
 fn digest_of(name: &str) -> Digest {
     let word = name.split(" ").next().unwrap_or(name);
     let mut bytes = [0u8; 32];

@@ -47,6 +47,7 @@ fn kind(name: Option<&str>) -> Result<ContentType, Fail> {
         Some("json") => Ok(ContentType::Json),
         Some("text") => Ok(ContentType::Text),
         Some("csv") => Ok(ContentType::Csv),
+        Some("toml") => Ok(ContentType::Toml),
         _ => Err(Fail::new("a case has no type that is known")),
     }
 }

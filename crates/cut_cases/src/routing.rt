@@ -5,8 +5,9 @@ use std::alloc::AllocError;
 use std::test::Fail;
 
 /// The names that parameters have.
-const NAMES: [&str; 8] = [
-    "clerk", "n", "name", "schema", "edition", "version", "session", "from",
+const NAMES: [&str; 12] = [
+    "clerk", "n", "name", "schema", "edition", "master", "version", "session", "from", "row",
+    "region", "rule",
 ];
 
 /// The route of a target, its method, the limit of its body, and its parameters; or `none`.

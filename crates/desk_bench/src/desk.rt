@@ -1,13 +1,14 @@
 //! What is read and bound, each part with its time.
 ghost use Rattle.std.specs.Prelude.{IfOk};
+ghost use Rattle.desk_base.specs.declared.limits.TheConstants.{MAX_SHEET_ROWS};
 ghost use Rattle.fix_model.specs.Valid.{IsValid};
-ghost use Rattle.master_rows.specs.Master.{IsMaster};
+ghost use Rattle.master_rows.specs.Master.{IsMasterWithin};
 ghost use Rattle.rule_text.specs.Rulebooks.{IsRulebook};
 ghost use Rattle.schema_core.specs.Schemas.{IsSchema};
 
 use crate::sizes::Sizes;
 use crate::texts::{SCHEMA, paired_text, rules_text, sheet_text};
-use desk_base::Text;
+use desk_base::{MAX_SHEET_ROWS, Text};
 use fix_model::Kit;
 use master_rows::Master;
 use rule_text::{Rulebook, bind, read};
@@ -95,10 +96,10 @@ fn book_of<R: Eprint + CpuClock>(
 }
 
 fn master_of<R: Eprint + CpuClock>(rt: &R, alloc: Global, sheet: &str) -> Result<Master, Fail>
-    ensures { IfOk result IsMaster }
+    ensures { IfOk result (IsMasterWithin MAX_SHEET_ROWS) }
 {
     let start = clock(rt)?;
-    let master = Master::read(alloc, sheet.as_bytes())?;
+    let master = Master::read_within(alloc, MAX_SHEET_ROWS, sheet.as_bytes())?;
     tell(rt, "reading the sheet", start)?;
     Ok(master)
 }

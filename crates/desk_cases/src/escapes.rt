@@ -27,8 +27,27 @@ enum Expected {
 pub struct Unescaped {
     content: Vec<u8>,
     expected: Expected,
-    /// Where the piece that is to be repeated begins, and how often it is to stand there.
-    repeated: Option<(usize, usize)>,
+    /// The repetition that is open.
+    repeated: Option<Repetition>,
+}
+
+/// A piece that is to be repeated.
+#[derive(Debug, Drop)]
+struct Repetition {
+    /// Where it begins in the content.
+    start: usize,
+    /// How often it is to stand there.
+    times: usize,
+    /// The numbers that each copy has.
+    numbers: Vec<CopyNumber>,
+}
+
+/// A number that stands in each copy of a piece, before the byte of the piece at this place.
+#[derive(Clone, Copy, Debug)]
+struct CopyNumber {
+    place: usize,
+    /// What the copy's number, counted from 1, is raised by.
+    raised: usize,
 }
 
 /// Why a byte of an escape is not taken.
@@ -100,6 +119,8 @@ impl Unescaped {
             b't' => self.push(b'\t')?,
             b'\\' => self.push(b'\\')?,
             b'x' => self.expected = Expected::High,
+            b'#' => self.number_copies(false)?,
+            b'+' => self.number_copies(true)?,
             b'(' if self.repeated.is_none() => self.expected = Expected::Times(0),
             b')' => self.end_piece()?,
             _ => return Err(EscapeFault::BadEscape),
@@ -109,23 +130,64 @@ impl Unescaped {
 
     fn begin_piece(&mut self, times: usize) {
         self.expected = Expected::Any;
-        self.repeated = Some((self.content.len(), times));
+        self.repeated = Some(Repetition {
+            start: self.content.len(),
+            times,
+            numbers: Vec::new(*self.content.allocator()),
+        });
+    }
+
+    /// Each copy of the piece that is open has its number here, or that number after as many as there are copies.
+    fn number_copies(&mut self, after_all: bool) -> Result<(), EscapeFault> {
+        self.expected = Expected::Any;
+        let end = self.content.len();
+        let Some(repetition) = &mut self.repeated else {
+            return Err(EscapeFault::BadEscape);
+        };
+        let number = CopyNumber {
+            place: end.saturating_sub(repetition.start),
+            raised: if after_all { repetition.times } else { 0 },
+        };
+        match repetition.numbers.push(number) {
+            Ok(()) => Ok(()),
+            Err(_) => Err(EscapeFault::NoMemory),
+        }
     }
 
     /// Writes the piece that is open as often as it is to stand.
     fn end_piece(&mut self) -> Result<(), EscapeFault> {
         self.expected = Expected::Any;
-        let Some((start, times)) = self.repeated.take() else {
+        let Some(repetition) = self.repeated.take() else {
             return Err(EscapeFault::BadEscape);
         };
-        let piece = self.piece(start)?;
-        self.content.truncate(start);
-        for _ in 0..times {
-            if self.content.extend_from_slice(piece.as_slice()).is_err() {
-                return Err(EscapeFault::NoMemory);
-            }
+        let piece = self.piece(repetition.start)?;
+        self.content.truncate(repetition.start);
+        for copy in 1..=repetition.times {
+            self.push_copy(piece.as_slice(), repetition.numbers.as_slice(), copy)?;
         }
         Ok(())
+    }
+
+    /// Writes the copy of this number.
+    fn push_copy(
+        &mut self,
+        piece: &[u8],
+        numbers: &[CopyNumber],
+        copy: usize,
+    ) -> Result<(), NoMemory> {
+        let mut begun = 0;
+        for number in numbers {
+            let alloc = *self.content.allocator();
+            let text = format!(in alloc; "{}", copy.saturating_add(number.raised))?;
+            self.push_all(piece.get(begun..number.place).unwrap_or(&[]))?;
+            self.push_all(text.as_bytes())?;
+            begun = number.place;
+        }
+        self.push_all(piece.get(begun..).unwrap_or(&[]))
+    }
+
+    fn push_all(&mut self, bytes: &[u8]) -> Result<(), NoMemory> {
+        Ok(self.content.extend_from_slice(bytes)?)
     }
 
     fn piece(&self, start: usize) -> Result<Vec<u8>, NoMemory> {

@@ -12,7 +12,7 @@ use std::test::Fail;
 /// The most regions of a case, and the most rows of one.
 const MOST: usize = 1_000;
 
-/// The regions of a case: each part `region` has the words of its attributes and, behind a space, its rows.
+/// The regions of a case: each part `region` has the words of its attributes and, after a space, its rows.
 pub fn regions_of(alloc: Global, case: &Case, attributes: &[Text]) -> Result<List<Region>, Fail> {
     let mut regions = List::new(alloc);
     for part in &case.parts {

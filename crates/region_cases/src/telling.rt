@@ -150,7 +150,7 @@ pub fn work_for(alloc: Global, book: &ListBook) -> Result<Work, Fail>
     Ok(Work::new(alloc, width, rules as u16)?)
 }
 
-/// Words behind spaces without the first space, or `none` where there are none.
+/// Words after spaces without the first space, or `none` where there are none.
 pub fn or_none(words: &str) -> &str {
     match words.trim_start() {
         "" => "none",

@@ -4,7 +4,7 @@ use desk_words::{Act, Stage};
 use std::alloc::Global;
 use std::test::Fail;
 
-/// The first field, and what stands behind it.
+/// The first field, and what stands after it.
 pub fn field(line: &str) -> Result<(&str, &str), Fail> {
     match line.split_once(" ") {
         Some(parts) => Ok(parts),
@@ -107,7 +107,7 @@ pub fn stage(field: &str) -> Result<Stage, Fail> {
     }
 }
 
-/// The bytes behind the other fields.
+/// The bytes after the other fields.
 pub fn body(alloc: Global, rest: &str) -> Result<List<u8>, Fail> {
     Ok(List::from_vec(Vec::from_slice(alloc, rest.as_bytes())?))
 }

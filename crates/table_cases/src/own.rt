@@ -17,7 +17,7 @@ pub fn own_row(alloc: Global, tables: &mut Tables, table: &str, line: &str) -> R
     }
 }
 
-/// Behind the clerk's others. A clerk who is not there has no list.
+/// After the clerk's others. A clerk who is not there has no list.
 fn push<T: Drop>(lists: &mut Room<Room<T>>, clerk: u32, row: T) -> Result<(), NoMemory> {
     let place = clerk as usize;
     if place < lists.len() {
