@@ -1,0 +1,117 @@
+//! Runs as cases state them.
+ghost use Rattle.clean_run.specs.Prepared.{IsPrepared};
+
+use crate::devices::{Device, Plan};
+use crate::told::Told;
+use clean_run::{Ended, Job, MemFile, MemFiles, Task, show, task_of};
+use desk_cases::{Answer, Case, Part};
+use std::alloc::Global;
+use std::test::Fail;
+
+/// How many bytes a call of a device moves at most, where a case does not say.
+const USUAL_CUT: usize = 65_536;
+
+/// What a case's run told.
+pub fn told(case: &Case, files: &MemFiles, answer: &mut Answer) -> Result<(), Fail> {
+    let alloc = answer.alloc();
+    let words = words(alloc, case)?;
+    let plan = Plan {
+        cut: cut_of(case),
+        fails: None,
+    };
+    let told = match task_of(alloc, files, words.as_slice()) {
+        Ok(Task::Clean(job)) => cleaned(alloc, case, &job, &plan)?,
+        Ok(Task::Show(text)) => shown(alloc, text.as_str(), &plan)?,
+        Err(ended) => unwritten(alloc, ended),
+    };
+    told.add(answer)
+}
+
+/// How many bytes a call of a device moves at most.
+pub fn cut_of(case: &Case) -> usize {
+    match case.number("cut") {
+        Some(cut) => usize::try_from(cut).unwrap_or(usize::MAX),
+        None => USUAL_CUT,
+    }
+}
+
+/// The name of the file that a part is, if it is one.
+pub fn file_name(part: &Part) -> Option<&str> {
+    part.name.as_str().strip_prefix("file ")
+}
+
+/// Adds the files of a case.
+pub fn add_files(alloc: Global, case: &Case, files: &mut Vec<MemFile>) -> Result<(), Fail> {
+    for part in &case.parts {
+        if let Some(name) = file_name(part) {
+            files.push(MemFile {
+                name: String::from_str(alloc, name)?,
+                bytes: part.content.clone()?,
+            })?;
+        }
+    }
+    Ok(())
+}
+
+/// The words of a case: those of its parts `words`, with spaces between, and each part `word`, in their order.
+pub fn words<'c>(alloc: Global, case: &'c Case) -> Result<Vec<&'c str>, Fail> {
+    let mut words = Vec::new(alloc);
+    for part in &case.parts {
+        add_words(&mut words, part)?;
+    }
+    Ok(words)
+}
+
+fn add_words<'c>(words: &mut Vec<&'c str>, part: &'c Part) -> Result<(), Fail> {
+    let Ok(text) = std::str::from_utf8(part.content.as_slice()) else {
+        return Ok(());
+    };
+    match part.name.as_str() {
+        "word" => words.push(text)?,
+        "words" => {
+            for word in text.split_whitespace() {
+                words.push(word)?;
+            }
+        }
+        _ => {}
+    }
+    Ok(())
+}
+
+/// What is told where nothing was written.
+fn unwritten(alloc: Global, ended: Ended) -> Told {
+    Told {
+        ended,
+        clean: Vec::new(alloc),
+        changes: Vec::new(alloc),
+        conflicts: Vec::new(alloc),
+        dissents: Vec::new(alloc),
+    }
+}
+
+/// What is told where a text was asked for.
+fn shown(alloc: Global, text: &str, plan: &Plan) -> Result<Told, Fail> {
+    let mut out = plan.sink(alloc, Device::Clean)?;
+    let ended = show(alloc, text, &mut out);
+    let mut told = unwritten(alloc, ended);
+    told.clean = Vec::from_slice(alloc, out.bytes())?;
+    Ok(told)
+}
+
+/// What is told where the sheet of a case was cleaned. Where no sheet of changes is wanted, what its sink and the two
+/// after it hold is not told.
+pub fn cleaned(alloc: Global, case: &Case, job: &Job<'_>, plan: &Plan) -> Result<Told, Fail>
+    requires { IsPrepared job.now.prepared }
+{
+    let mut source = plan.source(alloc, case.part("sheet").unwrap_or(b""))?;
+    let mut outputs = plan.outputs(alloc)?;
+    let ended = job.clean(alloc, &mut source, &mut outputs);
+    let mut told = unwritten(alloc, ended);
+    told.clean = Vec::from_slice(alloc, outputs.clean.bytes())?;
+    if job.changes.is_some() {
+        told.changes = Vec::from_slice(alloc, outputs.changes.bytes())?;
+        told.conflicts = Vec::from_slice(alloc, outputs.conflicts.bytes())?;
+        told.dissents = Vec::from_slice(alloc, outputs.dissents.bytes())?;
+    }
+    Ok(told)
+}

@@ -1,0 +1,4 @@
+//! What ties sheets that are cleaned to a desk, over the definitions alone.
+#![tactic(auto)]
+
+pub mod sessions;
