@@ -13,7 +13,7 @@ set -eu
 here=$(dirname "$0")
 port=${PORT:-8765}
 desk="http://127.0.0.1:$port"
-connections=20
+connections=21
 
 "$@" "$port" "$connections" &
 program=$!
@@ -35,6 +35,9 @@ ask POST /steward/4/masters/areas "@$here/areas.csv"
 ask POST /steward/5/rulebooks/postal/address/1 "@$here/rules.txt"
 ask POST /steward/6/editions/postal \
     '{"folded":["zip"],"masters":[["post",1],["areas",1]],"rulebook":["postal",1]}'
+
+echo "== which rules are these? they are shown as they were published"
+ask GET /desk/rulebooks/postal/1
 
 echo "== amy enters an address whose zip she knows: town, region and country are fixed"
 ask POST /do/amy/1/open/postal \
