@@ -12,7 +12,7 @@ pub enum Accept {
 
 /// What a clerk writes. A session is named by its number among the clerk's, counted from 1; a cell is the word of
 /// an attribute with its text.
-#[derive(Debug, Drop)]
+#[derive(Debug)]
 pub enum ClerkWork {
     /// A session on the newest version of an edition.
     Enter {
@@ -48,4 +48,36 @@ pub enum ClerkWork {
         session: u32,
         version: u32,
     },
+}
+
+/// One call lets it go (`docs/gate.md`).
+impl Drop for ClerkWork {
+    fn drop(self) {
+        match self {
+            ClerkWork::Enter {
+                edition,
+                cells,
+                confirmed,
+            } => {
+                drop(edition);
+                drop(cells);
+                drop(confirmed);
+            }
+            ClerkWork::Confirm { session: _, cells } => drop(cells),
+            ClerkWork::Withdraw { session: _, names } => drop(names),
+            ClerkWork::Commit {
+                session: _,
+                accept: _,
+            }
+            | ClerkWork::Abandon { session: _ }
+            | ClerkWork::Carry {
+                session: _,
+                version: _,
+            } => {}
+            ClerkWork::Batch { edition, body } => {
+                drop(edition);
+                drop(body);
+            }
+        }
+    }
 }

@@ -11,7 +11,7 @@ pub enum Publication {
 }
 
 /// What is looked at at the desk, whoever asks. Nothing changes.
-#[derive(Debug, Drop)]
+#[derive(Debug)]
 pub enum DeskLook {
     /// The report over the sessions of all clerks.
     Report,
@@ -55,4 +55,51 @@ pub enum DeskLook {
     },
     /// What publishing this next would come to.
     Check(Proposal),
+}
+
+/// One call lets it go (`docs/gate.md`).
+impl Drop for DeskLook {
+    fn drop(self) {
+        match self {
+            DeskLook::Report | DeskLook::Published => {}
+            DeskLook::Derive {
+                edition,
+                version: _,
+                master,
+                pairs,
+            } => {
+                drop(edition);
+                drop(master);
+                drop(pairs);
+            }
+            DeskLook::Edition {
+                edition: name,
+                version: _,
+            }
+            | DeskLook::Row {
+                master: name,
+                version: _,
+                row: _,
+            }
+            | DeskLook::Region {
+                edition: name,
+                version: _,
+                region: _,
+            }
+            | DeskLook::Body {
+                what: _,
+                name,
+                version: _,
+            } => drop(name),
+            DeskLook::Contradictions {
+                edition,
+                version: _,
+                rule,
+            } => {
+                drop(edition);
+                drop(rule);
+            }
+            DeskLook::Check(proposal) => drop(proposal),
+        }
+    }
 }

@@ -55,7 +55,7 @@ pub struct Carried {
 }
 
 /// The answer to a request.
-#[derive(Debug, Drop)]
+#[derive(Debug)]
 pub enum Reply {
     Made(Made),
     /// A session that was entered.
@@ -92,4 +92,42 @@ pub enum Reply {
         says: Str,
     },
     Refused(Refusal),
+}
+
+/// One call lets a reply go. Written out in each function that may end with one, as a derive has it, its drop would be
+/// most of that function's proof (`docs/gate.md`).
+impl Drop for Reply {
+    fn drop(self) {
+        match self {
+            Reply::Made(made) => drop(made),
+            Reply::Opened(view) | Reply::View(view) => drop(view),
+            Reply::Committed {
+                number: _,
+                session: _,
+                certain: _,
+            } => {}
+            Reply::Batched(_) => {}
+            Reply::Suggested(suggested) => drop(suggested),
+            Reply::Report(sheet) => drop(sheet),
+            Reply::Records(sheet) => drop(sheet),
+            Reply::Explained(explained) => drop(explained),
+            Reply::Derived(sheet) => drop(sheet),
+            Reply::Carried(carried) => drop(carried),
+            Reply::Sessions(page) => drop(page),
+            Reply::Catalogue(catalogue) => drop(catalogue),
+            Reply::Edition(sheet) => drop(sheet),
+            Reply::MasterRow(sheet) => drop(sheet),
+            Reply::Region(sheet) => drop(sheet),
+            Reply::Choices(choices) => drop(choices),
+            Reply::Blocked(blocked) => drop(blocked),
+            Reply::Body(_, body) => drop(body),
+            Reply::Contradictions(sheet) => drop(sheet),
+            Reply::Fits(fits) => drop(fits),
+            Reply::Unfit { refusal, says } => {
+                drop(refusal);
+                drop(says);
+            }
+            Reply::Refused(refusal) => drop(refusal),
+        }
+    }
 }

@@ -2,7 +2,7 @@
 use desk_base::{List, Str};
 
 /// What the steward publishes. Nothing that is published is ever changed.
-#[derive(Debug, Drop)]
+#[derive(Debug)]
 pub enum StewardWork {
     AddClerk {
         name: Str,
@@ -46,4 +46,60 @@ pub enum StewardWork {
         pairs: List<(Str, Str)>,
         from: u32,
     },
+}
+
+/// One call lets it go (`docs/gate.md`).
+impl Drop for StewardWork {
+    fn drop(self) {
+        match self {
+            StewardWork::AddClerk { name } => drop(name),
+            StewardWork::AddSchema { body } => drop(body),
+            StewardWork::AddMaster { name, body } => {
+                drop(name);
+                drop(body);
+            }
+            StewardWork::AddRulebook {
+                name,
+                schema,
+                version: _,
+                body,
+            } => {
+                drop(name);
+                drop(schema);
+                drop(body);
+            }
+            StewardWork::AddEdition {
+                name,
+                rulebook,
+                masters,
+                folded,
+            } => {
+                drop(name);
+                drop(rulebook);
+                drop(masters);
+                drop(folded);
+            }
+            StewardWork::AddRegion {
+                edition,
+                version: _,
+                attrs,
+                rows,
+            } => {
+                drop(edition);
+                drop(attrs);
+                drop(rows);
+            }
+            StewardWork::AddDerived {
+                edition,
+                version: _,
+                master,
+                pairs,
+                from: _,
+            } => {
+                drop(edition);
+                drop(master);
+                drop(pairs);
+            }
+        }
+    }
 }

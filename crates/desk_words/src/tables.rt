@@ -17,7 +17,7 @@ use std::alloc::Global;
 
 /// The nine tables. The steward is row 0 of the clerks. The last three have a room for each row of the clerks:
 /// that caller's own sessions, records and batches. `docs/tables.md` explains each table.
-#[derive(Debug, Drop)]
+#[derive(Debug)]
 pub struct Tables {
     pub clerks: Room<ClerkRow>,
     pub schemas: Room<SchemaRow>,
@@ -28,6 +28,32 @@ pub struct Tables {
     pub sessions: Room<Room<SessionRow>>,
     pub records: Room<Room<RecordRow>>,
     pub batches: Room<Room<BatchRow>>,
+}
+
+/// One call lets it go (`docs/gate.md`).
+impl Drop for Tables {
+    fn drop(self) {
+        let Tables {
+            clerks,
+            schemas,
+            masters,
+            rulebooks,
+            editions,
+            regions,
+            sessions,
+            records,
+            batches,
+        } = self;
+        drop(clerks);
+        drop(schemas);
+        drop(masters);
+        drop(rulebooks);
+        drop(editions);
+        drop(regions);
+        drop(sessions);
+        drop(records);
+        drop(batches);
+    }
 }
 
 impl Tables {
