@@ -1,9 +1,7 @@
 pub mod Accepted
-pub mod Determined
 pub mod Limits
 pub mod OneSummary
 pub mod Openings
-pub mod Replies
 pub mod Reports
 pub mod Served
 pub mod Summaries

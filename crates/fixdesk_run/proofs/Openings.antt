@@ -8,14 +8,14 @@ use Rattle.keeper_core.specs.Keeping.{IsLoaded, Uses}
 use Rattle.machine_core.specs.declared.machine.StartFail.{StartFail}
 use Rattle.machine_core.specs.declared.machine.StartFail.TheVariants as fail
 use Rattle.machine_core.specs.Starting.{CountsStart, IfStillTold, IsUnstarted}
+use Rattle.once_run.specs.declared.status.Status.{Status}
+use Rattle.once_run.specs.declared.status.Status.TheVariants.{Done, NoCommand, ReadFault, WriteFault, Unavailable}
+use Rattle.once_run.specs.declared.status.Status.TheVariants.{NoMemory, Damaged, Refused, Limit}
+use Rattle.once_run.specs.Status.{status_code}
 use Rattle.fixdesk_run.proofs.Served.{is_failed, is_loaded}
 use Rattle.desk_base.specs.Counts.{risen}
-use Rattle.fixdesk_run.specs.declared.status.Status.{Status}
-use Rattle.fixdesk_run.specs.declared.status.Status.TheVariants.{Done, NoCommand, ReadFault, WriteFault, Unavailable}
-use Rattle.fixdesk_run.specs.declared.status.Status.TheVariants.{NoMemory, Damaged, Refused, Limit}
 use Rattle.fixdesk_run.specs.Opening.{IsDamageLine, MayBeDamageLine, StaysShut, TakesFail, TellsDamage, TellsFail}
 use Rattle.fixdesk_run.specs.Opening.{damage_line}
-use Rattle.fixdesk_run.specs.Status.{status_code}
 use Rattle.fixdesk_run.specs.World.{World, failed, loaded}
 
 -- tables that were loaded are told still

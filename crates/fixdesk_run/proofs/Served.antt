@@ -7,8 +7,8 @@ use Rattle.keeper_core.specs.Keeping.{LoadsHeld, Uses}
 use Rattle.http_desk.specs.declared.serving.Ended.{Ended}
 use Rattle.http_desk.specs.Scenes.{Scene}
 use Rattle.http_desk.specs.Streams.{IsFaultless, Streams}
+use Rattle.once_run.specs.Status.{status_code}
 use Rattle.fixdesk_run.specs.Pipe.{Pipes, PipesFaultless, end_status, scene_over}
-use Rattle.fixdesk_run.specs.Status.{status_code}
 use Rattle.fixdesk_run.specs.World.{World, failed, loaded}
 
 -- a keeper that was called once, and did not fail, is one from which tables were loaded

@@ -1,11 +1,8 @@
 pub mod Link
 pub mod World
 pub mod Standing
-pub mod Status
 pub mod Task
-pub mod Input
 pub mod Usage
-pub mod Once
 pub mod Opening
 pub mod Pipe
 pub mod Report

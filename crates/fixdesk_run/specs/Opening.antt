@@ -10,9 +10,9 @@ use Rattle.keeper_core.specs.Keeping.{IfTold, IsLoaded, StayTold}
 use Rattle.machine_core.specs.declared.machine.StartFail.{StartFail}
 use Rattle.machine_core.specs.declared.machine.StartFail.TheVariants as fail
 use Rattle.machine_core.specs.Starting.{IfStillTold}
-use Rattle.fixdesk_run.specs.declared.status.Status.{Status}
-use Rattle.fixdesk_run.specs.declared.status.Status.TheVariants.{Done, NoCommand, ReadFault, WriteFault, Unavailable}
-use Rattle.fixdesk_run.specs.declared.status.Status.TheVariants.{NoMemory, Damaged, Refused, Limit}
+use Rattle.once_run.specs.declared.status.Status.{Status}
+use Rattle.once_run.specs.declared.status.Status.TheVariants.{Done, NoCommand, ReadFault, WriteFault, Unavailable}
+use Rattle.once_run.specs.declared.status.Status.TheVariants.{NoMemory, Damaged, Refused, Limit}
 use Rattle.fixdesk_run.specs.Link.{IsSilent, Says, SaysPart}
 use Rattle.fixdesk_run.specs.World.{World, failed, loaded}
 

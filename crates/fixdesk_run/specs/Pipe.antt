@@ -7,11 +7,11 @@ use Rattle.http_desk.specs.declared.serving.Ended.{Ended}
 use Rattle.http_desk.specs.declared.serving.Ended.TheVariants as ended
 use Rattle.http_desk.specs.Scenes.{Scene}
 use Rattle.http_desk.specs.Streams.{IsFaultless, Streams}
-use Rattle.fixdesk_run.specs.declared.status.Status.{Status}
-use Rattle.fixdesk_run.specs.declared.status.Status.TheVariants.{Done, ReadFault, WriteFault, NoMemory, Refused, Limit}
+use Rattle.once_run.specs.declared.status.Status.{Status}
+use Rattle.once_run.specs.declared.status.Status.TheVariants.{Done, ReadFault, WriteFault, NoMemory, Refused, Limit}
+use Rattle.once_run.specs.Status.{status_code}
 use Rattle.fixdesk_run.specs.Opening.{StaysShut}
 use Rattle.fixdesk_run.specs.Standing.{scene_at}
-use Rattle.fixdesk_run.specs.Status.{status_code}
 use Rattle.fixdesk_run.specs.World.{World, loaded}
 
 -- a link and a keeper with a machine over these tables

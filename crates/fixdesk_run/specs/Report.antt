@@ -11,9 +11,9 @@ use Rattle.keeper_core.specs.Keeping.{LoadsHeld}
 use Rattle.machine_core.specs.Checked.{Gives}
 use Rattle.machine_core.specs.Machine.{machine}
 use Rattle.machine_core.specs.Starting.{AreStarted, IfStillTold}
-use Rattle.fixdesk_run.specs.declared.status.Status.{Status}
-use Rattle.fixdesk_run.specs.declared.status.Status.TheVariants.{Done, NoCommand, ReadFault, WriteFault, Unavailable}
-use Rattle.fixdesk_run.specs.declared.status.Status.TheVariants.{NoMemory, Damaged, Refused, Limit}
+use Rattle.once_run.specs.declared.status.Status.{Status}
+use Rattle.once_run.specs.declared.status.Status.TheVariants.{Done, NoCommand, ReadFault, WriteFault, Unavailable}
+use Rattle.once_run.specs.declared.status.Status.TheVariants.{NoMemory, Damaged, Refused, Limit}
 use Rattle.fixdesk_run.specs.Link.{IsSilent, Says, SaysPart}
 use Rattle.fixdesk_run.specs.Opening.{AreOpened, StaysShut}
 use Rattle.fixdesk_run.specs.World.{World, loaded}

@@ -1,16 +1,16 @@
 -- What a call of `run` leaves of the link and the keeper, and when no fault comes.
 use Rattle.std.specs.Prelude.{◌≡◌, ◌⊎◌, ℕ, List, length, Option, Some, None, ⊤}
 use Rattle.desk_words.specs.Tables.{Rows}
-use Rattle.fixdesk_run.specs.declared.status.Status.{Status}
-use Rattle.fixdesk_run.specs.declared.status.Status.TheVariants.{NoMemory, Damaged}
+use Rattle.once_run.specs.declared.status.Status.{Status}
+use Rattle.once_run.specs.declared.status.Status.TheVariants.{NoMemory, Damaged}
+use Rattle.once_run.specs.Once.{EndsOnce, IsOnceCode, MayBeTold}
+use Rattle.once_run.specs.Status.{status_code}
 use Rattle.fixdesk_run.specs.declared.task.Task.{Task}
 use Rattle.fixdesk_run.specs.declared.task.Task.TheVariants.{Once, Pipe, Report, Make}
 use Rattle.fixdesk_run.specs.Make.{EndsMake, IsSummary}
-use Rattle.fixdesk_run.specs.Once.{EndsOnce, IsOnceCode, MayBeTold}
 use Rattle.fixdesk_run.specs.Opening.{MayBeDamageLine, StaysShut}
 use Rattle.fixdesk_run.specs.Pipe.{EndsPipe, PipesFaultless}
 use Rattle.fixdesk_run.specs.Report.{EndsReport, MayBeReport}
-use Rattle.fixdesk_run.specs.Status.{status_code}
 use Rattle.fixdesk_run.specs.Task.{task_of}
 use Rattle.fixdesk_run.specs.Usage.{EndsUsage, usage_line}
 use Rattle.fixdesk_run.specs.World.{IsUncalled, Later, World}

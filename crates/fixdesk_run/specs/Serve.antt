@@ -6,15 +6,15 @@ use Rattle.desk_words.specs.Tables.{Rows}
 use Rattle.keeper_core.specs.Keeping.{IfTold, LoadsHeld}
 use Rattle.machine_core.specs.Starting.{AreStarted}
 use Rattle.http_desk.specs.Scenes.{RoseBy, RoseWithin}
+use Rattle.once_run.specs.declared.status.Status.{Status}
+use Rattle.once_run.specs.Status.{status_code}
 use Rattle.fixdesk_run.specs.declared.plan.Plan.{Plan}
 use Rattle.fixdesk_run.specs.declared.serving.ServeEnd.{ServeEnd}
 use Rattle.fixdesk_run.specs.declared.serving.ServeEnd.TheVariants.{Done, WriteFault, NoMemory, DoorFault}
-use Rattle.fixdesk_run.specs.declared.status.Status.{Status}
 use Rattle.fixdesk_run.specs.Link.{IsSilent, Says, SaysPart}
 use Rattle.fixdesk_run.specs.Opening.{MayBeDamageLine, StaysShut}
 use Rattle.fixdesk_run.specs.Plan.{plan_of}
 use Rattle.fixdesk_run.specs.Site.{Door, IsPassed, IsUnchanged, Later, Site}
-use Rattle.fixdesk_run.specs.Status.{status_code}
 use Rattle.fixdesk_run.specs.Standing.{Standing}
 use Rattle.fixdesk_run.specs.Visits.{AreVisits, Visit, early_count, last_standing, most_visits, refusals}
 use Rattle.fixdesk_run.specs.Visits.{sure_visits}

@@ -1,10 +1,10 @@
 -- What words that are no command leave of the link.
 use Rattle.std.specs.Prelude.{ℕ, List, codes}
 use Rattle.desk_links.specs.Doors.{LinkSeen}
-use Rattle.fixdesk_run.specs.declared.status.Status.{Status}
-use Rattle.fixdesk_run.specs.declared.status.Status.TheVariants.{Done, NoCommand, ReadFault, WriteFault, Unavailable}
-use Rattle.fixdesk_run.specs.declared.status.Status.TheVariants.{NoMemory, Damaged, Refused, Limit}
 use Rattle.json_parts.specs.Shapes.{line}
+use Rattle.once_run.specs.declared.status.Status.{Status}
+use Rattle.once_run.specs.declared.status.Status.TheVariants.{Done, NoCommand, ReadFault, WriteFault, Unavailable}
+use Rattle.once_run.specs.declared.status.Status.TheVariants.{NoMemory, Damaged, Refused, Limit}
 use Rattle.fixdesk_run.specs.Link.{Says, SaysPart}
 
 -- the line that they are answered with

@@ -8,11 +8,10 @@ ghost use Rattle.desk_made.specs.Made.{made_requests};
 ghost use Rattle.desk_made.specs.Requests.{stream_of};
 ghost use Rattle.desk_words.specs.Tables.{empty_rows};
 ghost use Rattle.machine_core.specs.Starting.{AreStarted};
+ghost use Rattle.once_run.specs.Status.{status_code};
 ghost use Rattle.fixdesk_run.specs.Make.{AllAnswered, AllServed, EndsMake, IsSummary, IsTold, TellsReport, TellsSheet};
 ghost use Rattle.fixdesk_run.specs.Make.{summary_line};
-ghost use Rattle.fixdesk_run.specs.Status.{status_code};
 
-use crate::status::Status;
 use desk_base::{Both, Failed, List, MemSource, NoMemory, Sink, Source, write_all};
 use desk_links::DropSink;
 use desk_made::made;
@@ -21,6 +20,7 @@ use http_cut::PIECE;
 use http_desk::{Ended, serve_stream};
 use keeper_core::MemKeeper;
 use machine_core::{Machine, Weighed};
+use once_run::Status;
 use std::alloc::Global;
 
 /// How many requests the generator makes before those that open sessions.

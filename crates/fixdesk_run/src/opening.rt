@@ -3,10 +3,10 @@ ghost use Rattle.std.specs.Prelude.{◌≡◌, ◌≢◌, ◌≤◌, ℕ, List, 
 ghost use Rattle.fixdesk_run.specs.Link.{link_with};
 ghost use Rattle.fixdesk_run.specs.Opening.{TakesFail, TellsDamage, TellsFail, damage_line};
 
-use crate::status::Status;
 use desk_base::{Failed, List, NoMemory, Sink, write_all};
 use desk_valid::Damage;
 use machine_core::StartFail;
+use once_run::Status;
 use std::alloc::Global;
 
 /// Tells why no machine began: a line that names the first damaged row, and nothing else. Of a link with this output

@@ -1,17 +1,17 @@
 //! The command `pipe`, which answers the requests that the link has left.
 ghost use Rattle.std.specs.Prelude.{◌≡◌, ◌≤◌, Some};
+ghost use Rattle.once_run.specs.Status.{status_code};
 ghost use Rattle.fixdesk_run.specs.Pipe.{EndsPipe, end_status};
 ghost use Rattle.fixdesk_run.specs.Run.{IsFaultless, TakesText};
-ghost use Rattle.fixdesk_run.specs.Status.{status_code};
 ghost use Rattle.fixdesk_run.specs.World.{Later, world};
 ghost use Rattle.fixdesk_run.specs.declared.task.Task.TheVariants.{Pipe};
 
 use crate::opening::stay_shut;
-use crate::status::Status;
 use desk_base::{Both, Sink, Source};
 use http_desk::{Ended, serve_stream};
 use keeper_core::Keeper;
 use machine_core::Machine;
+use once_run::Status;
 use std::alloc::Global;
 
 /// Answers the requests that the link has left, up to a limit, over the keeper's tables.

@@ -1,18 +1,18 @@
 //! The command `report`, which writes the desk's report.
 ghost use Rattle.std.specs.Prelude.{◌≡◌, IfOk, Some};
+ghost use Rattle.once_run.specs.Status.{status_code};
 ghost use Rattle.fixdesk_run.specs.Report.{EndsReport, IsReport, TellsReply};
 ghost use Rattle.fixdesk_run.specs.Run.{IsFaultless, TakesText};
-ghost use Rattle.fixdesk_run.specs.Status.{status_code};
 ghost use Rattle.fixdesk_run.specs.World.{Later, world};
 ghost use Rattle.fixdesk_run.specs.declared.task.Task.TheVariants.{Report};
 
 use crate::opening::stay_shut;
-use crate::status::Status;
 use desk_base::{Both, Failed, List, NoMemory, Sink, Source, write_all};
 use desk_sheets::report_text;
 use desk_words::{Command, DeskLook, Reply};
 use keeper_core::Keeper;
 use machine_core::Machine;
+use once_run::Status;
 use std::alloc::Global;
 
 /// Writes the report over the sessions of all clerks in the keeper's tables.

@@ -1,17 +1,16 @@
 //! The top call of the program `fixdeskd`.
 ghost use Rattle.std.specs.Prelude.{◌≡◌, ◌≤◌, ◌⊎◌, length, map, string_bytes, None};
 ghost use Rattle.keeper_core.specs.Keeping.{IfTold};
+ghost use Rattle.once_run.specs.Status.{status_code};
 ghost use Rattle.fixdesk_run.specs.Link.{Says, SaysPart, link_with};
 ghost use Rattle.fixdesk_run.specs.Plan.{plan_of};
 ghost use Rattle.fixdesk_run.specs.Serve.{AreSteadyFor, EndsServing, IsServedFaultless, LeavesServed, TakesSaid};
 ghost use Rattle.fixdesk_run.specs.Serve.{TakesTally, end_code, serve_usage};
 ghost use Rattle.fixdesk_run.specs.Site.{Later, site};
-ghost use Rattle.fixdesk_run.specs.Status.{status_code};
 ghost use Rattle.fixdesk_run.specs.Standing.{standing};
 
 use crate::opening::stay_shut;
 use crate::plan::{Plan, plan_of};
-use crate::status::Status;
 use crate::tally::{begin_line, end_line};
 use crate::visits::serve_links;
 use desk_base::{Failed, NoMemory, Sink, write_all};
@@ -19,6 +18,7 @@ use desk_links::Listener;
 use http_cut::Intake;
 use keeper_core::Keeper;
 use machine_core::Machine;
+use once_run::Status;
 use std::alloc::Global;
 
 /// The line that answers words which are no port and count.

@@ -1,21 +1,20 @@
 //! The top call of the program `fixdesk`.
 ghost use Rattle.std.specs.Prelude.{◌≡◌, ◌≤◌, length, map, string_bytes};
 ghost use Rattle.desk_links.specs.Doors.{link_seen};
+ghost use Rattle.once_run.specs.Status.{status_code};
 ghost use Rattle.fixdesk_run.specs.Run.{AreSteady, Ends, IsFaultless, Leaves, TakesText};
-ghost use Rattle.fixdesk_run.specs.Status.{status_code};
 ghost use Rattle.fixdesk_run.specs.Task.{IsLimited, task_of};
 ghost use Rattle.fixdesk_run.specs.Usage.{EndsUsage, usage_line};
 ghost use Rattle.fixdesk_run.specs.World.{Later, world};
 
 use crate::make::make;
-use crate::once::once;
 use crate::pipe::pipe;
 use crate::report::report;
-use crate::status::Status;
 use crate::task::{Task, task_of};
 use desk_base::{Both, Failed, Sink, Source, write_all};
 use keeper_core::Keeper;
 use machine_core::Machine;
+use once_run::{Status, once};
 use std::alloc::Global;
 
 /// The line that answers words which are no command.

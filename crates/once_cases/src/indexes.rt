@@ -1,8 +1,8 @@
 //! The answer to a case over the indexes of its masters.
 use case_json::{Case, case_of};
 use desk_base::List;
-use fixdesk_run::answer_over;
 use master_index::{MapBook, SortedBook};
+use once_run::answer_over;
 use std::alloc::Global;
 use std::test::Fail;
 

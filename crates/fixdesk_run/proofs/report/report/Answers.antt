@@ -1,5 +1,5 @@
 use Rattle.std.proofs.Common.{inr, List, ℕ}
-use Rattle.fixdesk_run.specs.Status.{status_code}
+use Rattle.once_run.specs.Status.{status_code}
 use Rattle.fixdesk_run.specs.World.{World, world}
 use Rattle.fixdesk_run.proofs.Openings.{is_shut, is_used, shut_code, stays_shut, takes_fail}
 use Rattle.fixdesk_run.proofs.report.report.Goals as goal

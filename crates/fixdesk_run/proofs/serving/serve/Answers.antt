@@ -1,9 +1,9 @@
 use Rattle.std.proofs.Common.{◌≡◌, ◌∙◌, ℕ, List, map, refl, sym, inl, inr, arith, string_bytes}
 use Rattle.std.specs.Prelude.{◌⊎◌, None, Some}
+use Rattle.once_run.specs.Status.{status_code}
 use Rattle.fixdesk_run.specs.Plan.{plan_of}
 use Rattle.fixdesk_run.specs.Serve.{TakesTally, serve_usage, served_line}
 use Rattle.fixdesk_run.specs.Site.{Site, site}
-use Rattle.fixdesk_run.specs.Status.{status_code}
 use Rattle.fixdesk_run.specs.Standing.{standing}
 use Rattle.fixdesk_run.proofs.Openings.{is_shut, is_used, shut_code, stays_shut, takes_fail}
 use Rattle.keeper_core.specs.Keeping.{uses}

@@ -1,8 +1,8 @@
 //! Taking the input of a command.
 ghost use Rattle.std.specs.Prelude.{◌≡◌, ◌≤◌, length, IfOk, OnErr, IsErrOf};
 ghost use Rattle.desk_base.specs.Faults.{Rose};
-ghost use Rattle.fixdesk_run.specs.declared.input.InputFault.TheVariants as faults;
-ghost use Rattle.fixdesk_run.specs.Input.{Takes, TakesPart};
+ghost use Rattle.once_run.specs.declared.input.InputFault.TheVariants as faults;
+ghost use Rattle.once_run.specs.Input.{Takes, TakesPart};
 
 use desk_base::{Failed, MAX_INPUT, Source};
 use std::alloc::{AllocError, Global};

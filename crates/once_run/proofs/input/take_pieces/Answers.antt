@@ -1,7 +1,7 @@
 use Rattle.std.proofs.Common.{◌++◌, ◌≤◌, ◌-◌, rules, take, length, arith, length-append, length-take}
-use Rattle.fixdesk_run.specs.Input.{most, TakesPart}
+use Rattle.once_run.specs.Input.{most, TakesPart}
 use Rattle.std.proofs.KnownBytes.{Consumes-trans}
-use Rattle.fixdesk_run.proofs.input.take_pieces.Goals as goal
+use Rattle.once_run.proofs.input.take_pieces.Goals as goal
 
 -- what was read last is lost, and was taken all the same
 pub returns-in_err-extend_from_slice-clause-part : goal.returns-in_err-extend_from_slice-clause-part

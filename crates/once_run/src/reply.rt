@@ -1,6 +1,6 @@
 //! What an input of `once` is answered with.
 ghost use Rattle.std.specs.Prelude.{◌≡◌};
-ghost use Rattle.fixdesk_run.specs.Once.{refusal_line, reply_text, reply_status};
+ghost use Rattle.once_run.specs.Once.{refusal_line, reply_text, reply_status};
 
 use crate::status::Status;
 use desk_base::List;

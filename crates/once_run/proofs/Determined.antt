@@ -2,12 +2,12 @@
 use Rattle.std.proofs.Common.{◌≡◌, ◌∙◌, ℕ, List, Option, Some, sym, ap, refl, arith}
 use Rattle.fix_engine.proofs.Once.{IsAnswer-unique}
 use Rattle.case_json.specs.declared.case.Case.{Case}
-use Rattle.fixdesk_run.specs.declared.reply.InputRefusal.{InputRefusal}
-use Rattle.fixdesk_run.specs.declared.reply.InputRefusal.TheVariants.{TooLong, NotJson, NotACase}
+use Rattle.once_run.specs.declared.reply.InputRefusal.{InputRefusal}
+use Rattle.once_run.specs.declared.reply.InputRefusal.TheVariants.{TooLong, NotJson, NotACase}
 use Rattle.case_json.specs.Answer.{IsAnswer}
 use Rattle.case_json.specs.Cases.{IsCaseIn}
 use Rattle.json_parts.specs.Parts.{json_of}
-use Rattle.fixdesk_run.specs.Once.{IsAnswered, IsRefusalOf, IsRefused, refusal_line}
+use Rattle.once_run.specs.Once.{IsAnswered, IsRefusalOf, IsRefused, refusal_line}
 
 -- what is found is one value
 one_value : {A : Type 0} (found : Option A) (value other : A) → found ≡ Some value → found ≡ Some other → value ≡ other

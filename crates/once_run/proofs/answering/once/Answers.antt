@@ -1,7 +1,7 @@
 use Rattle.std.proofs.Common.{◌≤◌, length, arith}
-use Rattle.fixdesk_run.specs.Once.{IsReplyTo, IsDue, IsTold}
-use Rattle.fixdesk_run.proofs.Replies.{IsReplyTo-text}
-use Rattle.fixdesk_run.proofs.once.once.Goals as goal
+use Rattle.once_run.specs.Once.{IsReplyTo, IsDue, IsTold}
+use Rattle.once_run.proofs.Replies.{IsReplyTo-text}
+use Rattle.once_run.proofs.answering.once.Goals as goal
 
 -- a part of the reply was written
 pub returns-clause-ended : goal.returns-clause-ended

@@ -4,18 +4,18 @@ use Rattle.std.specs.Io.KnownBytes.{Appends}
 use Rattle.desk_base.specs.Faults.{AppendsPart, Rose}
 use Rattle.desk_links.specs.Doors.{LinkSeen}
 use Rattle.case_json.specs.declared.case.Case.{Case}
-use Rattle.fixdesk_run.specs.declared.reply.CaseReply.{CaseReply}
-use Rattle.fixdesk_run.specs.declared.reply.CaseReply.TheVariants as replies
-use Rattle.fixdesk_run.specs.declared.reply.CaseReply.TheVariants.{Answered}
-use Rattle.fixdesk_run.specs.declared.reply.InputRefusal.{InputRefusal}
-use Rattle.fixdesk_run.specs.declared.reply.InputRefusal.TheVariants.{TooLong, NotJson, NotACase}
-use Rattle.fixdesk_run.specs.declared.status.Status.{Status}
-use Rattle.fixdesk_run.specs.declared.status.Status.TheVariants.{Done, NoCommand, ReadFault, WriteFault, Unavailable}
-use Rattle.fixdesk_run.specs.declared.status.Status.TheVariants.{NoMemory, Damaged, Refused, Limit}
+use Rattle.once_run.specs.declared.reply.CaseReply.{CaseReply}
+use Rattle.once_run.specs.declared.reply.CaseReply.TheVariants as replies
+use Rattle.once_run.specs.declared.reply.CaseReply.TheVariants.{Answered}
+use Rattle.once_run.specs.declared.reply.InputRefusal.{InputRefusal}
+use Rattle.once_run.specs.declared.reply.InputRefusal.TheVariants.{TooLong, NotJson, NotACase}
+use Rattle.once_run.specs.declared.status.Status.{Status}
+use Rattle.once_run.specs.declared.status.Status.TheVariants.{Done, NoCommand, ReadFault, WriteFault, Unavailable}
+use Rattle.once_run.specs.declared.status.Status.TheVariants.{NoMemory, Damaged, Refused, Limit}
 use Rattle.case_json.specs.Answer.{IsAnswer}
 use Rattle.json_parts.specs.Shapes.{line}
 use Rattle.case_json.specs.Cases.{IsCaseIn, IsNoCase, IsNotJson}
-use Rattle.fixdesk_run.specs.Input.{most, Takes, TakesPart}
+use Rattle.once_run.specs.Input.{most, Takes, TakesPart}
 
 -- why these bytes are refused
 abbrev pub IsRefusalOf : List ℕ → InputRefusal → Type 0

@@ -1,7 +1,7 @@
 use Rattle.std.proofs.Common.{◌≤◌, ◌-◌, length}
 use Rattle.std.specs.Io.KnownBytes.{Consumes}
-use Rattle.fixdesk_run.specs.Input.{most}
-use Rattle.fixdesk_run.proofs.input.take_pieces.Given as goal
+use Rattle.once_run.specs.Input.{most}
+use Rattle.once_run.proofs.input.take_pieces.Given as goal
 
 abbrev pub invariant-pieces : goal.invariant-pieces
 invariant-pieces g l = record {

@@ -5,9 +5,9 @@ ghost use Rattle.fix_model.specs.Valid.{IsValid};
 ghost use Rattle.desk_links.specs.Doors.{link_seen};
 ghost use Rattle.case_json.specs.Answer.{IsAnswer};
 ghost use Rattle.case_json.specs.Cases.{PartsFit};
-ghost use Rattle.fixdesk_run.specs.Input.{most};
-ghost use Rattle.fixdesk_run.specs.Once.{EndsOnce, IsOnceCode, IsReplyTo, TakesTold};
-ghost use Rattle.fixdesk_run.specs.Status.{status_code};
+ghost use Rattle.once_run.specs.Input.{most};
+ghost use Rattle.once_run.specs.Once.{EndsOnce, IsOnceCode, IsReplyTo, TakesTold};
+ghost use Rattle.once_run.specs.Status.{status_code};
 
 use crate::input::{InputFault, MOST, input_of};
 use crate::reply::{CaseReply, InputRefusal};

@@ -1,6 +1,6 @@
 //! How a call of `run` ends.
 ghost use Rattle.std.specs.Prelude.{◌≡◌};
-ghost use Rattle.fixdesk_run.specs.Status.{status_code};
+ghost use Rattle.once_run.specs.Status.{status_code};
 
 /// What became of the words.
 #[derive(Clone, Copy, Debug, PartialEq, Eq)]
