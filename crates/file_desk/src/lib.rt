@@ -8,8 +8,10 @@ mod command_line;
 mod ended;
 mod running;
 mod serving;
+mod telling;
 
 pub use command_line::words;
 pub use ended::{Run, end};
 pub use running::run_over;
 pub use serving::serve_over;
+pub use telling::Called;

@@ -2,7 +2,7 @@
 #![tactic(auto)]
 
 use desk_base::{Both, NoMemory, StdSink, StdSource, Str};
-use file_desk::{end, run_over, words};
+use file_desk::{Called, end, run_over, words};
 use fixdesk_run::Status;
 use sqlite::Unknown;
 use std::alloc::AllocError;
@@ -22,8 +22,12 @@ fn run_words(rt: &HostRuntime, words: &[String]) -> u8 {
         source: StdSource::new(rt.stdin()),
         sink: StdSink::new(rt.stdout()),
     };
+    let called = Called {
+        program: "fixdesk",
+        words,
+    };
     match Str::new(rt.alloc(), "desk.db") {
-        Ok(path) => end(run_over(rt, words, path, Unknown, &mut link)),
+        Ok(path) => end(rt, called, run_over(rt, words, path, Unknown, &mut link)),
         Err(NoMemory) => Status::NoMemory.code(),
     }
 }

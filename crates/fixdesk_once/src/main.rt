@@ -2,7 +2,7 @@
 #![tactic(auto)]
 
 use desk_base::{Both, StdSink, StdSource};
-use once_run::once;
+use once_run::{once, tell};
 use std::process::ExitCode;
 
 fn main(rt: HostRuntime) -> ExitCode {
@@ -10,5 +10,7 @@ fn main(rt: HostRuntime) -> ExitCode {
         source: StdSource::new(rt.stdin()),
         sink: StdSink::new(rt.stdout()),
     };
-    ExitCode::from(once(rt.alloc(), &mut link).code())
+    let code = once(rt.alloc(), &mut link).code();
+    tell(&rt, "fixdesk_once", code);
+    ExitCode::from(code)
 }

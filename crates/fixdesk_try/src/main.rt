@@ -3,7 +3,7 @@
 
 use desk_base::{Both, List, NoMemory, StdSink, StdSource};
 use desk_words::Tables;
-use fixdesk_run::{Status, run};
+use fixdesk_run::{Status, run, tell};
 use keeper_core::MemKeeper;
 use session_machine::Desk;
 use std::alloc::{AllocError, Global};
@@ -16,6 +16,7 @@ fn main(rt: HostRuntime) -> ExitCode {
         Ok(words) => run_words(&rt, words.as_slice()),
         Err(AllocError) => Status::NoMemory.code(),
     };
+    tell(&rt, "fixdesk_try", code);
     ExitCode::from(code)
 }
 

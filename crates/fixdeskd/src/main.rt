@@ -3,7 +3,7 @@
 #![tactic(auto)]
 
 use desk_base::{NoMemory, StdSink, Str};
-use file_desk::{end, serve_over, words};
+use file_desk::{Called, end, serve_over, words};
 use fixdesk_run::Status;
 use sqlite::Unknown;
 use std::alloc::AllocError;
@@ -22,8 +22,16 @@ fn main(rt: HostRuntime) -> ExitCode {
 fn serve_words(rt: &HostRuntime, words: &[String]) -> u8 {
     let mut door = TcpDoor::new(rt);
     let mut out = StdSink::new(rt.stdout());
+    let called = Called {
+        program: "fixdeskd",
+        words,
+    };
     match Str::new(rt.alloc(), "desk.db") {
-        Ok(path) => end(serve_over(rt, words, path, Unknown, &mut door, &mut out)),
+        Ok(path) => end(
+            rt,
+            called,
+            serve_over(rt, words, path, Unknown, &mut door, &mut out),
+        ),
         Err(NoMemory) => Status::NoMemory.code(),
     }
 }

@@ -9,6 +9,8 @@ mod input;
 pub mod laws;
 mod reply;
 mod status;
+mod telling;
 
 pub use answering::{answer_over, once};
 pub use status::Status;
+pub use telling::tell;
