@@ -10,7 +10,7 @@ set -eu
 [ $# -eq 1 ] || { echo "usage: try.sh FIXDESKD" >&2; exit 1; }
 
 here=$(cd "$(dirname "$0")" && pwd)
-program=$(command -v "$1")
+program=$(realpath "$(command -v "$1")")
 folder=$(mktemp -d)
 chmod 755 "$folder"
 desk=
