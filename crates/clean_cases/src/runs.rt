@@ -3,7 +3,7 @@ ghost use Rattle.clean_run.specs.Prepared.{IsPrepared};
 
 use crate::devices::{Device, Plan};
 use crate::told::Told;
-use clean_run::{Ended, Job, MemFile, MemFiles, Task, show, task_of};
+use clean_run::{Job, MemFile, MemFiles, Task, show, task_of};
 use desk_cases::{Answer, Case, Part};
 use std::alloc::Global;
 use std::test::Fail;
@@ -19,12 +19,20 @@ pub fn told(case: &Case, files: &MemFiles, answer: &mut Answer) -> Result<(), Fa
         cut: cut_of(case),
         fails: None,
     };
-    let told = match task_of(alloc, files, words.as_slice()) {
-        Ok(Task::Clean(job)) => cleaned(alloc, case, &job, &plan)?,
-        Ok(Task::Show(text)) => shown(alloc, text.as_str(), &plan)?,
-        Err(ended) => unwritten(alloc, ended),
-    };
-    told.add(answer)
+    match task_of(alloc, files, words.as_slice()) {
+        Ok(Task::Clean(job)) => {
+            let told = cleaned(alloc, case, &job, &plan);
+            drop(job);
+            add(told, answer)
+        }
+        Ok(Task::Show(text)) => add(shown(alloc, text.as_str(), &plan), answer),
+        Err(ended) => add(Ok(Told::unwritten(alloc, ended)), answer),
+    }
+}
+
+/// Adds what a run told.
+fn add(told: Result<Told, Fail>, answer: &mut Answer) -> Result<(), Fail> {
+    told?.add(answer)
 }
 
 /// How many bytes a call of a device moves at most.
@@ -78,40 +86,19 @@ fn add_words<'c>(words: &mut Vec<&'c str>, part: &'c Part) -> Result<(), Fail> {
     Ok(())
 }
 
-/// What is told where nothing was written.
-fn unwritten(alloc: Global, ended: Ended) -> Told {
-    Told {
-        ended,
-        clean: Vec::new(alloc),
-        changes: Vec::new(alloc),
-        conflicts: Vec::new(alloc),
-        dissents: Vec::new(alloc),
-    }
-}
-
 /// What is told where a text was asked for.
 fn shown(alloc: Global, text: &str, plan: &Plan) -> Result<Told, Fail> {
     let mut out = plan.sink(alloc, Device::Clean)?;
     let ended = show(alloc, text, &mut out);
-    let mut told = unwritten(alloc, ended);
-    told.clean = Vec::from_slice(alloc, out.bytes())?;
-    Ok(told)
+    Told::with_clean(alloc, ended, &out)
 }
 
-/// What is told where the sheet of a case was cleaned. Where no sheet of changes is wanted, what its sink and the two
-/// after it hold is not told.
+/// What is told where the sheet of a case was cleaned.
 pub fn cleaned(alloc: Global, case: &Case, job: &Job<'_>, plan: &Plan) -> Result<Told, Fail>
     requires { IsPrepared job.now.prepared }
 {
     let mut source = plan.source(alloc, case.part("sheet").unwrap_or(b""))?;
     let mut outputs = plan.outputs(alloc)?;
     let ended = job.clean(alloc, &mut source, &mut outputs);
-    let mut told = unwritten(alloc, ended);
-    told.clean = Vec::from_slice(alloc, outputs.clean.bytes())?;
-    if job.changes.is_some() {
-        told.changes = Vec::from_slice(alloc, outputs.changes.bytes())?;
-        told.conflicts = Vec::from_slice(alloc, outputs.conflicts.bytes())?;
-        told.dissents = Vec::from_slice(alloc, outputs.dissents.bytes())?;
-    }
-    Ok(told)
+    Told::of(alloc, ended, job, &outputs)
 }

@@ -25,10 +25,19 @@ pub fn each_call_fails(case: &Case, files: &MemFiles, answer: &mut Answer) -> Re
     let Ok(Task::Clean(job)) = task_of(answer.alloc(), files, words.as_slice()) else {
         return Err(Fail::new("a case asks for no sheet to be cleaned"));
     };
-    add_reads(case, &job, answer)?;
-    let whole = cleaned(answer.alloc(), case, &job, &plan(1, None))?;
+    let told = add_calls(case, &job, answer);
+    drop(job);
+    told
+}
+
+/// What is told of a sheet, as each of these calls fails.
+fn add_calls(case: &Case, job: &Job<'_>, answer: &mut Answer) -> Result<(), Fail>
+    requires { IsPrepared job.now.prepared }
+{
+    add_reads(case, job, answer)?;
+    let whole = cleaned(answer.alloc(), case, job, &plan(1, None))?;
     for sink in &SINKS {
-        add_writes(case, &job, *sink, &whole, answer)?;
+        add_writes(case, job, *sink, &whole, answer)?;
     }
     Ok(())
 }
