@@ -37,8 +37,16 @@ start_desk() {
 
 # as NAME METHOD PATH [BODY]: the status of a request by this name
 as() {
-    curl -s -o "$folder/body" -w '%{http_code}' --retry 20 --retry-delay 1 --retry-connrefused \
+    curl -s -o "$folder/body" -w '%{http_code}' \
         -u "$1:word of $1" -X "$2" "http://127.0.0.1:8000$3" ${4+--data-binary "$4"}
+}
+
+# waits until nginx and the desk answer, at most 20 seconds
+answering() {
+    for _ in 1 2 3 4 5 6 7 8 9 10 11 12 13 14 15 16 17 18 19 20; do
+        [ "$(as steward GET /desk/report)" != 200 ] || return 0
+        sleep 1
+    done
 }
 
 # wants WHAT WANTED FOUND
@@ -54,7 +62,7 @@ wants() {
 
 start_desk
 nginx -p "$folder" -c "$folder/nginx.conf"
-sleep 1
+answering
 
 wants 'nobody is asked for a name' 401 "$(curl -s -o "$folder/body" -w '%{http_code}' http://127.0.0.1:8000/desk/report)"
 wants 'a wrong password is refused' 401 \
@@ -89,6 +97,7 @@ wants 'over one connection' 1 "$(awk '{ n += $2 } END { print n }' "$folder/thou
 kill "$desk"
 wait "$desk" 2>/dev/null || true
 start_desk
+answering
 wants 'the desk is there after it was killed and started' 200 "$(as amy GET /see/amy/report)"
 wants 'and knows what was published last' 201 "$(as steward POST /steward/4/clerks '{"name":"ivy"}')"
 
