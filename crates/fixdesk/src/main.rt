@@ -3,7 +3,7 @@
 
 use desk_base::{Both, NoMemory, StdSink, StdSource, Str};
 use file_desk::{Called, end, run_over, words};
-use fixdesk_run::Status;
+use fixdesk_run::{Status, tell};
 use sqlite::Unknown;
 use std::alloc::AllocError;
 use std::process::ExitCode;
@@ -11,7 +11,7 @@ use std::process::ExitCode;
 fn main(rt: HostRuntime) -> ExitCode {
     let code = match words(&rt) {
         Ok(words) => run_words(&rt, words.as_slice()),
-        Err(AllocError) => Status::NoMemory.code(),
+        Err(AllocError) => no_memory(&rt),
     };
     ExitCode::from(code)
 }
@@ -28,6 +28,13 @@ fn run_words(rt: &HostRuntime, words: &[String]) -> u8 {
     };
     match Str::new(rt.alloc(), "desk.db") {
         Ok(path) => end(rt, called, run_over(rt, words, path, Unknown, &mut link)),
-        Err(NoMemory) => Status::NoMemory.code(),
+        Err(NoMemory) => no_memory(rt),
     }
+}
+
+/// Says that there is no memory to begin with, and gives that status.
+fn no_memory(rt: &HostRuntime) -> u8 {
+    let code = Status::NoMemory.code();
+    tell(rt, "fixdesk", code);
+    code
 }

@@ -4,7 +4,7 @@
 
 use desk_base::{NoMemory, StdSink, Str};
 use file_desk::{Called, end, serve_over, words};
-use fixdesk_run::Status;
+use fixdesk_run::{Status, tell};
 use sqlite::Unknown;
 use std::alloc::AllocError;
 use std::process::ExitCode;
@@ -13,7 +13,7 @@ use tcp_door::TcpDoor;
 fn main(rt: HostRuntime) -> ExitCode {
     let code = match words(&rt) {
         Ok(words) => serve_words(&rt, words.as_slice()),
-        Err(AllocError) => Status::NoMemory.code(),
+        Err(AllocError) => no_memory(&rt),
     };
     ExitCode::from(code)
 }
@@ -32,6 +32,13 @@ fn serve_words(rt: &HostRuntime, words: &[String]) -> u8 {
             called,
             serve_over(rt, words, path, Unknown, &mut door, &mut out),
         ),
-        Err(NoMemory) => Status::NoMemory.code(),
+        Err(NoMemory) => no_memory(rt),
     }
+}
+
+/// Says that there is no memory to begin with, and gives that status.
+fn no_memory(rt: &HostRuntime) -> u8 {
+    let code = Status::NoMemory.code();
+    tell(rt, "fixdeskd", code);
+    code
 }
