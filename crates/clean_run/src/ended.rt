@@ -16,7 +16,7 @@ pub struct Ended {
     pub summary: Option<Summary>,
 }
 
-/// The exit statuses (docs/formats.md, *Statuses of `clean_run`*).
+/// The exit statuses (docs/formats.md, *Statuses of `fixdesk_clean`*).
 #[derive(Clone, Copy, Debug, PartialEq, Eq)]
 pub enum Status {
     /// The sheet was cleaned, or a text shown.
