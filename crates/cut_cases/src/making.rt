@@ -44,7 +44,7 @@ fn add_request(
 ) -> Result<(), Fail> {
     let mut rest = bytes;
     for _ in 1..case.number("place").unwrap_or(1) {
-        rest = behind(routes, rest)?;
+        rest = following(routes, rest)?;
     }
     match first_step(routes, rest) {
         Step::Whole(request) => add_whole(rest, &request, case, answer),
@@ -72,7 +72,7 @@ fn start(case: &Case) -> Result<u32, Fail>
 }
 
 /// What stands after the first request.
-fn behind<'a>(routes: &Routes, bytes: &'a [u8]) -> Result<&'a [u8], Fail> {
+fn following<'a>(routes: &Routes, bytes: &'a [u8]) -> Result<&'a [u8], Fail> {
     match first_step(routes, bytes) {
         Step::Whole(request) => Ok(&bytes[request.body.end..]),
         _ => Err(Fail::new("a stream has fewer requests")),

@@ -8,8 +8,8 @@ use Rattle.std.proofs.lemmas.List.{take_all, get_or-drop, get_or_read, get_or_de
 use Rattle.std.proofs.lemmas.List.Folds.{Any-from_list_any, list_any-from_Any}
 
 -- the items after a place
-abbrev pub behind : {A : Type 0} → List A → ℕ → List A
-behind items place = take (length items - (place + 1)) (drop (place + 1) items)
+abbrev pub following : {A : Type 0} → List A → ℕ → List A
+following items place = take (length items - (place + 1)) (drop (place + 1) items)
 
 -- the items before a place differ by the key from all after them
 abbrev pub DifferBefore : {A B : Type 0} → (A → B) → List A → ℕ → Type 0
@@ -19,14 +19,14 @@ DifferBefore {A} key items place =
 module _ {A B : Type 0} (key : A → B) (items : List A) (place : ℕ) (item : A)
     (within : place < length items) (is : item ≡ get_or items place item) where
   -- what stands after a place is there whole
-  behind_whole : behind items place ≡ drop (place + 1) items
-  behind_whole = take_all _ _ (omega (arith, length-drop (place + 1) items))
+  following_whole : following items place ≡ drop (place + 1) items
+  following_whole = take_all _ _ (omega (arith, length-drop (place + 1) items))
 
   -- an item whose key stands after it too is one of two with that key
-  pub repeated : Any (λ later. key item ≡ key later) (behind items place)
+  pub repeated : Any (λ later. key item ≡ key later) (following items place)
       → ¬ AllPairs (λ one later. key one ≢ key later) items
   repeated found distinct =
-      let (further, later, below, stands, same) = rw behind_whole at found in
+      let (further, later, below, stands, same) = rw following_whole at found in
       let seat : ℕ = place + 1 + further in
       let inside : seat < length items = omega (arith, length-drop (place + 1) items, below) in
       let here : item ≡ get_or items place later = get_or_read items place item within is later in
@@ -34,7 +34,7 @@ module _ {A B : Type 0} (key : A → B) (items : List A) (place : ℕ) (item : A
       distinct place seat later (omega arith) inside (ap key (sym here) ∙ same ∙ ap key (sym there))
 
   -- an item whose key doesn't stand after it differs from all that do
-  pub differs : ¬ Any (λ later. key item ≡ key later) (behind items place)
+  pub differs : ¬ Any (λ later. key item ≡ key later) (following items place)
       → (j : ℕ) (d : A) → place < j → j < length items → key (get_or items place d) ≢ key (get_or items j d)
   differs none j d later inside same =
       let far : ℕ = j - (place + 1) in
@@ -50,15 +50,15 @@ module _ {A B : Type 0} (key : A → B) (items : List A) (place : ℕ) (item : A
         ap key (get_or_read items place item within is d)
             ∙ same,
       ) in
-      none (rw behind_whole found)
+      none (rw following_whole found)
 
   -- where the items before a place differ from all after them, and the item there too, so do the items up to it
-  pub DifferBefore-next : DifferBefore key items place → ¬ Any (λ later. key item ≡ key later) (behind items place)
+  pub DifferBefore-next : DifferBefore key items place → ¬ Any (λ later. key item ≡ key later) (following items place)
       → DifferBefore key items (place + 1)
-  DifferBefore-next before none i j d below behind inside =
+  DifferBefore-next before none i j d below following inside =
       let up_to : i ≤ place = omega arith in
       elim (eq-or-lt_of_le up_to) [
-        | inr earlier ↦ before i j d earlier behind inside
+        | inr earlier ↦ before i j d earlier following inside
         | inl here ↦ let later : place < j = omega arith in rw here (differs none j d later inside)
       ]
 

@@ -19,5 +19,5 @@ pub AreApart-same : (cells : List ViewCell) → AreApart cells → (one other : 
 AreApart-same cells differ one other cell later at there same = elim (cases_order one other) [
   | inl equal ↦ equal
   | inr (inl before) ↦ absurd (apart cells differ one other cell later at there before same)
-  | inr (inr behind) ↦ absurd (apart cells differ other one later cell there at behind (sym same))
+  | inr (inr following) ↦ absurd (apart cells differ other one later cell there at following (sym same))
 ]

@@ -27,7 +27,7 @@ All-three P one two three first second third =
 AllPairs-three : {A : Type 0} (R : A → A → Type 0) (one two three : A) → R one two → R one three → R two three
     → AllPairs R (one ∷ two ∷ three ∷ [])
 AllPairs-three R one two three first second third =
-    let last : AllPairs R (three ∷ []) = λ place behind other order within. absurd (omega arith) in
+    let last : AllPairs R (three ∷ []) = λ place following other order within. absurd (omega arith) in
     AllPairs-cons R one (two ∷ three ∷ [])
     (All-cons (R one) two (three ∷ []) first (All-cons (R one) three [] second (All-none (R one))))
     (AllPairs-cons R two (three ∷ []) (All-cons (R two) three [] third (All-none (R two))) last)

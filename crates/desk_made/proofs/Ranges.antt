@@ -18,13 +18,13 @@ All-range P made first count each place other within =
 pub AllPairs-range : {A : Type 0} (R : A → A → Type 0) (made : ℕ → A) (first count : ℕ)
     → ((number later : ℕ) → first ≤ number → number < later → later < first + count → R (made number) (made later))
     → AllPairs R (map made (range_with_len first count))
-AllPairs-range R made first count each place behind other order within =
-    let inside : behind < count = rw (length-map-range_with_len made first count) at within in
+AllPairs-range R made first count each place following other order within =
+    let inside : following < count = rw (length-map-range_with_len made first count) at within in
     rw (
       get_or-map-range_with_len made first count place (first + place) other (omega arith) refl,
-      get_or-map-range_with_len made first count behind (first + behind) other inside refl,
+      get_or-map-range_with_len made first count following (first + following) other inside refl,
     )
-    (each (first + place) (first + behind) (omega arith) (omega arith) (omega arith))
+    (each (first + place) (first + following) (omega arith) (omega arith) (omega arith))
 
 -- what holds of each place holds part by part
 pub AllByRecursion-all : {A : Type 0} (P : A → Type 0) (all : List A) → All P all → AllByRecursion P all

@@ -145,9 +145,9 @@ module _ {A : Type 0} (values : List A) (code : A → ℕ) (at_code : (x : A) �
   coded-only : (packed rest : List ℕ) (x : A) → coded_in values packed ≡ Some (x, rest)
       → Unit {0} × (packed ≡ code x ∷ rest)
   coded-only [] rest x found = absurd cc
-  coded-only (byte ∷ behind) rest x found =
-      let (value, there, made) = option_map-Some (λ x. (x, behind)) (slice_get values byte) (x, rest) found in
-      let (same, rest_is) = pair-parts value x behind rest made in
+  coded-only (byte ∷ following) rest x found =
+      let (value, there, made) = option_map-Some (λ x. (x, following)) (slice_get values byte) (x, rest) found in
+      let (same, rest_is) = pair-parts value x following rest made in
       (tt, ap₂ ◌∷◌ (is_code byte x (there ∙ ap Some same)) rest_is)
 
   pub coded-exact : IsExact (coded values code)

@@ -9,7 +9,7 @@ use Rattle.desk_words.specs.Tables.{list_at}
 use Rattle.desk_packing.specs.Lines.{AreByKey, Line, comes_before}
 use Rattle.desk_packing.proofs.Order.{AreByKey-append}
 use Rattle.desk_packing.proofs.Permutations.{each-append, each-weaker}
-use Rattle.desk_packing.proofs.Putting.{Puts, kind-free, later-free, puts-behind, puts-front}
+use Rattle.desk_packing.proofs.Putting.{Puts, kind-free, later-free, puts-following, puts-front}
 
 -- the lines are of this kind, and in the order of their keys
 pub record IsPart (kind : ℕ) (lines : List Line) : Type 0 where
@@ -39,14 +39,14 @@ kind-before one other less = or_left (nat_lt one.kind other.kind) _ (lt-ltb one.
 -- lines of one kind in front of lines of later kinds
 StandFrom-append : (kind : ℕ) (front lines : List Line) → IsPart kind front → StandFrom (kind + 1) lines
     → StandFrom kind (front ++ lines)
-StandFrom-append kind front lines part behind = record {
+StandFrom-append kind front lines part following = record {
   kinds = each-append (λ line. kind ≤ line.kind) front lines
       (each-weaker (λ line. line.kind ≡ kind) (λ line. kind ≤ line.kind) (λ line is. omega arith) front part.kinds)
       (each-weaker (λ line. kind + 1 ≤ line.kind) (λ line. kind ≤ line.kind) (λ line is. omega arith) lines
-      behind.kinds);
+      following.kinds);
   order = AreByKey-append (λ line. line.kind ≡ kind) (λ line. kind + 1 ≤ line.kind)
-      (λ one other is later. kind-before one other (omega arith)) front lines part.kinds behind.kinds part.order
-      behind.order;
+      (λ one other is later. kind-before one other (omega arith)) front lines part.kinds following.kinds part.order
+      following.order;
 }
 
 -- the lines of all parts
@@ -106,6 +106,6 @@ puts-joined zero kind (part ∷ (next ∷ parts)) line after are of there puts =
 puts-joined (suc place) kind (part ∷ []) line after are of there puts = absurd (omega arith)
 puts-joined (suc place) kind (part ∷ (next ∷ parts)) line after are of there puts =
     rw (joined-set part next after parts place)
-    (puts-behind part (joined (next ∷ parts)) (joined (set (next ∷ parts) place after)) line
+    (puts-following part (joined (next ∷ parts)) (joined (set (next ∷ parts) place after)) line
     (kind-free kind line part (λ same. absurd (omega arith)) are.0.kinds)
     (puts-joined place (kind + 1) (next ∷ parts) line after are.1 (omega arith) (omega arith) puts))

@@ -16,12 +16,12 @@ use Rattle.desk_packing.proofs.Joined.{joined, joined-before}
 use Rattle.desk_packing.proofs.Permutations.{each-append, each-weaker}
 use Rattle.desk_packing.proofs.Putting.{IsFree, Puts, later-free, list_lines-below, place-apart}
 use Rattle.desk_packing.proofs.Putting.{put_lines-permutation}
-use Rattle.desk_packing.proofs.Putting.{kept-free, puts-behind, puts-front, same_key-own}
+use Rattle.desk_packing.proofs.Putting.{kept-free, puts-following, puts-front, same_key-own}
 use Rattle.desk_packing.proofs.Stood.{AreParts-parts_of, StandFrom-lines_from, lines_from, parts_of}
 
 -- the list is put anew in another format, between lines of other lists
-module _ {A : Type 0} (old new : Format A) (kind : ℕ) (behind : List Line)
-    (later : AllByRecursion (λ other. kind + 1 ≤ other.kind) behind) where
+module _ {A : Type 0} (old new : Format A) (kind : ℕ) (following : List Line)
+    (later : AllByRecursion (λ other. kind + 1 ≤ other.kind) following) where
   over : (place : ℕ) (rows : List A) (x : A)
       → Puts (row_line old kind 0 place x ∷ list_lines old kind 0 (place + 1) rows) (row_line new kind 0 place x)
       (row_line new kind 0 place x ∷ list_lines old kind 0 (place + 1) rows)
@@ -36,19 +36,19 @@ module _ {A : Type 0} (old new : Format A) (kind : ℕ) (behind : List Line)
 
   anew : (place : ℕ) (rows : List A) (front : List Line)
       → ((line : Line) → line.kind ≡ kind → place ≤ line.place → IsFree line front)
-      → IsPermutation (put_lines (front ++ (list_lines old kind 0 place rows ++ behind))
+      → IsPermutation (put_lines (front ++ (list_lines old kind 0 place rows ++ following))
       (list_lines new kind 0 place rows))
-      (front ++ (list_lines new kind 0 place rows ++ behind))
-  anew place [] front free = IsPermutation-refl (front ++ behind)
+      (front ++ (list_lines new kind 0 place rows ++ following))
+  anew place [] front free = IsPermutation-refl (front ++ following)
   anew place (x ∷ rows) front free =
       let line = row_line new kind 0 place x in
       let before = row_line old kind 0 place x in
-      let rest = list_lines old kind 0 (place + 1) rows ++ behind in
+      let rest = list_lines old kind 0 (place + 1) rows ++ following in
       let more = list_lines new kind 0 (place + 1) rows in
       let one : Puts (front ++ (before ∷ rest)) line (front ++ (line ∷ rest))
-      = puts-behind front (before ∷ rest) (line ∷ rest) line (free line refl (omega arith))
+      = puts-following front (before ∷ rest) (line ∷ rest) line (free line refl (omega arith))
       (puts-front (before ∷ list_lines old kind 0 (place + 1) rows) (line ∷ list_lines old kind 0 (place + 1) rows)
-      behind line (over place rows x) (later-free line behind later)) in
+      following line (over place rows x) (later-free line following later)) in
       let moved : front ++ (line ∷ rest) ≡ (front ++ line ∷ []) ++ rest = sym (append_assoc front (line ∷ []) rest) in
       let others = anew (place + 1) rows (front ++ line ∷ []) (λ next is above.
       each-append (λ other. same_key other next ≡ false) front (line ∷ []) (free next is (omega arith))
@@ -56,7 +56,7 @@ module _ {A : Type 0} (old new : Format A) (kind : ℕ) (behind : List Line)
       IsPermutation-trans _ (put_lines ((front ++ line ∷ []) ++ rest) more) _
       (put_lines-permutation (put_line (front ++ (before ∷ rest)) line) ((front ++ line ∷ []) ++ rest) more
       (rw (← moved) one))
-      (rw (← append_assoc front (line ∷ []) (more ++ behind)) others)
+      (rw (← append_assoc front (line ∷ []) (more ++ following)) others)
 
 module _ (rows : Rows) where
   -- what stands in front of the editions

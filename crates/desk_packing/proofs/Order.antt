@@ -78,7 +78,7 @@ insert-insert x y (z ∷ lines) before =
           simp (first, firsts, before, not_before) refl
       | inr later ↦ elim (cases_Bool (comes_before x z)) [
         | inl first ↦ simp (first, later, not_before) refl
-        | inr later_too ↦ simp (later, later_too) (ap (λ behind. z ∷ behind) (insert-insert x y lines before))
+        | inr later_too ↦ simp (later, later_too) (ap (λ following. z ∷ following) (insert-insert x y lines before))
       ]
     ]
 
@@ -86,14 +86,14 @@ insert-either : (x y : Line) (lines : List Line) → same_key x y ≡ false
     → insert_line x (insert_line y lines) ≡ insert_line y (insert_line x lines)
 insert-either x y lines apart = elim (apart-comes_before x y apart) [
   | inl before ↦ insert-insert x y lines before
-  | inr behind ↦ sym (insert-insert y x lines behind)
+  | inr following ↦ sym (insert-insert y x lines following)
 ]
 
 insert-IsPermutation : (line : Line) (lines : List Line) → IsPermutation (line ∷ lines) (insert_line line lines)
 insert-IsPermutation line [] = IsPermutation-refl (line ∷ [])
 insert-IsPermutation line (next ∷ lines) = elim (cases_Bool (comes_before line next)) [
   | inl before ↦ rw before (IsPermutation-refl (line ∷ (next ∷ lines)))
-  | inr behind ↦ rw behind (IsPermutation-trans _ (next ∷ (line ∷ lines)) _ (turn line next lines)
+  | inr following ↦ rw following (IsPermutation-trans _ (next ∷ (line ∷ lines)) _ (turn line next lines)
       (IsPermutation-cons next _ _ (insert-IsPermutation line lines)))
 ]
 

@@ -2,13 +2,13 @@
 use Rattle.std.proofs.Common.{◌≡◌, List, ◌++◌, append_assoc}
 
 -- four parts
-pub four-behind : {A : Type 0} (start a b c d one two three all : List A) → one ≡ start ++ a → two ≡ one ++ b
+pub four-following : {A : Type 0} (start a b c d one two three all : List A) → one ≡ start ++ a → two ≡ one ++ b
     → three ≡ two ++ c → all ≡ three ++ d → all ≡ start ++ (a ++ (b ++ (c ++ d)))
-four-behind start a b c d one two three all first second third last =
+four-following start a b c d one two three all first second third last =
     rw (last, third, second, first) (simp append_assoc)
 
 -- five parts
-pub five-behind : {A : Type 0} (start a b c d e one two three four all : List A) → one ≡ start ++ a → two ≡ one ++ b
+pub five-following : {A : Type 0} (start a b c d e one two three four all : List A) → one ≡ start ++ a → two ≡ one ++ b
     → three ≡ two ++ c → four ≡ three ++ d → all ≡ four ++ e → all ≡ start ++ (a ++ (b ++ (c ++ (d ++ e))))
-five-behind start a b c d e one two three four all first second third fourth last =
+five-following start a b c d e one two three four all first second third fourth last =
     rw (last, fourth, third, second, first) (simp append_assoc)

@@ -31,15 +31,15 @@ kept line lines = filter (λ other. not (same_key other line)) lines
 
 pub kept-free : (line : Line) (lines : List Line) → IsFree line lines → kept line lines ≡ lines
 kept-free line [] free = refl
-kept-free line (other ∷ lines) free = rw free.0 (ap (λ behind. other ∷ behind) (kept-free line lines free.1))
+kept-free line (other ∷ lines) free = rw free.0 (ap (λ following. other ∷ following) (kept-free line lines free.1))
 
 kept-append : (line : Line) (front lines : List Line) → kept line (front ++ lines) ≡ kept line front ++ kept line lines
 kept-append line front lines = filter-append (λ other. not (same_key other line)) front lines
 
 -- after lines that are let stand
-pub puts-behind : (front lines after : List Line) (line : Line) → IsFree line front → Puts lines line after
+pub puts-following : (front lines after : List Line) (line : Line) → IsFree line front → Puts lines line after
     → Puts (front ++ lines) line (front ++ after)
-puts-behind front lines after line free puts =
+puts-following front lines after line free puts =
     rw (kept-append line front lines, kept-free line front free)
     (IsPermutation-trans (line ∷ (front ++ kept line lines)) (front ++ (line ∷ kept line lines)) (front ++ after)
     (IsPermutation-sym _ _ (IsPermutation-middle front line (kept line lines)))
@@ -96,7 +96,7 @@ module _ {A : Type 0} (format : Format A) (kind owner : ℕ) where
   list_lines-append place [] more = rw (add-zero place) refl
   list_lines-append place (x ∷ rows) more =
       let same : (place + 1) + length rows ≡ place + suc (length rows) = omega arith in
-      ap (λ behind. row_line format kind owner place x ∷ behind)
+      ap (λ following. row_line format kind owner place x ∷ following)
       (list_lines-append (place + 1) rows more
       ∙ ap (λ at. list_lines format kind owner (place + 1) rows ++ list_lines format kind owner at more) same)
 
@@ -150,7 +150,7 @@ module _ {A : Type 0} (format : Format A) (kind owner : ℕ) where
   puts-over place at (suc i) (y ∷ rows) x is within =
       let line = row_line format kind owner at x in
       let head = row_line format kind owner place y in
-      puts-behind (head ∷ []) (list_lines format kind owner (place + 1) rows)
+      puts-following (head ∷ []) (list_lines format kind owner (place + 1) rows)
       (list_lines format kind owner (place + 1) (set rows i x)) line
       (place-apart head line (λ e. absurd (omega arith)), tt)
       (puts-over (place + 1) at i rows x (omega arith) (omega arith))
@@ -197,11 +197,11 @@ module _ {A : Type 0} (format : Format A) (kind : ℕ) where
       (puts-front (list_lines format kind first 0 rows) (list_lines format kind first 0 after)
       (own_lines format kind (first + 1) lists) line (puts-list format kind first rows place x within)
       (each-weaker (λ other. (other.kind ≡ kind) × (first < other.owner)) (λ other. same_key other line ≡ false)
-      (λ other behind. owner-apart other line (λ e. absurd (omega arith))) (own_lines format kind (first + 1) lists)
+      (λ other following. owner-apart other line (λ e. absurd (omega arith))) (own_lines format kind (first + 1) lists)
       (own_lines-owner format kind first (first + 1) lists (omega arith))))
   puts-from (rows ∷ lists) first owner (suc clerk) place x is there within =
       let line = row_line format kind owner place x in
-      puts-behind (list_lines format kind first 0 rows) (own_lines format kind (first + 1) lists)
+      puts-following (list_lines format kind first 0 rows) (own_lines format kind (first + 1) lists)
       (own_lines format kind (first + 1) (set lists clerk (put (list_at lists clerk) place x))) line
       (list_lines-other line first 0 rows (λ e. absurd (omega arith)))
       (puts-from lists (first + 1) owner clerk place x (omega arith) (omega arith) within)
@@ -218,7 +218,7 @@ module _ {A : Type 0} (format : Format A) (kind : ℕ) where
       ≡ own_lines format kind first lists
   own_lines-empty first [] = refl
   own_lines-empty first (rows ∷ lists) =
-      ap (λ behind. list_lines format kind first 0 rows ++ behind) (own_lines-empty (first + 1) lists)
+      ap (λ following. list_lines format kind first 0 rows ++ following) (own_lines-empty (first + 1) lists)
 
   pub own_lines-with_clerk : (lists : List (List A)) (place clerks : ℕ)
       → own_lines format kind 0 (with_clerk lists place clerks) ≡ own_lines format kind 0 lists

@@ -168,10 +168,10 @@ module _ {A : Type 0} (format : Format A) (exact : IsExact format) where
       → lists_in format kind owner (length lists) (own_lines format kind owner lists ++ rest) ≡ Some (lists, rest)
   lists_in-back kind owner [] rest fit short others = refl
   lists_in-back kind owner (rows ∷ lists) rest fit short others =
-      let behind = own_lines format kind (owner + 1) lists ++ rest in
+      let following = own_lines format kind (owner + 1) lists ++ rest in
       let few : length rows < 2 ^ 31 = All-head IsShort rows lists short in
       rw (append_assoc (list_lines format kind owner 0 rows) (own_lines format kind (owner + 1) lists) rest)
-      (rw (list_in-back kind owner 0 rows behind fit.0 (omega arith)
+      (rw (list_in-back kind owner 0 rows following fit.0 (omega arith)
       (each-append (λ line. is_of kind owner line ≡ false) (own_lines format kind (owner + 1) lists) rest
       (own_lines-others format kind owner lists) (others owner)))
       (rw (lists_in-back kind (owner + 1) lists rest fit.1 (All-tail IsShort rows lists short) others) refl))

@@ -58,20 +58,20 @@ owner-before one other kind owner is later = below one.kind one.owner one.place 
     below a b c x y z same less = grind (arith, nat_tests)
 
 module _ {A : Type 0} (format : Format A) where
-  list_lines-behind : (kind owner low place : ℕ) (body : List ℕ) (rows : List A) → low < place
+  list_lines-following : (kind owner low place : ℕ) (body : List ℕ) (rows : List A) → low < place
       → AllByRecursion (λ other. comes_before (record { kind = kind; owner = owner; place = low; body = body })
       other ≡ true)
       (list_lines format kind owner place rows)
-  list_lines-behind kind owner low place body [] less = tt
-  list_lines-behind kind owner low place body (x ∷ rows) less = (
+  list_lines-following kind owner low place body [] less = tt
+  list_lines-following kind owner low place body (x ∷ rows) less = (
     place-before kind owner low place less,
-    list_lines-behind kind owner low (place + 1) body rows (omega arith),
+    list_lines-following kind owner low (place + 1) body rows (omega arith),
   )
 
   list_lines-order : (kind owner place : ℕ) (rows : List A) → AreByKey (list_lines format kind owner place rows)
   list_lines-order kind owner place [] = tt
   list_lines-order kind owner place (x ∷ rows) = (
-    list_lines-behind kind owner place (place + 1) (format.print x) rows (omega arith),
+    list_lines-following kind owner place (place + 1) (format.print x) rows (omega arith),
     list_lines-order kind owner (place + 1) rows,
   )
 

@@ -21,8 +21,8 @@ impl<T: Packs + Drop> Packs for List<T> {
     }
 
     fn unpack(alloc: Global, bytes: &[u8]) -> Result<(List<T>, &[u8]), UnpackFault> {
-        let (count, behind) = u32::unpack(alloc, bytes)?;
-        unpack_items(alloc, count, behind)
+        let (count, following) = u32::unpack(alloc, bytes)?;
+        unpack_items(alloc, count, following)
     }
 }
 

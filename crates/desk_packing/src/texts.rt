@@ -36,8 +36,8 @@ pub fn unpack_bytes(alloc: Global, packed: &[u8]) -> Result<(List<u8>, &[u8]), U
     ensures read { IfOk result (λ found. bytes.parse packed.now ≡ Some (found.0, found.1.now)) }
     ensures damaged { IsErrOf result UnpackFault.Damaged → bytes.parse packed.now ≡ None }
 {
-    let (count, behind) = u32::unpack(alloc, packed)?;
-    let (body, rest) = split(count as usize, behind)?;
+    let (count, following) = u32::unpack(alloc, packed)?;
+    let (body, rest) = split(count as usize, following)?;
     Ok((List::from_vec(Vec::from_slice(alloc, body)?), rest))
 }
 
@@ -64,8 +64,8 @@ impl Packs for Text {
     }
 
     fn unpack(alloc: Global, bytes: &[u8]) -> Result<(Text, &[u8]), UnpackFault> {
-        let (count, behind) = u16::unpack(alloc, bytes)?;
-        let (content, rest) = split(count as usize, behind)?;
+        let (count, following) = u16::unpack(alloc, bytes)?;
+        let (content, rest) = split(count as usize, following)?;
         Ok((text_of(alloc, content)?, rest))
     }
 }

@@ -35,12 +35,12 @@ pub fn unpack(alloc: Global, rows: &[PackedRow]) -> Result<Unpacked, UnpackFault
             tables: Tables::empty(alloc)?,
             is_old: false,
         }),
-        [first, rest @ ..] => unpack_behind(alloc, first, rest),
+        [first, rest @ ..] => unpack_following(alloc, first, rest),
     }
 }
 
 /// Reads back the tables of rows that stand after the one of the version.
-fn unpack_behind(
+fn unpack_following(
     alloc: Global,
     first: &PackedRow,
     rest: &[PackedRow],

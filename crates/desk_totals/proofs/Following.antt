@@ -49,7 +49,8 @@ each-with_list P (first ∷ lists) (suc clerk) list holds each (suc one) =
 All-put : {A : Type 0} (P : A → Type 0) (items : List A) (place : ℕ) (item : A) → All P items → P item
     → All P (put items place item)
 All-put P items place item all holds =
-    elim (place == length items) as (λ behind. All P (if behind then items ++ item ∷ [] else set items place item)) [
+    elim (place == length items) as (λ following. All P (if following then items ++ item ∷ [] else set items place
+        item)) [
       | true ↦ All-push P items item all holds
       | false ↦ All-set P items place item holds all
     ]

@@ -81,7 +81,7 @@ impl Script {
         let mut told = Vec::new(alloc);
         let mut rest = output;
         for word in words.split_whitespace() {
-            match behind(rest, self.response(case, word)?) {
+            match following(rest, self.response(case, word)?) {
                 Some(next) => rest = next,
                 None => break,
             }
@@ -113,7 +113,7 @@ impl Script {
     fn taken<'o>(&self, output: &'o [u8]) -> (usize, &'o [u8]) {
         let mut rest = output;
         for (count, exchange) in self.exchanges.iter().enumerate() {
-            match behind(rest, exchange.response.as_slice()) {
+            match following(rest, exchange.response.as_slice()) {
                 Some(next) => rest = next,
                 None => return (count, rest),
             }
@@ -149,7 +149,7 @@ impl Script {
 }
 
 /// What stands after the front of these bytes, where that is their front.
-fn behind<'b>(bytes: &'b [u8], front: &[u8]) -> Option<&'b [u8]> {
+fn following<'b>(bytes: &'b [u8], front: &[u8]) -> Option<&'b [u8]> {
     if bytes.starts_with(front) {
         bytes.get(front.len()..)
     } else {

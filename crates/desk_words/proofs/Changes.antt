@@ -8,7 +8,7 @@ use Rattle.desk_words.specs.declared.change.Change.{Change}
 use Rattle.desk_words.specs.declared.change.Change.TheVariants.{Clerk, Schema, Master, Rulebook, Edition, Region}
 use Rattle.desk_words.specs.declared.change.Change.TheVariants.{Session, Record, Batch}
 use Rattle.desk_words.specs.declared.rows.clerk.ClerkRow.{ClerkRow}
-use Rattle.desk_words.specs.Changes.{Fits, FitAll, FitsAt, FitsBehind, changed, changed_all, put, with_clerk, with_list}
+use Rattle.desk_words.specs.Changes.{Fits, FitAll, FitsAt, FitsAfter, changed, changed_all, put, with_clerk, with_list}
 use Rattle.desk_words.specs.Tables.{AreListsOf, AreTables, IsShort, Rows, list_at}
 
 -- a list stays so long, or grows by one where the place is its length
@@ -37,8 +37,8 @@ IsShort-put : {T : Type 0} (items : List T) (place : ℕ) (item : T) → FitsAt 
 IsShort-put {T} items place item fits short = grind (arith, nat_tests, length-put items place item)
 
 -- so does one that an item fits after
-IsShort-behind : {T : Type 0} (items : List T) (item : T) → FitsBehind items → IsShort (items ++ item ∷ [])
-IsShort-behind {T} items item fits = grind (arith, length-append {A = T})
+IsShort-following : {T : Type 0} (items : List T) (item : T) → FitsAfter items → IsShort (items ++ item ∷ [])
+IsShort-following {T} items item fits = grind (arith, length-append {A = T})
 
 -- one clerk's list is replaced by a short one
 AreListsOf-with_list : {T : Type 0} (clerks : ℕ) (lists : List (List T)) (clerk : ℕ) (list : List T)
@@ -94,19 +94,19 @@ AreTables-changed rows (Clerk place row) fits are = are_tables (changed rows (Cl
     (AreListsOf-with_clerk rows.clerks rows.records place row are.records)
     (AreListsOf-with_clerk rows.clerks rows.batches place row are.batches)
 AreTables-changed rows (Schema row) fits are = are_tables (changed rows (Schema row)) are.steward are.clerks
-    (IsShort-behind rows.schemas row fits) are.masters are.rulebooks are.editions are.regions are.sessions
+    (IsShort-following rows.schemas row fits) are.masters are.rulebooks are.editions are.regions are.sessions
     are.records are.batches
 AreTables-changed rows (Master row) fits are = are_tables (changed rows (Master row)) are.steward are.clerks
-    are.schemas (IsShort-behind rows.masters row fits) are.rulebooks are.editions are.regions are.sessions
+    are.schemas (IsShort-following rows.masters row fits) are.rulebooks are.editions are.regions are.sessions
     are.records are.batches
 AreTables-changed rows (Rulebook row) fits are = are_tables (changed rows (Rulebook row)) are.steward
-    are.clerks are.schemas are.masters (IsShort-behind rows.rulebooks row fits) are.editions are.regions
+    are.clerks are.schemas are.masters (IsShort-following rows.rulebooks row fits) are.editions are.regions
     are.sessions are.records are.batches
 AreTables-changed rows (Edition row) fits are = are_tables (changed rows (Edition row)) are.steward are.clerks
-    are.schemas are.masters are.rulebooks (IsShort-behind rows.editions row fits) are.regions are.sessions
+    are.schemas are.masters are.rulebooks (IsShort-following rows.editions row fits) are.regions are.sessions
     are.records are.batches
 AreTables-changed rows (Region row) fits are = are_tables (changed rows (Region row)) are.steward are.clerks
-    are.schemas are.masters are.rulebooks are.editions (IsShort-behind rows.regions row fits) are.sessions
+    are.schemas are.masters are.rulebooks are.editions (IsShort-following rows.regions row fits) are.sessions
     are.records are.batches
 AreTables-changed rows (Session clerk place row) fits are = are_tables (changed rows (Session clerk place row))
     are.steward are.clerks are.schemas are.masters are.rulebooks are.editions are.regions (AreListsOf-with_list
@@ -118,12 +118,12 @@ AreTables-changed rows (Session clerk place row) fits are = are_tables (changed 
     ))))) are.records are.batches
 AreTables-changed rows (Record clerk row) fits are = are_tables (changed rows (Record clerk row)) are.steward
     are.clerks are.schemas are.masters are.rulebooks are.editions are.regions are.sessions (AreListsOf-with_list
-    (length rows.clerks) rows.records clerk (list_at rows.records clerk ++ row ∷ []) are.records (IsShort-behind
+    (length rows.clerks) rows.records clerk (list_at rows.records clerk ++ row ∷ []) are.records (IsShort-following
     (list_at rows.records clerk) row fits.1)) are.batches
 AreTables-changed rows (Batch clerk row) fits are = are_tables (changed rows (Batch clerk row)) are.steward
     are.clerks are.schemas are.masters are.rulebooks are.editions are.regions are.sessions are.records
     (AreListsOf-with_list (length rows.clerks) rows.batches clerk (list_at rows.batches clerk ++ row ∷ [])
-    are.batches (IsShort-behind (list_at rows.batches clerk) row fits.1))
+    are.batches (IsShort-following (list_at rows.batches clerk) row fits.1))
 
 -- and so after any changes that fit
 pub AreTables-changed_all : (rows : Rows)

@@ -52,20 +52,20 @@ abbrev pub FitsAt : {T : Type 0} → ℕ → List T → Type 0
 FitsAt place items = (place ≤ length items) × (place + 1 < row_limit)
 
 -- an item fits after the others of a list
-abbrev pub FitsBehind : {T : Type 0} → List T → Type 0
-FitsBehind items = FitsAt (length items) items
+abbrev pub FitsAfter : {T : Type 0} → List T → Type 0
+FitsAfter items = FitsAt (length items) items
 
 -- the change fits the tables: its clerk is there, and its row fits at its place
 abbrev pub Fits : Rows → Change → Type 0
 Fits rows (Clerk place row) = FitsAt place rows.clerks
-Fits rows (Schema row) = FitsBehind rows.schemas
-Fits rows (Master row) = FitsBehind rows.masters
-Fits rows (Rulebook row) = FitsBehind rows.rulebooks
-Fits rows (Edition row) = FitsBehind rows.editions
-Fits rows (Region row) = FitsBehind rows.regions
+Fits rows (Schema row) = FitsAfter rows.schemas
+Fits rows (Master row) = FitsAfter rows.masters
+Fits rows (Rulebook row) = FitsAfter rows.rulebooks
+Fits rows (Edition row) = FitsAfter rows.editions
+Fits rows (Region row) = FitsAfter rows.regions
 Fits rows (Session clerk place row) = (clerk < length rows.clerks) × FitsAt place (list_at rows.sessions clerk)
-Fits rows (Record clerk row) = (clerk < length rows.clerks) × FitsBehind (list_at rows.records clerk)
-Fits rows (Batch clerk row) = (clerk < length rows.clerks) × FitsBehind (list_at rows.batches clerk)
+Fits rows (Record clerk row) = (clerk < length rows.clerks) × FitsAfter (list_at rows.records clerk)
+Fits rows (Batch clerk row) = (clerk < length rows.clerks) × FitsAfter (list_at rows.batches clerk)
 
 -- each change fits the tables that it meets
 abbrev pub FitAll : Rows → List Change → Type 0

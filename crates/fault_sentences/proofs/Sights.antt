@@ -3,14 +3,14 @@ use Rattle.std.proofs.Common.{◌≡◌, ◌∙◌, ℕ, zero, suc, ◌+◌, ◌
 use Rattle.std.proofs.Common.{refl, arith}
 use Rattle.rule_text.specs.declared.place.Place.{Place}
 use Rattle.rule_text.specs.declared.grammar.Expected.{Expected}
-use Rattle.rule_text.specs.Tokens.{place_after, place_behind, piece_at}
+use Rattle.rule_text.specs.Tokens.{place_after, place_following, piece_at}
 use Rattle.fault_sentences.specs.Sights.{Seen, is_place, seen_after, seen_from}
 
 -- bytes that are passed may be left out
 pub seen_from-passed : (sought : Place) (expected : Expected) (rule : List ℕ) (place : Place) (passed : ℕ)
     (bytes : List ℕ)
     → seen_from sought expected rule place passed bytes
-    ≡ seen_from sought expected rule (place_behind place (take passed bytes)) 0 (drop passed bytes)
+    ≡ seen_from sought expected rule (place_following place (take passed bytes)) 0 (drop passed bytes)
 seen_from-passed sought expected rule place zero [] = refl
 seen_from-passed sought expected rule place zero (byte ∷ rest) = refl
 seen_from-passed sought expected rule place (suc passed) [] = refl
@@ -24,7 +24,7 @@ pub seen_from-after : (sought : Place) (expected : Expected) (rule : List ℕ) (
     → ((others : Expected → List ℕ → ℕ → Seen)
     → seen_after (piece_at bytes) expected rule bytes others ≡ others after named more)
     → seen_from sought expected rule place 0 bytes
-    ≡ seen_from sought after named (place_behind place (take (more + 1) bytes)) 0 (drop (more + 1) bytes)
+    ≡ seen_from sought after named (place_following place (take (more + 1) bytes)) 0 (drop (more + 1) bytes)
 seen_from-after sought expected rule place [] after named more some apart step = absurd (omega arith)
 seen_from-after sought expected rule place (byte ∷ rest) after named more some apart step =
     rw (add-one more, apart)

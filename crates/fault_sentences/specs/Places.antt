@@ -2,7 +2,7 @@
 use Rattle.std.specs.Prelude.{ℕ, ◌/◌, ◌%◌, List, [], ◌∷◌, ◌++◌, take, codes, decimal, slice_index_or}
 use Rattle.std.specs.Str.Lossy.{utf8_valid_len}
 use Rattle.rule_text.specs.declared.place.Place.{Place}
-use Rattle.rule_text.specs.Tokens.{place_behind}
+use Rattle.rule_text.specs.Tokens.{place_following}
 use Rattle.fault_sentences.specs.Shown.{hex_digit}
 
 -- a line and a column, and what is told of them
@@ -11,7 +11,7 @@ at_place line column = codes "line " ++ decimal line ++ codes ", column " ++ dec
 
 -- the place of the byte that so many are in front of
 abbrev pub place_in : List ℕ → ℕ → Place
-place_in text index = place_behind (record { line = 1; column = 1 }) (take index text)
+place_in text index = place_following (record { line = 1; column = 1 }) (take index text)
 
 -- a byte in two hexadecimal digits
 unfoldable pub two_digits : ℕ → List ℕ

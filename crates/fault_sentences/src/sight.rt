@@ -42,7 +42,7 @@ pub(crate) fn seen_at<'a>(
         }
         let (after, named, more) = after_piece(alloc, expected, rule, rest)?;
         let (passed, left) = rest.split_at(more + 1);
-        place = place.behind(passed);
+        place = place.following(passed);
         (expected, rule, rest) = (after, named, left);
     }
     Ok(Seen {

@@ -23,7 +23,7 @@ fn place_in(text: &[u8], index: usize) -> Place
     requires { index ≤ length text.now }
     ensures { result ≡ place_in text.now index }
 {
-    Place { line: 1, column: 1 }.behind(&text[..index])
+    Place { line: 1, column: 1 }.following(&text[..index])
 }
 
 impl Sentence {

@@ -147,11 +147,11 @@ module _ (kit : Kit) (valid : IsValid kit) (end : State) where
   )
 
   -- where a step departs at the end of a run, the runs that go on from it end elsewhere
-  pub elsewhere-behind : (state : State) (run rest : List Step) (step : Step) → Fits kit state → IsRun kit state run
+  pub elsewhere-following : (state : State) (run rest : List Step) (step : Step) → Fits kit state → IsRun kit state run
       → Fires kit (end_of kit state run) step → ¬ Keeps kit end step
       → IsRun kit (after kit (end_of kit state run) step) rest
       → record_of kit (end_of kit (after kit (end_of kit state run) step) rest) ≢ record_of kit end
-  elsewhere-behind state run rest step fits whole fires departs more same =
+  elsewhere-following state run rest step fits whole fires departs more same =
       let here = end_of kit state run in
       let head = (rule_at kit step.rule).head in
       let fits' = Fits-end_of kit valid state run fits whole in
@@ -176,7 +176,7 @@ module _ (kit : Kit) (valid : IsValid kit) (end : State) where
         depart.run ++ tail,
         (
           (IsRun-append kit state depart.run tail whole (depart.fires, more), rw end_is final),
-          λ same. elsewhere-behind state depart.run rest depart.step fits whole depart.fires depart.departs more
+          λ same. elsewhere-following state depart.run rest depart.step fits whole depart.fires depart.departs more
               (rw end_is at same),
         ),
       )
@@ -185,10 +185,10 @@ module _ (kit : Kit) (valid : IsValid kit) (end : State) where
 
   module _ (leads : List Lead) where
     -- from a state further on, a supported run covers what is covered after another, and leaves an attribute uncovered
-    pub record IsFollowed (behind further : State) (left_out : ℕ) : Type 0 where
+    pub record IsFollowed (following further : State) (left_out : ℕ) : Type 0 where
       pub after_it : List Step
       pub supported : IsSupportedRun kit end further after_it
-      pub inside : IsInside kit behind (end_of kit further after_it)
+      pub inside : IsInside kit following (end_of kit further after_it)
       pub led : IsLedTo kit (end_of kit further after_it) end leads
       pub uncovered : ¬ IsCovered (end_of kit further after_it) left_out
 

@@ -139,13 +139,13 @@ module _ (kit : Kit) (end : State) (leads : List Lead) (final : IsFinal kit end)
           | inr not_before ↦ elim (cases_Bool (eqb other.rule place)) [
             | inl same ↦ least_row other dissents (eqb-true other.rule place same)
             | inr differs ↦ let apart = eqb-false other.rule place differs in inr
-                (inl (behind other.rule place not_before apart))
+                (inl (following other.rule place not_before apart))
           ]
         ];
       }
     where
-      behind : (m n : ℕ) → ¬ (m < n) → m ≢ n → n < m
-      behind m n not_before apart =
+      following : (m n : ℕ) → ¬ (m < n) → m ≢ n → n < m
+      following m n not_before apart =
           elim (decide_less n m) [ inl less ↦ less | inr not_less ↦ absurd (apart (omega arith)) ]
 
       least_row : (other : Step) → Dissents kit end other → other.rule ≡ place

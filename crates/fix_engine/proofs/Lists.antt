@@ -7,8 +7,8 @@ pub Contains-first : {A : Type 0} (x : A) (xs : List A) → Contains (x ∷ xs) 
 Contains-first x xs = (zero, omega arith, refl)
 
 -- an item after the first is in the list
-pub Contains-behind : {A : Type 0} (x y : A) (xs : List A) → Contains xs y → Contains (x ∷ xs) y
-Contains-behind x y xs (k, within, is) = (suc k, omega (arith, within), is)
+pub Contains-following : {A : Type 0} (x y : A) (xs : List A) → Contains xs y → Contains (x ∷ xs) y
+Contains-following x y xs (k, within, is) = (suc k, omega (arith, within), is)
 
 -- an item of a list is the first or after it
 pub Contains-cases : {A : Type 0} (x y : A) (xs : List A) → Contains (x ∷ xs) y → (y ≡ x) ⊎ Contains xs y

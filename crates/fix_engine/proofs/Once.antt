@@ -45,7 +45,7 @@ IsLeast-unique IsBefore IsKind apart it other one two = elim (one.least other tw
   | inl same ↦ same
   | inr before ↦ elim (two.least it one.holds) [
     | inl same ↦ sym same
-    | inr behind ↦ absurd (apart it other before behind)
+    | inr following ↦ absurd (apart it other before following)
   ]
 ]
 

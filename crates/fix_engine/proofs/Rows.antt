@@ -20,7 +20,7 @@ use Rattle.fix_model.specs.States.{Fits, IsCovered, cell_at, confirmed_cell, sho
 use Rattle.fix_model.specs.Valid.{IsValid}
 use Rattle.fix_model.proofs.Deciding.{decide_less}
 use Rattle.fix_model.proofs.States.{Fits-confirmed}
-use Rattle.fix_engine.proofs.Lists.{All-Contains, Contains-behind, Contains-cases, Contains-first}
+use Rattle.fix_engine.proofs.Lists.{All-Contains, Contains-following, Contains-cases, Contains-first}
 use Rattle.fix_engine.proofs.Twins.{AreTwins, IsFix-twins}
 
 -- a number is listed exactly where the list contains it
@@ -28,16 +28,16 @@ pub is_listed-Contains : (ones : List ℕ) (one : ℕ) → is_listed ones one �
 is_listed-Contains [] one h = absurd cc
 is_listed-Contains (first ∷ rest) one h = elim (cases_Bool (one == first)) [
   | inl same ↦ rw (eqb-true one first same) (Contains-first first rest)
-  | inr differs ↦ Contains-behind first one rest (is_listed-Contains rest one (rw differs at h))
+  | inr differs ↦ Contains-following first one rest (is_listed-Contains rest one (rw differs at h))
 ]
 
 pub Contains-is_listed : (ones : List ℕ) (one : ℕ) → Contains ones one → is_listed ones one ≡ true
 Contains-is_listed [] one h = absurd (omega (arith, h.1))
 Contains-is_listed (first ∷ rest) one h = elim (Contains-cases first one rest h) [
   | inl same ↦ rw (eq-eqb one first same) refl
-  | inr behind ↦ elim (cases_Bool (one == first)) [
+  | inr following ↦ elim (cases_Bool (one == first)) [
     | inl first_too ↦ rw first_too refl
-    | inr differs ↦ rw differs (Contains-is_listed rest one behind)
+    | inr differs ↦ rw differs (Contains-is_listed rest one following)
   ]
 ]
 
@@ -50,8 +50,8 @@ place_from (first ∷ rest) one from h = elim (cases_Bool (first == one)) [
   | inl same ↦ (0, rw same (ap Some (omega arith)), omega arith, eqb-true first one same)
   | inr differs ↦ elim (Contains-cases first one rest h) [
     | inl is ↦ absurd (let t = eq-eqb first one (sym is) in let f = differs in cc)
-    | inr behind ↦
-        let (k, is, within, there) = place_from rest one (from + 1) behind in
+    | inr following ↦
+        let (k, is, within, there) = place_from rest one (from + 1) following in
         (suc k, rw differs (is ∙ ap Some (omega arith)), omega (arith, within), there)
   ]
 ]

@@ -28,7 +28,7 @@ use Rattle.fix_engine.specs.Flags.{IsFlagged}
 use Rattle.fix_engine.specs.Leads.{IsLead}
 use Rattle.fix_engine.specs.Turns.{CanDepartSomewhere, IsElsewhere, IsLeastElsewhere, IsLeastOf, IsLeastOfAll}
 use Rattle.fix_engine.specs.Turns.{IsLeftFrom, IsPassed, IsTurn}
-use Rattle.fix_engine.proofs.Departures.{CanDepart-elsewhere, CanDepart-step, IsLedTo-after, elsewhere-behind}
+use Rattle.fix_engine.proofs.Departures.{CanDepart-elsewhere, CanDepart-step, IsLedTo-after, elsewhere-following}
 use Rattle.fix_engine.proofs.Departures.{elsewhere-exists, stays_there}
 use Rattle.fix_engine.proofs.Ends.{IsEnabled-inside, RowAgrees-inside}
 use Rattle.fix_engine.proofs.Reach.{AreDepartures-after, head_stays, still_departs}
@@ -240,14 +240,14 @@ module _ (kit : Kit) (valid : IsValid kit) (end : State) (leads : List Lead) (st
   -- ---- the run goes on
 
   -- after the least step the least run from there is the least
-  least_behind : (step : Step) (rest : List Step) → IsLeastOfAll kit end state step
+  least_following : (step : Step) (rest : List Step) → IsLeastOfAll kit end state step
       → ((other : List Step) → IsElsewhere kit end (after kit state step) other
       → (rest ≡ other) ⊎ IsRunBefore rest other)
       → (other : List Step) → IsElsewhere kit end state other
       → ((step ∷ rest) ≡ other) ⊎ IsRunBefore (step ∷ rest) other
-  least_behind step rest least then [] is =
+  least_following step rest least then [] is =
       absurd (is.elsewhere (stays_there kit valid end leads state fits led is.maximal.1))
-  least_behind step rest least then (next ∷ others) is = elim (least next others is.maximal is.elsewhere) [
+  least_following step rest least then (next ∷ others) is = elim (least next others is.maximal is.elsewhere) [
     | inr before ↦ inr (inl before)
     | inl same ↦
         let ((fires, whole), final) = is.maximal in
@@ -269,7 +269,7 @@ module _ (kit : Kit) (valid : IsValid kit) (end : State) (leads : List Lead) (st
       maximal = ((fires, next.holds.maximal.0), next.holds.maximal.1);
       elsewhere = next.holds.elsewhere;
     };
-    least = least_behind step rest least next.least;
+    least = least_following step rest least next.least;
   }
 
   -- a turn that departs goes before the first run from there
@@ -279,9 +279,9 @@ module _ (kit : Kit) (valid : IsValid kit) (end : State) (leads : List Lead) (st
   IsLeastElsewhere-departs step rest fires least departs first = record {
     holds = record {
       maximal = ((fires, first.holds.0), first.holds.1);
-      elsewhere = elsewhere-behind kit valid end state [] rest step fits tt fires departs first.holds.0;
+      elsewhere = elsewhere-following kit valid end state [] rest step fits tt fires departs first.holds.0;
     };
-    least = least_behind step rest least (λ other is. first.least other is.maximal);
+    least = least_following step rest least (λ other is. first.least other is.maximal);
   }
 
 -- it is still one after a turn that keeps to it, which takes the head out of the departures

@@ -80,7 +80,7 @@ module _ (kit : Kit) (target : ℕ) where
                 | inl same ↦ inl (inl same)
                 | inr read ↦ elim (Any-cases (holds one) step marked read) [
                   | inl here ↦ inr here
-                  | inr behind ↦ inl (inr behind)
+                  | inr following ↦ inl (inr following)
                 ]
               ]),
         )

@@ -51,10 +51,10 @@ module _ (kit : Kit) (valid : IsValid kit) (target : ℕ) (state : State) (step 
   module _ (fits : Fits kit state) (fires : Fires kit state step) (rest marked : List Step) (wanted : ℕ → Type 0) where
     module _ (later : IsMarked kit target (after kit state step) rest marked wanted) where
       -- a part of the rest that begins before the step has the marked steps, and covers what is wanted after it
-      behind : (narrow : State) (other : List Step) → Fits kit narrow → CoversNoMore state narrow
+      following : (narrow : State) (other : List Step) → Fits kit narrow → CoversNoMore state narrow
           → IsSubList other rest → Fixes kit narrow target other
           → IsSubList marked other × CoversWanted wanted (after kit state step) narrow
-      behind narrow other narrow_fits no_more sub fixes = later.least narrow other narrow_fits
+      following narrow other narrow_fits no_more sub fixes = later.least narrow other narrow_fits
           (λ attribute covered. IsCovered-after kit state step fires attribute (no_more attribute covered)) sub fixes
 
       -- a part that makes the step has them after it, and began where what is wanted is covered
@@ -87,7 +87,7 @@ module _ (kit : Kit) (valid : IsValid kit) (target : ℕ) (state : State) (step 
               → IsSubList other rest → Fixes kit narrow target other
               → IsSubList marked other × CoversWanted wanted state narrow
           passed narrow other narrow_fits no_more sub fixes =
-              let told = behind narrow other narrow_fits no_more sub fixes in (
+              let told = following narrow other narrow_fits no_more sub fixes in (
                 told.0,
                 λ attribute is covered. told.1 attribute is
                     (IsCovered-after kit state step fires attribute covered),
@@ -125,7 +125,7 @@ module _ (kit : Kit) (valid : IsValid kit) (target : ℕ) (state : State) (step 
               → IsSubList other rest → Fixes kit narrow target other → ⊥
           skipped narrow other narrow_fits no_more sub fixes =
               let head = (rule_at kit step.rule).head in
-              let told = behind narrow other narrow_fits no_more sub fixes in
+              let told = following narrow other narrow_fits no_more sub fixes in
               fires.uncovered
               (no_more head (told.1 head wanted_head (IsCovered-head kit state step fires valid fits)))
 

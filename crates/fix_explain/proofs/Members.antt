@@ -36,7 +36,7 @@ IsStepIn-sub step (first ∷ part) (next ∷ whole) sub there = elim sub [
   | inr later ↦ inr (IsStepIn-sub step (first ∷ part) whole later there)
   | inl here ↦ elim there [
     | inl same ↦ inl (sym here.0 ∙ same)
-    | inr behind ↦ inr (IsStepIn-sub step part whole here.1 behind)
+    | inr following ↦ inr (IsStepIn-sub step part whole here.1 following)
   ]
 ]
 

@@ -36,35 +36,35 @@ module _ (kit : Kit) (valid : IsValid kit) (target : ℕ) (state : State) (run :
 
     module _ (marked : List Step) where
       -- what is marked after a place, and what it wants
-      abbrev Behind : Type 0
-      Behind = IsMarked kit target (end_of kit state (take (suc place) run)) (drop (suc place) run) (reverse marked)
+      abbrev Following : Type 0
+      Following = IsMarked kit target (end_of kit state (take (suc place) run)) (drop (suc place) run) (reverse marked)
           (IsWanted kit target marked)
 
-      later : Behind → IsMarked kit target (after kit before step) (drop (suc place) run) (reverse marked)
+      later : Following → IsMarked kit target (after kit before step) (drop (suc place) run) (reverse marked)
           (IsWanted kit target marked)
-      later behind = rw (end_of-take kit state run place past within) at behind
+      later following = rw (end_of-take kit state run place past within) at following
 
       -- a step whose head is not wanted is not marked
-      pub IsMarked-unwanted : Behind
+      pub IsMarked-unwanted : Following
           → ¬ IsWanted kit target marked (rule_at kit (get_or run place past).rule).head
           → IsMarked kit target (end_of kit state (take place run)) (drop place run) (reverse marked)
           (IsWanted kit target marked)
-      IsMarked-unwanted behind unwanted =
+      IsMarked-unwanted following unwanted =
           rw (drop-cons run place past within)
           (IsMarked-passed kit valid target before step fits_before fires (drop (suc place) run) (reverse marked)
-          (IsWanted kit target marked) (later behind) unwanted)
+          (IsWanted kit target marked) (later following) unwanted)
 
       -- a step whose head is wanted is marked before the others
-      pub IsMarked-wanted : Behind
+      pub IsMarked-wanted : Following
           → IsWanted kit target marked (rule_at kit (get_or run place past).rule).head
           → IsMarked kit target (end_of kit state (take place run)) (drop place run)
           (reverse (marked ++ get_or run place past ∷ []))
           (IsWanted kit target (marked ++ get_or run place past ∷ []))
-      IsMarked-wanted behind wanted =
+      IsMarked-wanted following wanted =
           let holds : ℕ → Step → Type 0 = λ one made. Reads (rule_at kit made.rule) one in
           rw (drop-cons run place past within, reverse-append marked (step ∷ []))
           (IsMarked-marked kit valid target before step fits_before fires (drop (suc place) run) (reverse marked)
-          (IsWanted kit target marked) (later behind) (IsWanted kit target (marked ++ step ∷ [])) wanted
+          (IsWanted kit target marked) (later following) (IsWanted kit target (marked ++ step ∷ [])) wanted
           (λ one is. elim is [
             | inl same ↦ inl same
             | inr read ↦ inr (Any-longer (holds one) marked step read)

@@ -25,7 +25,7 @@ IsSubList-trans (step ∷ part) (first ∷ middle) (next ∷ whole) inner outer 
   | inr later ↦ inr (IsSubList-trans (step ∷ part) (first ∷ middle) whole inner later)
   | inl here ↦ elim inner [
     | inl same ↦ inl (same.0 ∙ here.0, IsSubList-trans part middle whole same.1 here.1)
-    | inr behind ↦ inr (IsSubList-trans (step ∷ part) middle whole behind here.1)
+    | inr following ↦ inr (IsSubList-trans (step ∷ part) middle whole following here.1)
   ]
 ]
 

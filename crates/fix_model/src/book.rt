@@ -21,7 +21,7 @@ pub struct Hit {
     pub other: Option<u32>,
 }
 
-/// A valid kit behind look-ups. Its calls succeed whatever memory there is.
+/// A valid kit after look-ups. Its calls succeed whatever memory there is.
 pub trait Book<L> {
     /// The kit that is looked into.
     ghost kit: { Self → KitOf };

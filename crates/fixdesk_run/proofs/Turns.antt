@@ -47,7 +47,7 @@ longer f past (item ∷ items) (other ∷ others) few same none =
     let first : f other ≡ f item = ap f (same 0 (omega arith)) in
     let rest : sum_by f others ≡ sum_by f items = longer f past items others (omega (arith, few))
     (λ place within. same (suc place) (omega (arith, within)))
-    (λ place behind within. none (suc place) (omega (arith, behind)) (omega (arith, within))) in
+    (λ place following within. none (suc place) (omega (arith, following)) (omega (arith, within))) in
     omega (arith, sum_by-cons f item items, sum_by-cons f other others, first, rest)
 
 -- the number of a caller's last accepted request
@@ -77,7 +77,7 @@ module _ (rows : Rows) (valid : AreValid rows) where
       ) in
       longer last_of (new_clerk []) rows.clerks after few
       (λ place within. ap (λ (own : Own). own.row) (sound.own place within))
-      (λ place behind within. ap (λ (own : Own). own.row.last) (sound.new place behind within).1)
+      (λ place following within. ap (λ (own : Own). own.row.last) (sound.new place following within).1)
 
   turn-steward : (ticket : Ticket) (work : StewardWork) (answer : Reply) (changes : List Change)
       → IsStewardsNew rows ticket work answer changes

@@ -9,7 +9,7 @@ use Rattle.httparse.specs.Grammar.{RequestHead, IsRequestHead, LineEnd, crlf, lf
 use Rattle.httparse.specs.Grammar.{Field, IsField, print_field, AllPass, is_token_byte, is_uri_byte, is_value_byte}
 use Rattle.httparse.specs.Pieces.{is_newline}
 use Rattle.httparse.proofs.PieceLemmas.{print_end_unique, newline_not_stopped, Stops_token, token_is_no_newline}
-use Rattle.http_cut.specs.Lines.{BeginsNoLine, behind_line, behind_lines}
+use Rattle.http_cut.specs.Lines.{BeginsNoLine, following_line, following_lines}
 
 -- ---- bytes without a line feed
 
@@ -50,83 +50,86 @@ NoFeed-version minor = NoFeed-append (codes "HTTP/1.") ((48 + minor) ∷ []) (ab
 
 -- ---- one line
 
-pub behind_line-none : (bytes : List ℕ) → NoFeed bytes → behind_line bytes ≡ None
-behind_line-none [] none = refl
-behind_line-none (byte ∷ bytes) none =
+pub following_line-none : (bytes : List ℕ) → NoFeed bytes → following_line bytes ≡ None
+following_line-none [] none = refl
+following_line-none (byte ∷ bytes) none =
     elim (cases_Bool (byte == 10)) [
       | inl feed ↦ absurd (none.0 (eqb-true byte 10 feed))
-      | inr other ↦ rw other (behind_line-none bytes none.1)
+      | inr other ↦ rw other (following_line-none bytes none.1)
     ]
 
-behind_line-feed : (line rest : List ℕ) → NoFeed line → behind_line (line ++ 10 ∷ rest) ≡ Some rest
-behind_line-feed [] rest none = refl
-behind_line-feed (byte ∷ line) rest none =
+following_line-feed : (line rest : List ℕ) → NoFeed line → following_line (line ++ 10 ∷ rest) ≡ Some rest
+following_line-feed [] rest none = refl
+following_line-feed (byte ∷ line) rest none =
     elim (cases_Bool (byte == 10)) [
       | inl feed ↦ absurd (none.0 (eqb-true byte 10 feed))
-      | inr other ↦ rw other (behind_line-feed line rest none.1)
+      | inr other ↦ rw other (following_line-feed line rest none.1)
     ]
 
-behind_line-end : (line : List ℕ) (end : LineEnd) (rest : List ℕ) → NoFeed line
-    → behind_line (line ++ (print_end end ++ rest)) ≡ Some rest
-behind_line-end line lf rest none = behind_line-feed line rest none
-behind_line-end line crlf rest none =
-    ap behind_line (sym (append_assoc line (13 ∷ []) (10 ∷ rest)))
-    ∙ behind_line-feed (line ++ 13 ∷ []) rest (NoFeed-append line (13 ∷ []) none (λ e. omega arith, tt))
+following_line-end : (line : List ℕ) (end : LineEnd) (rest : List ℕ) → NoFeed line
+    → following_line (line ++ (print_end end ++ rest)) ≡ Some rest
+following_line-end line lf rest none = following_line-feed line rest none
+following_line-end line crlf rest none =
+    ap following_line (sym (append_assoc line (13 ∷ []) (10 ∷ rest)))
+    ∙ following_line-feed (line ++ 13 ∷ []) rest (NoFeed-append line (13 ∷ []) none (λ e. omega arith, tt))
 
-behind_line-append : (bytes more rest : List ℕ) → behind_line bytes ≡ Some rest → behind_line (bytes ++ more)
+following_line-append : (bytes more rest : List ℕ) → following_line bytes ≡ Some rest → following_line (bytes ++ more)
     ≡ Some (rest ++ more)
-behind_line-append [] more rest e = cc
-behind_line-append (byte ∷ bytes) more rest e =
+following_line-append [] more rest e = cc
+following_line-append (byte ∷ bytes) more rest e =
     elim (cases_Bool (byte == 10)) [
       | inl feed ↦
           let is : ◌≡◌ {A = Option (List ℕ)} (Some bytes) (Some rest) = rw feed at e in
           let same : bytes ≡ rest = cc in
           rw feed (ap (λ (t : List ℕ). Some (t ++ more)) same)
-      | inr other ↦ rw other (behind_line-append bytes more rest (rw other at e))
+      | inr other ↦ rw other (following_line-append bytes more rest (rw other at e))
     ]
 
 -- ---- so many lines
 
-pub behind_lines-append : (count : ℕ) (bytes more rest : List ℕ) → behind_lines count bytes ≡ Some rest
-    → behind_lines count (bytes ++ more) ≡ Some (rest ++ more)
-unfolding behind_lines
-behind_lines-append zero bytes more rest e =
+pub following_lines-append : (count : ℕ) (bytes more rest : List ℕ) → following_lines count bytes ≡ Some rest
+    → following_lines count (bytes ++ more) ≡ Some (rest ++ more)
+unfolding following_lines
+following_lines-append zero bytes more rest e =
     let is : ◌≡◌ {A = Option (List ℕ)} (Some bytes) (Some rest) = e in
     let same : bytes ≡ rest = cc in
     ap (λ (t : List ℕ). Some (t ++ more)) same
-behind_lines-append (suc count) bytes more rest e =
-    by (λ behind more rest e. behind_lines-append count behind more rest e) (behind_line bytes) refl e
+following_lines-append (suc count) bytes more rest e =
+    by (λ following more rest e. following_lines-append count following more rest e) (following_line bytes) refl e
   where
-    by : ((behind more rest : List ℕ) → behind_lines count behind ≡ Some rest → behind_lines count (behind ++ more)
+    by : ((following more rest : List ℕ) → following_lines count following ≡ Some rest
+        → following_lines count (following ++ more)
         ≡ Some (rest ++ more))
-        → (first : Option (List ℕ)) → behind_line bytes ≡ first → option_and_then (behind_lines count) first ≡ Some rest
-        → option_and_then (behind_lines count) (behind_line (bytes ++ more)) ≡ Some (rest ++ more)
+        → (first : Option (List ℕ)) → following_line bytes ≡ first
+            → option_and_then (following_lines count) first ≡ Some rest
+        → option_and_then (following_lines count) (following_line (bytes ++ more)) ≡ Some (rest ++ more)
     by later None test e = cc
-    by later (Some behind) test e =
-        ap (option_and_then (behind_lines count)) (behind_line-append bytes more behind test) ∙ later behind more rest e
+    by later (Some following) test e =
+        ap (option_and_then (following_lines count)) (following_line-append bytes more following test)
+            ∙ later following more rest e
 
 -- some lines, and then others
-pub behind_lines-then : (first then : ℕ) (bytes rest : List ℕ) → behind_lines first bytes ≡ Some rest
-    → behind_lines (first + then) bytes ≡ behind_lines then rest
-unfolding behind_lines
-behind_lines-then zero then bytes rest e =
+pub following_lines-then : (first then : ℕ) (bytes rest : List ℕ) → following_lines first bytes ≡ Some rest
+    → following_lines (first + then) bytes ≡ following_lines then rest
+unfolding following_lines
+following_lines-then zero then bytes rest e =
     let is : ◌≡◌ {A = Option (List ℕ)} (Some bytes) (Some rest) = e in
     let same : bytes ≡ rest = cc in
     let count : 0 + then ≡ then = omega arith in
-    ap (λ (n : ℕ). behind_lines n bytes) count ∙ ap (behind_lines then) same
-behind_lines-then (suc first) then bytes rest e =
-    ap (λ (n : ℕ). behind_lines n bytes) count
-    ∙ by (λ behind e. behind_lines-then first then behind rest e) (behind_line bytes) refl e
+    ap (λ (n : ℕ). following_lines n bytes) count ∙ ap (following_lines then) same
+following_lines-then (suc first) then bytes rest e =
+    ap (λ (n : ℕ). following_lines n bytes) count
+    ∙ by (λ following e. following_lines-then first then following rest e) (following_line bytes) refl e
   where
     count : suc first + then ≡ suc (first + then)
     count = omega arith
 
-    by : ((behind : List ℕ) → behind_lines first behind ≡ Some rest → behind_lines (first + then) behind
-        ≡ behind_lines then rest)
-        → (one : Option (List ℕ)) → behind_line bytes ≡ one → option_and_then (behind_lines first) one ≡ Some rest
-        → option_and_then (behind_lines (first + then)) (behind_line bytes) ≡ behind_lines then rest
+    by : ((following : List ℕ) → following_lines first following ≡ Some rest → following_lines (first + then) following
+        ≡ following_lines then rest)
+        → (one : Option (List ℕ)) → following_line bytes ≡ one → option_and_then (following_lines first) one ≡ Some rest
+        → option_and_then (following_lines (first + then)) (following_line bytes) ≡ following_lines then rest
     by later None test e = cc
-    by later (Some behind) test e = ap (option_and_then (behind_lines (first + then))) test ∙ later behind e
+    by later (Some following) test e = ap (option_and_then (following_lines (first + then))) test ∙ later following e
 
 -- ---- the lines of a head
 
@@ -153,68 +156,70 @@ NoFeed-field field is =
     NoFeed-append field.name _ (NoFeed-token field.name is.name.1)
     (λ e. omega arith, NoFeed-pass is_value_byte field.raw refl is.raw)
 
-behind_field : (field : Field) (rest : List ℕ) → IsField field → behind_line (print_field field ++ rest) ≡ Some rest
-behind_field field rest is =
-    ap behind_line (grouped field.name field.raw (print_end field.end))
-    ∙ behind_line-end (field.name ++ 58 ∷ field.raw) field.end rest (NoFeed-field field is)
+following_field : (field : Field) (rest : List ℕ) → IsField field
+    → following_line (print_field field ++ rest) ≡ Some rest
+following_field field rest is =
+    ap following_line (grouped field.name field.raw (print_end field.end))
+    ∙ following_line-end (field.name ++ 58 ∷ field.raw) field.end rest (NoFeed-field field is)
   where
     grouped : (a b c : List ℕ) → (a ++ 58 ∷ b ++ c) ++ rest ≡ (a ++ 58 ∷ b) ++ (c ++ rest)
     grouped a b c = simp append_assoc
 
-behind_fields : (fields : List Field) (rest : List ℕ) → All IsField fields
-    → behind_lines (length fields) (flat_map print_field fields ++ rest) ≡ Some rest
-unfolding behind_lines
-behind_fields [] rest all = refl
-behind_fields (field ∷ fields) rest all =
-    ap (option_and_then (behind_lines (length fields)))
-    (ap behind_line (append_assoc (print_field field) (flat_map print_field fields) rest)
-    ∙ behind_field field (flat_map print_field fields ++ rest) (All-head IsField field fields all))
-    ∙ behind_fields fields rest (All-tail IsField field fields all)
+following_fields : (fields : List Field) (rest : List ℕ) → All IsField fields
+    → following_lines (length fields) (flat_map print_field fields ++ rest) ≡ Some rest
+unfolding following_lines
+following_fields [] rest all = refl
+following_fields (field ∷ fields) rest all =
+    ap (option_and_then (following_lines (length fields)))
+    (ap following_line (append_assoc (print_field field) (flat_map print_field fields) rest)
+    ∙ following_field field (flat_map print_field fields ++ rest) (All-head IsField field fields all))
+    ∙ following_fields fields rest (All-tail IsField field fields all)
 
 -- a request line and so many fields are so many lines and one
-pub behind_head : (head : RequestHead) (fields : List Field) (rest : List ℕ) → IsRequestHead head → All IsField fields
-    → behind_lines (1 + length fields) (start_line head ++
+pub following_head : (head : RequestHead) (fields : List Field) (rest : List ℕ) → IsRequestHead head
+    → All IsField fields
+    → following_lines (1 + length fields) (start_line head ++
     (print_end head.line_end ++ (flat_map print_field fields ++ rest))) ≡ Some rest
-unfolding behind_lines
-behind_head head fields rest is all =
-    behind_lines-then 1 (length fields) _ _
-    (ap (option_and_then (behind_lines 0)) (behind_line-end (start_line head) head.line_end
+unfolding following_lines
+following_head head fields rest is all =
+    following_lines-then 1 (length fields) _ _
+    (ap (option_and_then (following_lines 0)) (following_line-end (start_line head) head.line_end
     (flat_map print_field fields ++ rest) (NoFeed-start head is)))
-    ∙ behind_fields fields rest all
+    ∙ following_fields fields rest all
 
 -- ---- after the empty lines
 
 pub BeginsNoLine-token : (word rest : List ℕ) → 0 < length word → AllPass is_token_byte word
     → BeginsNoLine (word ++ rest)
-BeginsNoLine-token word rest some all end behind e =
-    newline_not_stopped end behind (word ++ rest) (sym e) (Stops_token word rest some all)
+BeginsNoLine-token word rest some all end following e =
+    newline_not_stopped end following (word ++ rest) (sym e) (Stops_token word rest some all)
 
 -- one text stands after the empty lines
-pub behind_blank : (first then : List LineEnd) (text other : List ℕ) → BeginsNoLine text → BeginsNoLine other
+pub following_blank : (first then : List LineEnd) (text other : List ℕ) → BeginsNoLine text → BeginsNoLine other
     → print_blank first ++ text ≡ print_blank then ++ other → text ≡ other
-behind_blank [] [] text other none no_other e = e
-behind_blank [] (end ∷ then) text other none no_other e =
+following_blank [] [] text other none no_other e = e
+following_blank [] (end ∷ then) text other none no_other e =
     absurd (none end (print_blank then ++ other) (e ∙ append_assoc (print_end end) (print_blank then) other))
-behind_blank (end ∷ first) [] text other none no_other e =
+following_blank (end ∷ first) [] text other none no_other e =
     absurd (no_other end (print_blank first ++ text) (sym e ∙ append_assoc (print_end end) (print_blank first) text))
-behind_blank (a ∷ first) (b ∷ then) text other none no_other e =
+following_blank (a ∷ first) (b ∷ then) text other none no_other e =
     let tails = print_end_unique a b (print_blank first ++ text) (print_blank then ++ other)
     (sym (append_assoc (print_end a) (print_blank first) text) ∙ e
     ∙ append_assoc (print_end b) (print_blank then) other) in
-    behind_blank first then text other none no_other tails.1
+    following_blank first then text other none no_other tails.1
 
 -- a text that has a line doesn't begin with an empty one when more bytes follow
-pub BeginsNoLine-append : (text more : List ℕ) (rest : List ℕ) → BeginsNoLine text → behind_line text ≡ Some rest
+pub BeginsNoLine-append : (text more : List ℕ) (rest : List ℕ) → BeginsNoLine text → following_line text ≡ Some rest
     → BeginsNoLine (text ++ more)
-BeginsNoLine-append [] more rest none some end behind e = cc
-BeginsNoLine-append (a ∷ []) more rest none some end behind e = by (a == 10) refl
+BeginsNoLine-append [] more rest none some end following e = cc
+BeginsNoLine-append (a ∷ []) more rest none some end following e = by (a == 10) refl
   where
     by : (v : Bool) → (a == 10) ≡ v → ⊥
     by true is = let feed = eqb-true a 10 is in none lf [] (ap (λ (x : ℕ). x ∷ []) feed)
     by false is = let wrong : ◌≡◌ {A = Option (List ℕ)} None (Some rest) = rw is at some in cc
-BeginsNoLine-append (a ∷ b ∷ text) more rest none some lf behind e =
+BeginsNoLine-append (a ∷ b ∷ text) more rest none some lf following e =
     let feed : a ≡ 10 = cc in none lf (b ∷ text) (ap (λ (x : ℕ). x ∷ b ∷ text) feed)
-BeginsNoLine-append (a ∷ b ∷ text) more rest none some crlf behind e =
+BeginsNoLine-append (a ∷ b ∷ text) more rest none some crlf following e =
     let return : a ≡ 13 = cc in
     let feed : b ≡ 10 = cc in
     none crlf text (ap (λ (x : ℕ). x ∷ b ∷ text) return ∙ ap (λ (y : ℕ). 13 ∷ y ∷ text) feed)

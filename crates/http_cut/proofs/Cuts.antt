@@ -96,10 +96,10 @@ pub BeginsRequest_unique : (bytes : List ℕ) (head other : RequestHead) (body s
     → (head ≡ other) × (body ≡ second) × (rest ≡ left)
 BeginsRequest_unique bytes head other body second rest left x y =
     let same = Announces_same bytes head other (length body) (length second) x.announces y.announces in
-    let behind : body ++ rest ≡ second ++ left =
+    let following : body ++ rest ≡ second ++ left =
     append-cancel (print_request head) (body ++ rest) (second ++ left)
     (sym x.bytes_are ∙ y.bytes_are ∙ ap (λ (h : RequestHead). print_request h ++ (second ++ left)) (sym same.0)) in
-    let (bodies, rests) = fronts_same body second rest left same.1 behind in
+    let (bodies, rests) = fronts_same body second rest left same.1 following in
     (same.0, bodies, rests)
 
 -- a request has bytes
@@ -118,8 +118,8 @@ request_shorter bytes head body rest x =
 -- bytes with a head are some
 has_bytes : (bytes : List ℕ) (head : RequestHead) → HasHead bytes head → 0 < length bytes
 has_bytes bytes head x =
-    let (behind, (well, is)) = x.reads in
-    omega (arith, ap length is, length-append (print_request head) behind, print_request-some head)
+    let (following, (well, is)) = x.reads in
+    omega (arith, ap length is, length-append (print_request head) following, print_request-some head)
 
 -- a head whose body is within its limit begins no bad rest
 pub announced_is_no_bad_rest : (rest : List ℕ) (head : RequestHead) (count : ℕ) (kind : BadRest)
@@ -217,10 +217,10 @@ Begins_unique bytes [] (other ∷ others) rest left end last x ends y lasts =
 Begins_unique bytes (request ∷ requests) [] rest left end last x ends y lasts =
     absurd (request_is_no_end bytes request.0 request.1 x.0 last x.1 (subst (λ (r : List ℕ). IsEnd r last)
     (sym y) lasts))
-Begins_unique bytes ((head, body) ∷ requests) ((other, second) ∷ others) rest left end last (behind, one, more) ends
-    (behind_too, one_too, more_too) lasts =
-    let (heads, bodies, same) = BeginsRequest_unique bytes head other body second behind behind_too one one_too in
-    let tails = Begins_unique behind requests others rest left end last more ends
+Begins_unique bytes ((head, body) ∷ requests) ((other, second) ∷ others) rest left end last (following, one, more) ends
+    (following_too, one_too, more_too) lasts =
+    let (heads, bodies, same) = BeginsRequest_unique bytes head other body second following following_too one one_too in
+    let tails = Begins_unique following requests others rest left end last more ends
     (subst (λ (b : List ℕ). Begins b others left) (sym same) more_too) lasts in
     (cc, tails.1)
 
@@ -239,17 +239,17 @@ pub Begins-push : (bytes : List ℕ) (requests : List WholeRequest) (middle : Li
     → Begins bytes (requests ++ request ∷ []) rest
 Begins-push bytes [] middle request rest same whole =
     (rest, subst (λ (all : List ℕ). BeginsRequest all request.0 request.1 rest) (sym same) whole, refl)
-Begins-push bytes (first ∷ requests) middle request rest (behind, one, more) whole =
-    (behind, one, Begins-push behind requests middle request rest more whole)
+Begins-push bytes (first ∷ requests) middle request rest (following, one, more) whole =
+    (following, one, Begins-push following requests middle request rest more whole)
 
 -- the requests stay as bytes come
 pub Begins-more : (bytes : List ℕ) (requests : List WholeRequest) (rest more : List ℕ) → Begins bytes requests rest
     → Begins (bytes ++ more) requests (rest ++ more)
 Begins-more bytes [] rest more same = ap (λ (all : List ℕ). all ++ more) same
-Begins-more bytes (first ∷ requests) rest more (behind, one, others) = (
-  behind ++ more,
-  BeginsRequest-append bytes more first.0 first.1 behind one,
-  Begins-more behind requests rest more others,
+Begins-more bytes (first ∷ requests) rest more (following, one, others) = (
+  following ++ more,
+  BeginsRequest-append bytes more first.0 first.1 following one,
+  Begins-more following requests rest more others,
 )
 
 -- bytes that are open end in a kind

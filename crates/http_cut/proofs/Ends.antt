@@ -11,8 +11,8 @@ use Rattle.httparse.specs.Grammar.{LineEnd, print_end, print_blank, AllPass, is_
 use Rattle.httparse.specs.Pieces.{IsRunAt}
 use Rattle.httparse.proofs.PieceLemmas.{space_ends_token, Method_deterministic}
 use Rattle.httparse.proofs.RunLemmas.{drop_split, length-slice_range, IsRunAt_pass, IsRunAt_unique, IsRunAt_open}
-use Rattle.http_cut.specs.Lines.{SkipsLines, BeginsMethod, EndsBehindMethod}
-use Rattle.http_cut.proofs.Counting.{behind_blank, BeginsNoLine-token}
+use Rattle.http_cut.specs.Lines.{SkipsLines, BeginsMethod, EndsAfterMethod}
+use Rattle.http_cut.proofs.Counting.{following_blank, BeginsNoLine-token}
 
 -- ---- the method
 
@@ -36,7 +36,7 @@ method_is_run text target end run (method, token, e) =
       | inl inside ↦
           let same = IsRunAt_unique run inside [] method (32 ∷ target) token.1 space_ends_token (append-nil text ∙ e) in
           let word : length (slice_range text 0 end) ≡ length method = ap length same.0 in
-          let behind : get_or text end 0 ∷ drop (end + 1) text ≡ 32 ∷ target =
+          let following : get_or text end 0 ∷ drop (end + 1) text ≡ 32 ∷ target =
           sym (drop_more text end 0 inside) ∙ sym (append-nil (drop end text)) ∙ same.1 in
           (omega (arith, length-slice_range text 0 end run.ordered run.in_range), inside, cc)
     ]
@@ -48,7 +48,7 @@ BeginsMethod_unique text a b (m, token, e) (n, other, f) =
 
 -- the test of the bytes after the method
 pub target_test : (text target : List ℕ) → BeginsMethod text target
-    → IsTrue (list_all is_uri_byte target) ↔ EndsBehindMethod text
+    → IsTrue (list_all is_uri_byte target) ↔ EndsAfterMethod text
 target_test text target begins = (
   λ all. (target, begins, AllPass-from_list_all is_uri_byte target all),
   λ x. list_all-from_AllPass is_uri_byte target
@@ -65,20 +65,20 @@ print_blank-push blank end =
     ∙ ap (λ (t : List ℕ). print_blank blank ++ t) (append-nil (print_end end))
 
 -- what stands after them says whether the bytes end in a target
-pub EndsInTarget-behind : (bytes text : List ℕ) → SkipsLines bytes text → EndsBehindMethod text ↔ EndsInTarget bytes
-EndsInTarget-behind bytes text (blank, e, none) = (within, without)
+pub EndsInTarget-following : (bytes text : List ℕ) → SkipsLines bytes text → EndsAfterMethod text ↔ EndsInTarget bytes
+EndsInTarget-following bytes text (blank, e, none) = (within, without)
   where
-    within : EndsBehindMethod text → EndsInTarget bytes
+    within : EndsAfterMethod text → EndsInTarget bytes
     within (target, (method, token, is), passes) =
         (blank, method, target, token, passes, e ∙ ap (λ (t : List ℕ). print_blank blank ++ t) is ∙ simp append_assoc)
 
-    without : EndsInTarget bytes → EndsBehindMethod text
+    without : EndsInTarget bytes → EndsAfterMethod text
     without (before, method, target, token, passes, is) = (
       target,
       (
         method,
         token,
-        behind_blank blank before text (method ++ 32 ∷ target) none
+        following_blank blank before text (method ++ 32 ∷ target) none
             (BeginsNoLine-token method (32 ∷ target) token.0 token.1)
             (sym e ∙ is ∙ append_assoc (print_blank before) method (32 ∷ target)),
       ),

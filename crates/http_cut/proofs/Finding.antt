@@ -22,7 +22,7 @@ use Rattle.http_cut.specs.declared.route.Route.{Route}
 use Rattle.http_cut.specs.Routes.{Rows, Match, patterns, placed_read, rows_with, rows_after, route_rows, match_of}
 use Rattle.http_cut.specs.Routes.{parts_of, Spells, at_end, byte, tokens_read, tokens_of, SpellsRoute}
 use Rattle.http_cut.proofs.Seeking.{Has, seek_found}
-use Rattle.http_cut.proofs.Segments.{is_plain, starts_segment, behind_param, slash_apart, no_slash, spells_cases}
+use Rattle.http_cut.proofs.Segments.{is_plain, starts_segment, following_param, slash_apart, no_slash, spells_cases}
 use Rattle.http_cut.proofs.Segments.{differ, differ_apart}
 use Rattle.http_cut.proofs.Spelling.{spells}
 use Rattle.http_cut.proofs.Table.{ArePlain, table_plain, Has-plain}
@@ -134,7 +134,7 @@ module _ {K : Type 0} where
       elim (suffix_cases other are.0) [
         | inl e ↦ rw (e, better-empty seg []) (elim has [
           | inl same ↦ absurd (omega (arith, ap length (sym e ∙ ap segment same.0)))
-          | inr behind ↦ longest-slash seg rows pattern key cut are.1 behind
+          | inr following ↦ longest-slash seg rows pattern key cut are.1 following
         ])
         | inr e ↦
             let same : better seg [] (47 ∷ []) ≡ 47 ∷ [] = rw cut refl in
@@ -161,14 +161,14 @@ module _ {K : Type 0} where
               let is : x ∷ other ≡ b ∷ pattern = same.0 in
               let tail : other ≡ pattern = cc in
               inl (tail, same.1)
-          | inr behind ↦ inr (step-Has b rows pattern key behind)
+          | inr following ↦ inr (step-Has b rows pattern key following)
         ])
         | inr apart ↦ rw apart (elim has [
           | inl same ↦
               let is : x ∷ other ≡ b ∷ pattern = same.0 in
               let head : x ≡ b = cc in
               absurd (both_ways (x == b) apart (eq-eqb x b head))
-          | inr behind ↦ step-Has b rows pattern key behind
+          | inr following ↦ step-Has b rows pattern key following
         ])
       ]
 
@@ -189,7 +189,7 @@ module _ {K : Type 0} where
         | inl here ↦
             let is : x ≡ 256 = eqb-true x param_token here in
             rw here (
-              behind_param other (subst (λ (t : ℕ). is_plain (t ∷ other)
+              following_param other (subst (λ (t : ℕ). is_plain (t ∷ other)
                   ≡ true) is are.0),
               step-segmented rows are.1,
             )
@@ -204,14 +204,14 @@ module _ {K : Type 0} where
       elim (cases_Bool (same_text (segment other) suffix)) [
         | inl here ↦ rw here (elim has [
           | inl same ↦ inl same
-          | inr behind ↦ inr (with_suffix-Has suffix rows pattern key ends behind)
+          | inr following ↦ inr (with_suffix-Has suffix rows pattern key ends following)
         ])
         | inr apart ↦ rw apart (elim has [
           | inl same ↦
               let is : segment other ≡ suffix = ap segment same.0 ∙ ends in
               absurd (both_ways (same_text (segment other) suffix) apart (ap (λ (t : List ℕ). same_text t suffix) is
               ∙ same_text-self suffix))
-          | inr behind ↦ with_suffix-Has suffix rows pattern key ends behind
+          | inr following ↦ with_suffix-Has suffix rows pattern key ends following
         ])
       ]
 
@@ -285,11 +285,11 @@ module _ {K : Type 0} where
         → Finds (47 ∷ pattern)
         → b ∷ path ≡ (b ∷ word) ++ 47 ∷ left → has_slash (b ∷ word) ≡ false → Spells (47 ∷ pattern) (47 ∷ left)
         → Goes (ltb 0 (length (longest_suffix (segment (b ∷ path)) rows))) (has_slash (b ∷ path))
-    param_at_slash pattern word left segmented plain has found is free behind =
+    param_at_slash pattern word left segmented plain has found is free following =
         rw (ap (λ (t : List ℕ). ltb 0 (length t)) slash)
         (found _ (with_suffix suffix_found rows) (with_suffix-plain suffix_found rows plain)
         (with_suffix-Has suffix_found rows (47 ∷ pattern) key (sym slash) has)
-        (subst (Spells (47 ∷ pattern)) (sym rest) behind))
+        (subst (Spells (47 ∷ pattern)) (sym rest) following))
       where
         seg : segment (b ∷ path) ≡ (b ∷ word) ++ 47 ∷ []
         seg = ap segment is ∙ segment-slash (b ∷ word) left free
@@ -314,14 +314,14 @@ module _ {K : Type 0} where
       → Spells pattern rest
       → is_some (seek ((param_step rows (b ∷ path)).0 - 1) (param_step rows (b ∷ path)).1 path) ≡ true
   unfolding param_step
-  param_some rows key b path pattern [] rest segmented plain has found is some free behind = absurd (some refl)
-  param_some rows key b path [] (x ∷ word) rest segmented plain has found is some free behind =
-      let whole : b ∷ path ≡ x ∷ word = is ∙ ap (λ (t : List ℕ). (x ∷ word) ++ t) (spells_only rest behind)
+  param_some rows key b path pattern [] rest segmented plain has found is some free following = absurd (some refl)
+  param_some rows key b path [] (x ∷ word) rest segmented plain has found is some free following =
+      let whole : b ∷ path ≡ x ∷ word = is ∙ ap (λ (t : List ℕ). (x ∷ word) ++ t) (spells_only rest following)
       ∙ append-nil (x ∷ word) in
       param_at_end rows key b path segmented plain has found (ap has_slash whole ∙ free)
-  param_some rows key b path (y ∷ pattern) (x ∷ word) rest segmented plain has found is some free behind =
+  param_some rows key b path (y ∷ pattern) (x ∷ word) rest segmented plain has found is some free following =
       let slash : y ≡ 47 = eqb-true y 47 (Has-segmented rows (y ∷ pattern) key segmented has) in
-      elim (spells_cases y pattern rest behind) [
+      elim (spells_cases y pattern rest following) [
         | inl (left, at_slash, small, spelled) ↦
             let whole : b ∷ path ≡ x ∷ (word ++ rest) = is in
             let head : x ≡ b = cc in
@@ -362,7 +362,7 @@ module _ {K : Type 0} where
             (param_some (step param_token rows) key b path pattern word rest (step-segmented rows plain)
             (step-plain param_token rows plain)
             (step-Has param_token rows pattern key (subst (λ (t : ℕ). Has rows (t ∷ pattern) key) is_param has))
-            (λ skip others are among behind. seek_some path skip others pattern key are among behind) is some free
+            (λ skip others are among following. seek_some path skip others pattern key are among following) is some free
             spells_rest))
       ]
 
@@ -397,9 +397,9 @@ placed_from new route [] pattern found has = has
 placed_from new route ((other, k) ∷ rows) pattern found has =
     elim (cases_Bool (comes_before new other)) [
       | inl before ↦ rw before at has
-      | inr behind ↦
+      | inr following ↦
           let later : ((other ≡ pattern) × (k ≡ found)) ⊎ Has (placed (new, route) rows) pattern found =
-          rw behind at has in
+          rw following at has in
           elim later [
             | inl same ↦ inr (inl same)
             | inr rest ↦ elim (placed_from new route rows pattern found rest) [
@@ -426,7 +426,7 @@ placed_kept new route [] pattern found has = absurd has
 placed_kept new route ((other, k) ∷ rows) pattern found has =
     elim (cases_Bool (comes_before new other)) [
       | inl before ↦ rw before (inr has)
-      | inr behind ↦ rw behind (elim has [
+      | inr following ↦ rw following (elim has [
         | inl same ↦ inl same
         | inr rest ↦ inr (placed_kept new route rows pattern found rest)
       ])

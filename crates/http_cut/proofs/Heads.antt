@@ -46,8 +46,8 @@ HasHead_same bytes more head other x y = HasHead_unique (bytes ++ more) head oth
 HasHead_front : (bytes more : List ℕ) (head : RequestHead) → HasHead (bytes ++ more) head
     → HasHead bytes head ⊎ ((rest : List ℕ) × (print_request head ≡ bytes ++ rest))
 HasHead_front bytes more head x =
-    let (behind, (well, is)) = x.reads in
-    elim (overlap bytes more (print_request head) behind is) [
+    let (following, (well, is)) = x.reads in
+    elim (overlap bytes more (print_request head) following is) [
       | inl (rest, whole, others) ↦ inr (rest, whole)
       | inr (byte, rest, whole, others) ↦ inl (record {
         reads = (byte ∷ rest, (well, whole));
@@ -135,7 +135,7 @@ NeverHasHead-append bytes more (none, inl long) =
     whole : (head : RequestHead) (rest : List ℕ) → HasHead (bytes ++ more) head → length rest ≤ 0
         → print_request head ≡ bytes ++ rest → HasHead bytes head
     whole head [] x short e =
-        let (behind, (well, is)) = x.reads in
+        let (following, (well, is)) = x.reads in
         record {
           reads = ([], (well, sym (append-nil bytes) ∙ sym e ∙ sym (append-nil (print_request head))));
           few_bytes = x.few_bytes;
@@ -162,7 +162,7 @@ NeverHasHead-append bytes more (none, inr (never, outside)) = (
         → HasHead bytes head ⊎ ((rest : List ℕ) × (print_request head ≡ bytes ++ rest)) → ⊥
     by head x (inl stands) = none head stands
     by head x (inr (rest, e)) =
-        let (behind, (well, is)) = x.reads in
+        let (following, (well, is)) = x.reads in
         never (part_may bytes rest head well x.few_fields e)
 
 -- a bad head is one whatever follows
@@ -192,8 +192,8 @@ pub no_bytes_are_not_bad : IsBadHead [] → ⊥
 no_bytes_are_not_bad (inl (none, inl long)) = absurd (omega arith)
 no_bytes_are_not_bad (inl (none, inr (never, outside))) = never no_bytes_may
 no_bytes_are_not_bad (inr (head, stands, bad)) =
-    let (behind, (well, is)) = stands.reads in
-    omega (arith, ap length is, length-append (print_request head) behind, print_request-some head)
+    let (following, (well, is)) = stands.reads in
+    omega (arith, ap length is, length-append (print_request head) following, print_request-some head)
 
 -- ---- what httparse says
 

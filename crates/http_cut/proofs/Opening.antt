@@ -16,9 +16,10 @@ use Rattle.httparse.specs.Pieces.{is_newline}
 use Rattle.httparse.proofs.GrammarLemmas.{print_request-append, cons-append}
 use Rattle.httparse.proofs.PieceLemmas.{token_is_no_newline}
 use Rattle.http_cut.specs.Head.{MayBecomeHead, AwaitsHead, NeverHasHead}
-use Rattle.http_cut.specs.Lines.{BeginsNoLine, SkipsLines, behind_line, behind_lines, GoesOn, HasManyLines}
-use Rattle.http_cut.proofs.Counting.{start_line, behind_head, behind_line-none, behind_lines-append, behind_lines-then}
-use Rattle.http_cut.proofs.Counting.{behind_blank, BeginsNoLine-append, BeginsNoLine-token, NoFeed-target}
+use Rattle.http_cut.specs.Lines.{BeginsNoLine, SkipsLines, following_line, following_lines, GoesOn, HasManyLines}
+use Rattle.http_cut.proofs.Counting.{start_line, following_head, following_line-none}
+use Rattle.http_cut.proofs.Counting.{following_lines-append, following_lines-then}
+use Rattle.http_cut.proofs.Counting.{following_blank, BeginsNoLine-append, BeginsNoLine-token, NoFeed-target}
 use Rattle.http_cut.proofs.Heads.{HasNoRequest-none}
 use Rattle.http_cut.proofs.Overlap.{overlap}
 
@@ -30,33 +31,34 @@ print_request-lines : (head : RequestHead) (rest : List ℕ) → print_request h
 print_request-lines head rest = print_request-append head rest ∙ simp (append_assoc, cons-append)
 
 BeginsNoLine-start : (head : RequestHead) (rest : List ℕ) → IsRequestHead head → BeginsNoLine (start_line head ++ rest)
-BeginsNoLine-start head rest is end behind e =
+BeginsNoLine-start head rest is end following e =
     let line : List ℕ = 32 ∷ (head.target ++ 32 ∷ print_version head.minor) in
-    BeginsNoLine-token head.method (line ++ rest) is.method.0 is.method.1 end behind
+    BeginsNoLine-token head.method (line ++ rest) is.method.0 is.method.1 end following
     (sym (append_assoc head.method line rest) ∙ e)
 
 -- ---- after the most fields
 
-has_line : (count : ℕ) (text rest : List ℕ) → behind_lines (suc count) text ≡ Some rest
-    → (behind : List ℕ) × (behind_line text ≡ Some behind)
-unfolding behind_lines
-has_line count text rest e = by (behind_line text) refl e
+has_line : (count : ℕ) (text rest : List ℕ) → following_lines (suc count) text ≡ Some rest
+    → (following : List ℕ) × (following_line text ≡ Some following)
+unfolding following_lines
+has_line count text rest e = by (following_line text) refl e
   where
-    by : (first : Option (List ℕ)) → behind_line text ≡ first → option_and_then (behind_lines count) first ≡ Some rest
-        → (behind : List ℕ) × (behind_line text ≡ Some behind)
+    by : (first : Option (List ℕ)) → following_line text ≡ first
+        → option_and_then (following_lines count) first ≡ Some rest
+        → (following : List ℕ) × (following_line text ≡ Some following)
     by None test e = absurd (let wrong : ◌≡◌ {A = Option (List ℕ)} None (Some rest) = e in cc)
-    by (Some behind) test e = (behind, test)
+    by (Some following) test e = (following, test)
 
-no_lines : (count byte : ℕ) (rest : List ℕ) → behind_lines count [] ≡ Some (byte ∷ rest) → ⊥
-unfolding behind_lines
+no_lines : (count byte : ℕ) (rest : List ℕ) → following_lines count [] ≡ Some (byte ∷ rest) → ⊥
+unfolding following_lines
 no_lines zero byte rest e = cc
 no_lines (suc count) byte rest e = cc
 
 -- after an empty line at the end nothing goes on
-last_line : (count : ℕ) (last : LineEnd) (byte : ℕ) (rest : List ℕ) → behind_lines count (print_end last ++ [])
+last_line : (count : ℕ) (last : LineEnd) (byte : ℕ) (rest : List ℕ) → following_lines count (print_end last ++ [])
     ≡ Some (byte ∷ rest)
     → byte ≢ 13 → byte ≢ 10 → ⊥
-unfolding behind_lines
+unfolding following_lines
 last_line zero lf byte rest e return feed = let same : byte ≡ 10 = cc in feed same
 last_line zero crlf byte rest e return feed = let same : byte ≡ 13 = cc in return same
 last_line (suc count) lf byte rest e return feed = no_lines count byte rest e
@@ -71,17 +73,18 @@ many_never bytes (text, (blank, e, none), (byte, rest, lines, return, feed)) (mo
     sym (append_assoc (print_blank blank) text more) ∙ ap (λ (t : List ℕ). t ++ more) (sym e) ∙ reads
     ∙ print_request-lines head [] in
     let text_is : text ++ more ≡ start_line head ++ tail =
-    behind_blank blank head.blank (text ++ more) (start_line head ++ tail)
+    following_blank blank head.blank (text ++ more) (start_line head ++ tail)
     (BeginsNoLine-append text more line.0 none line.1)
     (BeginsNoLine-start head tail is) whole in
     let count : (1 + length head.fields) + (64 - length head.fields) ≡ 65 = omega (arith, few) in
-    let behind : behind_lines (64 - length head.fields) (print_end head.last ++ []) ≡ Some (byte ∷ (rest ++ more)) =
-    sym (behind_lines-then (1 + length head.fields) (64 - length head.fields) (start_line head ++ tail)
+    let following : following_lines (64 - length head.fields) (print_end head.last ++ [])
+        ≡ Some (byte ∷ (rest ++ more)) =
+    sym (following_lines-then (1 + length head.fields) (64 - length head.fields) (start_line head ++ tail)
     (print_end head.last ++ [])
-    (behind_head head head.fields (print_end head.last ++ []) is is.fields))
-    ∙ ap (λ (n : ℕ). behind_lines n (start_line head ++ tail)) count ∙ ap (behind_lines 65) (sym text_is)
-    ∙ behind_lines-append 65 text more (byte ∷ rest) lines in
-    last_line (64 - length head.fields) head.last byte (rest ++ more) behind return feed
+    (following_head head head.fields (print_end head.last ++ []) is is.fields))
+    ∙ ap (λ (n : ℕ). following_lines n (start_line head ++ tail)) count ∙ ap (following_lines 65) (sym text_is)
+    ∙ following_lines-append 65 text more (byte ∷ rest) lines in
+    last_line (64 - length head.fields) head.last byte (rest ++ more) following return feed
 
 -- and ends in no target
 pub many_outside : (bytes : List ℕ) → HasManyLines bytes → ¬ (EndsInTarget bytes)
@@ -89,19 +92,19 @@ many_outside bytes (text, (blank, e, none), (byte, rest, lines, return, feed))
     (before, method, target, token, passes, is) =
     let line = has_line 64 text (byte ∷ rest) lines in
     let text_is : text ≡ method ++ 32 ∷ target =
-    behind_blank blank before text (method ++ 32 ∷ target) none
+    following_blank blank before text (method ++ 32 ∷ target) none
     (BeginsNoLine-token method (32 ∷ target) token.0 token.1)
     (sym e ∙ is ∙ append_assoc (print_blank before) method (32 ∷ target)) in
     let wrong : ◌≡◌ {A = Option (List ℕ)} None (Some line.0) =
-    sym (behind_line-none (method ++ 32 ∷ target) (NoFeed-target method target token.1 passes))
-    ∙ ap behind_line (sym text_is) ∙ line.1 in
+    sym (following_line-none (method ++ 32 ∷ target) (NoFeed-target method target token.1 passes))
+    ∙ ap following_line (sym text_is) ∙ line.1 in
     cc
 
 -- one text stands after the empty lines, so it says whether the bytes go on
-pub many_behind : (bytes text : List ℕ) → SkipsLines bytes text → GoesOn text ↔ HasManyLines bytes
-many_behind bytes text (blank, e, none) = (
+pub many_following : (bytes text : List ℕ) → SkipsLines bytes text → GoesOn text ↔ HasManyLines bytes
+many_following bytes text (blank, e, none) = (
   λ goes. (text, (blank, e, none), goes),
-  λ many. subst GoesOn (behind_blank many.1.0 blank many.0 text many.1.2 none (sym many.1.1 ∙ e)) many.2,
+  λ many. subst GoesOn (following_blank many.1.0 blank many.0 text many.1.2 none (sym many.1.1 ∙ e)) many.2,
 )
 
 -- ---- `Partial`
@@ -151,9 +154,9 @@ goes_on bytes head byte rest is many token e =
       (
         byte,
         rest,
-        ap (λ (n : ℕ). behind_lines n (start_line head ++
+        ap (λ (n : ℕ). following_lines n (start_line head ++
             (print_end head.line_end ++ (flat_map print_field fields ++ byte ∷ rest)))) (sym count)
-            ∙ behind_head head fields (byte ∷ rest) is (All-take IsField MAX_FIELDS head.fields is.fields),
+            ∙ following_head head fields (byte ∷ rest) is (All-take IsField MAX_FIELDS head.fields is.fields),
         token_apart byte 13 token refl,
         token_apart byte 10 token refl,
       ),

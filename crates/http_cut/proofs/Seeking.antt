@@ -121,10 +121,10 @@ module _ {K : Type 0} where
       suffix : List ℕ
       suffix = longest_suffix (segment (b ∷ path)) rows
 
-      behind_suffix : (pattern : List ℕ) → segment pattern ≡ suffix → 0 < length suffix → length suffix < length seg
+      following_suffix : (pattern : List ℕ) → segment pattern ≡ suffix → 0 < length suffix → length suffix < length seg
           → Matches pattern (drop (length seg - length suffix - 1) path) → Matches (param_token ∷ pattern) (b ∷ path)
-      behind_suffix [] same some short m = absurd (omega (arith, ap length same))
-      behind_suffix (x ∷ pattern) same some short m =
+      following_suffix [] same some short m = absurd (omega (arith, ap length same))
+      following_suffix (x ∷ pattern) same some short m =
           let size : length (segment (x ∷ pattern)) ≡ length suffix = ap length same in
           let count : length seg - length (segment (x ∷ pattern)) ≡ suc (length seg - length suffix - 1) =
           omega arith in
@@ -148,7 +148,7 @@ module _ {K : Type 0} where
           let (has_it, ends) = Has-with_suffix suffix rows pattern key has in (
             pattern,
             has_it,
-            behind_suffix pattern ends (ltb-true 0 (length suffix) some)
+            following_suffix pattern ends (ltb-true 0 (length suffix) some)
                 (shorter (ltb-true 0 (length suffix) some)) matches,
           )
       by false true none slash e = let row = found (0 - 1) [] e in absurd row.1

@@ -17,8 +17,8 @@ is_plain [] = true
 is_plain (x ∷ rest) = (ltb x 128 || (x == param_token && starts_segment rest)) && is_plain rest
 
 -- after a parameter a segment starts
-pub behind_param : (pattern : List ℕ) → is_plain (param_token ∷ pattern) ≡ true → starts_segment pattern ≡ true
-behind_param pattern plain = (and_parts _ _ plain).0
+pub following_param : (pattern : List ℕ) → is_plain (param_token ∷ pattern) ≡ true → starts_segment pattern ≡ true
+following_param pattern plain = (and_parts _ _ plain).0
 
 -- a target that spells such a pattern is at its end, or goes on with a slash
 pub spells_segment : (pattern target : List ℕ) → starts_segment pattern ≡ true → Spells pattern target
@@ -72,8 +72,8 @@ SpellsPart x pattern target =
 
 pub spells_cases : (x : ℕ) (pattern target : List ℕ) → Spells (x ∷ pattern) target
     → SpellsByte x pattern target ⊎ SpellsPart x pattern target
-spells_cases x pattern target (byte y small behind) = inl (_, refl, small, behind)
-spells_cases x pattern target (part word is some free behind) = inr (word, _, refl, is, some, free, behind)
+spells_cases x pattern target (byte y small following) = inl (_, refl, small, following)
+spells_cases x pattern target (part word is some free following) = inr (word, _, refl, is, some, free, following)
 
 -- no target spells two such patterns
 pub differ_apart : (first second target : List ℕ) → is_plain first ≡ true → is_plain second ≡ true → differ first second
@@ -99,9 +99,9 @@ differ_apart (a ∷ first) (b ∷ second) target plain other apart x y =
               | inl (left, is_too, small_too, spells_too) ↦ omega (arith, e, is_param, small_too)
               | inr (part_too, left, is_param_too, are_too, some_too, free_too, spells_too) ↦
                   let ends = parts_same word part_too rest left free free_too
-                  (spells_segment first rest (behind_param first (subst (λ (t : ℕ). is_plain (t ∷ first) ≡ true)
+                  (spells_segment first rest (following_param first (subst (λ (t : ℕ). is_plain (t ∷ first) ≡ true)
                   is_param plain)) spells)
-                  (spells_segment second left (behind_param second (subst (λ (t : ℕ). is_plain (t ∷ second) ≡ true)
+                  (spells_segment second left (following_param second (subst (λ (t : ℕ). is_plain (t ∷ second) ≡ true)
                   is_param_too other)) spells_too)
                   (sym are ∙ are_too) in
                   differ_apart first second left (and_parts _ _ plain).1 (and_parts _ _ other).1 tails

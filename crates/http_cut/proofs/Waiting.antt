@@ -115,7 +115,7 @@ request_stands bytes head said len count stands len_is says same whole fits shor
     let front : take len bytes ≡ print_request head =
     ap (take len) stands.reads.1.1 ∙ ap (λ (n : ℕ). take n (print_request head ++ stands.reads.0)) len_is
     ∙ take-append_seam (print_request head) stands.reads.0 in
-    let behind : body ++ drop (len + count) bytes ≡ drop len bytes =
+    let following : body ++ drop (len + count) bytes ≡ drop len bytes =
     ap (λ (n : ℕ). take n (drop len bytes) ++ drop (len + count) bytes) size
     ∙ ap (λ (t : List ℕ). take count (drop len bytes) ++ t) (sym (drop-drop count len bytes))
     ∙ take-append-drop count (drop len bytes) in
@@ -123,7 +123,7 @@ request_stands bytes head said len count stands len_is says same whole fits shor
       announces = record { stands = stands; body = (said, says, same ∙ sym body_len); whole = whole };
       fits = omega (arith, body_len);
       bytes_are = sym (take-append-drop len bytes) ∙ ap (λ (t : List ℕ). t ++ drop len bytes) front
-          ∙ ap (λ (t : List ℕ). print_request head ++ t) (sym behind);
+          ∙ ap (λ (t : List ℕ). print_request head ++ t) (sym following);
     }
 
 -- a request that stands in more bytes stands in these where they have it all

@@ -36,7 +36,7 @@ param_parts rest path (literal x small m) = absurd (omega arith)
 param_parts rest path (param longer free m) = (longer, m)
 
 literal_first : (x : ℕ) (rest path : List ℕ) → x < 128 → Matches (x ∷ rest) path
-    → (behind : List ℕ) × (path ≡ x ∷ behind)
+    → (following : List ℕ) × (path ≡ x ∷ following)
 literal_first x rest path small (literal y below m) = (_, refl)
 literal_first x rest path small (param longer free m) = absurd (omega arith)
 literal_first x rest path small (all some) = absurd (omega arith)
@@ -140,7 +140,7 @@ module _ (pattern path : List ℕ) where
       let tests = and_parts _ _ s.plain in
       let low : y < 128 = elim (or_cases _ _ tests.0) [
         | inl below ↦ let small = ltb-true x 128 below in absurd (omega arith)
-        | inr behind ↦ let slash : y ≡ 47 = eqb-true y 47 (and_parts _ _ behind).1 in omega arith
+        | inr following ↦ let slash : y ≡ 47 = eqb-true y 47 (and_parts _ _ following).1 in omega arith
       ] in
       let path_is : Matches (y ∷ rest) (drop (at + taken (y ∷ rest) (drop at path)) path) =
       subst (Matches (y ∷ rest)) (drop-drop (taken (y ∷ rest) (drop at path)) at path) parts.1 in
@@ -185,11 +185,11 @@ walk_text pattern text path (name ∷ names) tokens token at short utf8 are s =
     let wild : AtParam pattern path w =
     subst (λ (l : List ℕ). AtParam pattern path (wild_from l (length path) token at)) (sym s.tokens_are)
     (over_bytes pattern path s.path_is token at s.tokens_are refl s.plain utf8 s.boundary) in
-    let behind = over_param pattern path wild.tokens w.0 w.1 short wild.stands wild.param in (
+    let following = over_param pattern path wild.tokens w.0 w.1 short wild.stands wild.param in (
       are.0,
-      part_text path w.1 (wild_stop pattern w.0 path w.1) utf8 wild.stands.boundary behind.stands.boundary,
-      walk_text pattern text path names behind.tokens (after_token w.0)
-          (wild_stop pattern w.0 path w.1) short utf8 are.1 behind.stands,
+      part_text path w.1 (wild_stop pattern w.0 path w.1) utf8 wild.stands.boundary following.stands.boundary,
+      walk_text pattern text path names following.tokens (after_token w.0)
+          (wild_stop pattern w.0 path w.1) short utf8 are.1 following.stands,
     )
 
 -- the parameters of a path that has this pattern are texts

@@ -81,7 +81,7 @@ IsEnd rest (truncated count) = (rest ≢ []) × (count ≡ length rest) × IsOpe
 abbrev pub Begins : List ℕ → List WholeRequest → List ℕ → Type 0
 Begins bytes [] rest = bytes ≡ rest
 Begins bytes (request ∷ requests) rest =
-    (behind : List ℕ) × BeginsRequest bytes request.0 request.1 behind × Begins behind requests rest
+    (following : List ℕ) × BeginsRequest bytes request.0 request.1 following × Begins following requests rest
 
 -- the bytes are these requests and a rest that ends so
 pub record IsCut (bytes : List ℕ) (requests : List WholeRequest) (rest : List ℕ) (end : End) : Type 0 where

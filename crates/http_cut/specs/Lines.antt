@@ -17,19 +17,20 @@ SkipsLines bytes text = (blank : List LineEnd) × (bytes ≡ print_blank blank +
 -- ---- counted lines
 
 -- the bytes after the first line feed
-abbrev pub behind_line : List ℕ → Option (List ℕ)
-behind_line [] = None
-behind_line (byte ∷ bytes) = if byte == 10 then Some bytes else behind_line bytes
+abbrev pub following_line : List ℕ → Option (List ℕ)
+following_line [] = None
+following_line (byte ∷ bytes) = if byte == 10 then Some bytes else following_line bytes
 
 -- the bytes after so many lines
-unfoldable pub behind_lines : ℕ → List ℕ → Option (List ℕ)
-behind_lines zero bytes = Some bytes
-behind_lines (suc count) bytes = option_and_then (behind_lines count) (behind_line bytes)
+unfoldable pub following_lines : ℕ → List ℕ → Option (List ℕ)
+following_lines zero bytes = Some bytes
+following_lines (suc count) bytes = option_and_then (following_lines count) (following_line bytes)
 
 -- a request line and the most fields stand, and a byte that ends no head
 abbrev pub GoesOn : List ℕ → Type 0
 GoesOn text =
-    (byte : ℕ) × (rest : List ℕ) × (behind_lines (MAX_FIELDS + 1) text ≡ Some (byte ∷ rest)) × (byte ≢ 13) × (byte ≢ 10)
+    (byte : ℕ) × (rest : List ℕ) × (following_lines (MAX_FIELDS + 1) text ≡ Some (byte ∷ rest)) × (byte ≢ 13)
+        × (byte ≢ 10)
 
 -- the same after empty lines
 abbrev pub HasManyLines : List ℕ → Type 0
@@ -42,5 +43,5 @@ abbrev pub BeginsMethod : List ℕ → List ℕ → Type 0
 BeginsMethod text target = (method : List ℕ) × IsToken method × (text ≡ method ++ 32 ∷ target)
 
 -- a method, a space and bytes of a target
-abbrev pub EndsBehindMethod : List ℕ → Type 0
-EndsBehindMethod text = (target : List ℕ) × BeginsMethod text target × AllPass is_uri_byte target
+abbrev pub EndsAfterMethod : List ℕ → Type 0
+EndsAfterMethod text = (target : List ℕ) × BeginsMethod text target × AllPass is_uri_byte target

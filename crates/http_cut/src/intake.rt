@@ -116,9 +116,9 @@ impl Intake {
         ensures fetched { Fetches (S.left source.old) (S.left source.new) self.old self.new result }
         ensures order { ReadsNoFurther S.reads source.old source.new self.old self.new result }
         ensures end { (least : ℕ) → result ≡ Ok (steps.NeedMore least) → IsAtEnd (S.left source.new) }
-        ensures behind { (request : Request) → result ≡ Ok (steps.Whole request)
+        ensures following { (request : Request) → result ≡ Ok (steps.Whole request)
             → length self.new < request.body.end + PIECE }
-        ensures behind_bad { (kind : BadRest) (asks_head : Bool) → result ≡ Ok (steps.Bad kind asks_head)
+        ensures following_bad { (kind : BadRest) (asks_head : Bool) → result ≡ Ok (steps.Bad kind asks_head)
             → length self.new < MAX_HEAD + PIECE }
         ensures cause { IsErrOf result IntakeFault.Failed
             → Rose (S.read_faults source.old) (S.read_faults source.new) }
@@ -144,9 +144,9 @@ pub fn next_step<S: Source>(
     ensures fetched { Fetches (S.left source.old) (S.left source.new) window.old window.new result }
     ensures order { ReadsNoFurther S.reads source.old source.new window.old window.new result }
     ensures end { (least : ℕ) → result ≡ Ok (steps.NeedMore least) → IsAtEnd (S.left source.new) }
-    ensures behind { (request : Request) → result ≡ Ok (steps.Whole request)
+    ensures following { (request : Request) → result ≡ Ok (steps.Whole request)
         → length window.new < request.body.end + PIECE }
-    ensures behind_bad { (kind : BadRest) (asks_head : Bool) → result ≡ Ok (steps.Bad kind asks_head)
+    ensures following_bad { (kind : BadRest) (asks_head : Bool) → result ≡ Ok (steps.Bad kind asks_head)
         → length window.new < MAX_HEAD + PIECE }
     ensures cause { IsErrOf result IntakeFault.Failed
         → Rose (S.read_faults source.old) (S.read_faults source.new) }

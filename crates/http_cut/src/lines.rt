@@ -1,7 +1,7 @@
 //! Lines at the front of a stream: the empty ones before a head, and those of a head with the most fields.
 ghost use Rattle.std.specs.Prelude.{◌≡◌, ◌↔◌, ◌++◌, None, Some, MatchOption, IsTrue};
 ghost use Rattle.httparse.specs.Grammar.{LineEnd, print_end};
-ghost use Rattle.http_cut.specs.Lines.{BeginsNoLine, SkipsLines, behind_line, behind_lines, GoesOn, HasManyLines};
+ghost use Rattle.http_cut.specs.Lines.{BeginsNoLine, SkipsLines, following_line, following_lines, GoesOn, HasManyLines};
 
 use desk_base::MAX_FIELDS;
 
@@ -10,14 +10,14 @@ pub fn without_empty_lines(bytes: &[u8]) -> &[u8]
     ensures { SkipsLines bytes.now result.now }
 {
     let mut text = bytes;
-    'lines: while let Some(rest) = behind_empty_line(text) {
+    'lines: while let Some(rest) = following_empty_line(text) {
         text = rest;
     }
     text
 }
 
 /// The bytes after one empty line.
-fn behind_empty_line(text: &[u8]) -> Option<&[u8]>
+fn following_empty_line(text: &[u8]) -> Option<&[u8]>
     ensures { MatchOption result (BeginsNoLine text.now)
         (λ rest. (end : LineEnd) × (text.now ≡ print_end end ++ rest.now)) }
 {
@@ -39,37 +39,37 @@ pub fn has_many_lines(bytes: &[u8]) -> bool
 fn goes_on(text: &[u8]) -> bool
     ensures { IsTrue result ↔ GoesOn text.now }
 {
-    match behind_lines(text, MAX_FIELDS + 1) {
+    match following_lines(text, MAX_FIELDS + 1) {
         Some([first, ..]) => *first != b'\r' && *first != b'\n',
         _ => false,
     }
 }
 
 /// The bytes after so many lines.
-#[tactic(auto, unfolding(crate::specs::Lines::behind_lines))]
-fn behind_lines(text: &[u8], count: usize) -> Option<&[u8]>
-    ensures { MatchOption result (behind_lines count text.now ≡ None)
-        (λ rest. behind_lines count text.now ≡ Some rest.now) }
+#[tactic(auto, unfolding(crate::specs::Lines::following_lines))]
+fn following_lines(text: &[u8], count: usize) -> Option<&[u8]>
+    ensures { MatchOption result (following_lines count text.now ≡ None)
+        (λ rest. following_lines count text.now ≡ Some rest.now) }
 {
     let mut rest = text;
     let mut left = count;
     'lines: while left > 0 {
-        rest = behind_line(rest)?;
+        rest = following_line(rest)?;
         left -= 1;
     }
     Some(rest)
 }
 
 /// The bytes after the first line feed.
-fn behind_line(text: &[u8]) -> Option<&[u8]>
-    ensures { MatchOption result (behind_line text.now ≡ None) (λ rest. behind_line text.now ≡ Some rest.now) }
+fn following_line(text: &[u8]) -> Option<&[u8]>
+    ensures { MatchOption result (following_line text.now ≡ None) (λ rest. following_line text.now ≡ Some rest.now) }
 {
     let mut rest = text;
-    'bytes: while let [first, behind @ ..] = rest {
+    'bytes: while let [first, following @ ..] = rest {
         if *first == b'\n' {
-            return Some(behind);
+            return Some(following);
         }
-        rest = behind;
+        rest = following;
     }
     None
 }

@@ -3,7 +3,7 @@ ghost use Rattle.std.specs.Prelude.{◌≡◌, ℕ, ◌↔◌, List, IsTrue, Mat
 ghost use Rattle.std.specs.List.{list_all};
 ghost use Rattle.httparse.specs.Grammar.{EndsInTarget, is_token_byte, is_uri_byte};
 ghost use Rattle.httparse.specs.Pieces.{IsRunAt};
-ghost use Rattle.http_cut.specs.Lines.{BeginsMethod, EndsBehindMethod};
+ghost use Rattle.http_cut.specs.Lines.{BeginsMethod, EndsAfterMethod};
 
 use crate::lines::without_empty_lines;
 
@@ -11,20 +11,20 @@ use crate::lines::without_empty_lines;
 pub fn ends_in_target(bytes: &[u8]) -> bool
     ensures { IsTrue result ↔ EndsInTarget bytes.now }
 {
-    ends_behind_method(without_empty_lines(bytes))
+    ends_after_method(without_empty_lines(bytes))
 }
 
-fn ends_behind_method(text: &[u8]) -> bool
-    ensures { IsTrue result ↔ EndsBehindMethod text.now }
+fn ends_after_method(text: &[u8]) -> bool
+    ensures { IsTrue result ↔ EndsAfterMethod text.now }
 {
-    match behind_method(text) {
+    match following_method(text) {
         Some(target) => are_target_bytes(target),
         None => false,
     }
 }
 
 /// The bytes after a method and a space.
-fn behind_method(text: &[u8]) -> Option<&[u8]>
+fn following_method(text: &[u8]) -> Option<&[u8]>
     ensures { MatchOption result ((target : List ℕ) → ¬ (BeginsMethod text.now target))
         (λ target. BeginsMethod text.now target.now) }
 {

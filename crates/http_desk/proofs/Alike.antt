@@ -173,34 +173,37 @@ same_requests : (limit : ℕ) (old new early late : Scene) (end other : Ended) (
     (two : Streams limit early late other) → IsOwnEnd end → IsOwnEnd other → one.bytes ≡ two.bytes
     → (requests one.answers ≡ requests two.answers) × (end ≡ other)
 same_requests limit old new early late end other one two own its same =
-    let behind : List ℕ = one.rest ++ one.after in
-    let behind_too : List ℕ = two.rest ++ two.after in
-    let begins : Begins one.bytes (requests two.answers) behind_too =
-    subst (λ (b : List ℕ). Begins b (requests two.answers) behind_too) (sym same) (front limit early late other two) in
-    let begins_too : Begins two.bytes (requests one.answers) behind =
-    subst (λ (b : List ℕ). Begins b (requests one.answers) behind) same (front limit old new end one) in
+    let following : List ℕ = one.rest ++ one.after in
+    let following_too : List ℕ = two.rest ++ two.after in
+    let begins : Begins one.bytes (requests two.answers) following_too =
+    subst (λ (b : List ℕ). Begins b (requests two.answers) following_too) (sym same)
+        (front limit early late other two) in
+    let begins_too : Begins two.bytes (requests one.answers) following =
+    subst (λ (b : List ℕ). Begins b (requests one.answers) following) same (front limit old new end one) in
     elim (whole limit old new end one own) [
       | inl reached ↦ elim (whole limit early late other two its) [
         | inl too ↦
             let sizes : length (requests one.answers) ≡ length (requests two.answers) =
             length-map one.answers (λ a. a.request) ∙ reached.1 ∙ sym too.1
             ∙ sym (length-map two.answers (λ a. a.request)) in (
-              Begins-one one.bytes (requests one.answers) (requests two.answers) behind behind_too sizes
+              Begins-one one.bytes (requests one.answers) (requests two.answers) following following_too sizes
                   (front limit old new end one) begins,
               reached.0 ∙ sym too.0,
             )
         | inr (other_end, (cut, few)) ↦
-            absurd (not_both limit two.bytes one.answers two.answers behind behind_too (cut_end other) reached.1
+            absurd (not_both limit two.bytes one.answers two.answers following following_too (cut_end other) reached.1
             begins_too cut few)
       ]
       | inr (other_end, (cut, few)) ↦ elim (whole limit early late other two its) [
         | inl reached ↦
-            absurd (not_both limit one.bytes two.answers one.answers behind_too behind (cut_end end) reached.1 begins
+            absurd (not_both limit one.bytes two.answers one.answers following_too following
+                (cut_end end) reached.1 begins
             cut few)
         | inr (other_too, (cut_too, few_too)) ↦
-            let (all, rests, ends) = IsCut_unique one.bytes (requests one.answers) (requests two.answers) behind
-            behind_too (cut_end end) (cut_end other) cut
-            (subst (λ (b : List ℕ). IsCut b (requests two.answers) behind_too (cut_end other)) (sym same) cut_too) in (
+            let (all, rests, ends) = IsCut_unique one.bytes (requests one.answers) (requests two.answers) following
+            following_too (cut_end end) (cut_end other) cut
+            (subst (λ (b : List ℕ). IsCut b (requests two.answers) following_too (cut_end other))
+                (sym same) cut_too) in (
               all,
               sym (ended_of-cut_end end own other_end) ∙ ap ended_of ends ∙ ended_of-cut_end other its other_too,
             )

@@ -19,10 +19,10 @@ Begins-first bytes [] all rest last end same h ends =
 Begins-first bytes (first ∷ requests) [] rest last end h same ends =
     absurd (request_is_no_end last first.0 first.1 h.0 end
     (subst (λ (b : List ℕ). BeginsRequest b first.0 first.1 h.0) same h.1) ends)
-Begins-first bytes ((head, body) ∷ requests) ((other, second) ∷ all) rest last end (behind, one, others)
-    (behind_too, one_too, others_too) ends =
-    let (heads, bodies, same) = BeginsRequest_unique bytes head other body second behind behind_too one one_too in
-    let (more, tails, begins) = Begins-first behind requests all rest last end others
+Begins-first bytes ((head, body) ∷ requests) ((other, second) ∷ all) rest last end (following, one, others)
+    (following_too, one_too, others_too) ends =
+    let (heads, bodies, same) = BeginsRequest_unique bytes head other body second following following_too one one_too in
+    let (more, tails, begins) = Begins-first following requests all rest last end others
     (subst (λ (b : List ℕ). Begins b all last) (sym same) others_too) ends in
     (more, cc, begins)
 
@@ -32,10 +32,10 @@ pub Begins-one : (bytes : List ℕ) (requests others : List WholeRequest) (rest 
 Begins-one bytes [] [] rest last size h k = refl
 Begins-one bytes [] (b ∷ others) rest last size h k = absurd (omega arith)
 Begins-one bytes (a ∷ requests) [] rest last size h k = absurd (omega arith)
-Begins-one bytes ((head, body) ∷ requests) ((other, second) ∷ others) rest last size (behind, one, more)
-    (behind_too, one_too, more_too) =
-    let (heads, bodies, same) = BeginsRequest_unique bytes head other body second behind behind_too one one_too in
-    let next : requests ≡ others = Begins-one behind requests others rest last (omega arith) more
+Begins-one bytes ((head, body) ∷ requests) ((other, second) ∷ others) rest last size (following, one, more)
+    (following_too, one_too, more_too) =
+    let (heads, bodies, same) = BeginsRequest_unique bytes head other body second following following_too one one_too in
+    let next : requests ≡ others = Begins-one following requests others rest last (omega arith) more
     (subst (λ (b : List ℕ). Begins b others last) (sym same) more_too) in
     cc
 

@@ -34,7 +34,7 @@ use Rattle.http_desk.specs.Streams.{CutsEnd, CutsText, EndsStream, IsFaultless, 
 use Rattle.http_desk.proofs.Cutting.{AsksHead-append}
 use Rattle.http_desk.proofs.Progress.{failures-push, texts-push}
 use Rattle.http_desk.proofs.Underway.{Serving, Serving-none, Serving-takes, Serving-weighs, TakesTurns-push, answered}
-use Rattle.http_desk.proofs.Taking.{HasNoRoom-behind, some_left, none_left}
+use Rattle.http_desk.proofs.Taking.{HasNoRoom-following, some_left, none_left}
 
 -- what a stream leaves of which these bytes were left, and of which so many were taken
 abbrev streams_from : {limit : ℕ} {old new : Scene} {end : Ended} {bytes after taken rest : List ℕ}
@@ -316,7 +316,7 @@ module _ {S : Type 0} {calls : S → S → ℕ → Result ℕ Failed → Type 0}
               };
               read = λ _ e. let apart = sym cut_off ∙ e in cc;
               written = λ _.
-                  inr (kind, cut, whole.0.ends, HasNoRoom-behind takes taking (texts s.answers) text s.room full);
+                  inr (kind, cut, whole.0.ends, HasNoRoom-following takes taking (texts s.answers) text s.room full);
               available = s.settled;
             }
       ]
@@ -326,9 +326,9 @@ module _ {S : Type 0} {calls : S → S → ℕ → Result ℕ Failed → Type 0}
   -- a response was written in part
   pub ends_write_fault : {last at : S} {held : List ℕ} (given : List (Reading S)) {reads : Type 0}
       {takes taking : ℕ → Type 0} {keeps keeping : Type 0} {limit : ℕ} {old mid new : Scene} {count : ℕ}
-      {window : List ℕ} (request : WholeRequest) {behind text : List ℕ}
+      {window : List ℕ} (request : WholeRequest) {following text : List ℕ}
       → Serving calls source last held keeps takes taking limit old mid count window → count < limit
-      → ReadsOn calls last held given at window → BeginsRequest window request.0 request.1 behind
+      → ReadsOn calls last held given at window → BeginsRequest window request.0 request.1 following
       → IsAnswered keeping mid.tables (command_for request) ((count + 1) == limit) (asks_head request) new.tables text
       mid.uses new.uses
       → IfTold new.told new.tables → TellsNoMore mid.told new.told → new.left ≡ mid.left
@@ -336,7 +336,7 @@ module _ {S : Type 0} {calls : S → S → ℕ → Result ℕ Failed → Type 0}
       → Rose mid.write_faults new.write_faults → HasNoRoom taking text → (keeps → keeping)
       → new.read_faults ≡ mid.read_faults → mid.write_faults ≤ new.write_faults
       → Serves calls source at reads takes keeps limit old new ended.WriteFault
-  ends_write_fault {last} {at} {held} given {takes} {taking} {limit} {old} {mid} {new} {window} request {behind}
+  ends_write_fault {last} {at} {held} given {takes} {taking} {limit} {old} {mid} {new} {window} request {following}
       {text} s below on whole h told no_more same (size, short, added) rose full keeping_it read_faults write_faults =
       let last_one : Answered = answered request h in
       let answers : List Answered = s.answers ++ last_one ∷ [] in
@@ -361,8 +361,8 @@ module _ {S : Type 0} {calls : S → S → ℕ → Result ℕ Failed → Type 0}
         streams = streams_from left progress later (inl (cut, most), omega arith);
         prompt = record {
           last = at;
-          held = behind;
-          turns = TakesTurns-push calls source last at s.answers last_one held given window behind s.turns on whole;
+          held = following;
+          turns = TakesTurns-push calls source last at s.answers last_one held given window following s.turns on whole;
           ends = inl (cut, refl);
         };
         read = λ _ e. cc;
@@ -370,7 +370,7 @@ module _ {S : Type 0} {calls : S → S → ℕ → Result ℕ Failed → Type 0}
             inl (
               cut,
               subst (λ (t : List ℕ). HasNoRoom takes t) (sym (texts-push s.answers last_one))
-                  (HasNoRoom-behind takes taking (texts s.answers) text s.room full),
+                  (HasNoRoom-following takes taking (texts s.answers) text s.room full),
             );
         available = λ is. rw (failures-push s.answers last_one, s.settled is, h.settled (keeping_it is)) refl;
       }

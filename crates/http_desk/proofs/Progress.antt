@@ -115,16 +115,16 @@ Progress-takes limit old mid new taken answers rest more p took tables told uses
 
 -- a request at the front is answered
 pub Progress-answers : (limit : ℕ) (old mid new : Scene) (taken : List ℕ) (answers : List Answered) (rest : List ℕ)
-    (a : Answered) (behind : List ℕ) → Progress limit old mid taken answers rest
-    → BeginsRequest rest a.request.0 a.request.1 behind → IsServed mid.tables ((length answers + 1) == limit) a
+    (a : Answered) (following : List ℕ) → Progress limit old mid taken answers rest
+    → BeginsRequest rest a.request.0 a.request.1 following → IsServed mid.tables ((length answers + 1) == limit) a
     → RoseBy (failure a.outcome) mid.uses.faults new.uses.faults
     → RoseWithin (sure_calls a.outcome) (most_calls a.outcome) mid.uses.calls new.uses.calls → new.left ≡ mid.left →
     new.tables ≡ a.tables
-    → IfTold new.told new.tables → Progress limit old new taken (answers ++ a ∷ []) behind
-Progress-answers limit old mid new taken answers rest a behind p whole is failed called left tables told = record {
+    → IfTold new.told new.tables → Progress limit old new taken (answers ++ a ∷ []) following
+Progress-answers limit old mid new taken answers rest a following p whole is failed called left tables told = record {
   took = rw left p.took;
   begins = rw (requests-push answers a)
-      (Begins-push taken (requests answers) rest a.request behind p.begins whole);
+      (Begins-push taken (requests answers) rest a.request following p.begins whole);
   served = Served-push limit 0 old.tables answers a p.served
       (rw (zero-add (length answers)) (subst (λ (t : Rows). IsServed t ((length answers + 1) == limit) a) p.tables is));
   tables = tables ∙ sym (last_tables-push old.tables answers a);

@@ -42,9 +42,9 @@ TakesRest-then old mid new first second h k room has enough =
     subst new same rest
 
 -- a sink that took a front, and then has no room for a text, had none for both
-pub HasNoRoom-behind : (old new : ℕ → Type 0) (front text : List ℕ) → TakesRest old new (length front)
+pub HasNoRoom-following : (old new : ℕ → Type 0) (front text : List ℕ) → TakesRest old new (length front)
     → HasNoRoom new text → HasNoRoom old (front ++ text)
-HasNoRoom-behind old new front text rest full room has =
+HasNoRoom-following old new front text rest full room has =
     let size = length-append front text in
     lt_of_not-le (λ enough.
     let less = full (room - length front) (rest room has (omega (arith, size, enough))) in

@@ -28,41 +28,43 @@ answered {after} {text} request h = record { request = request; outcome = h.outc
 module _ {S : Type 0} (calls : S → S → ℕ → Result ℕ Failed → Type 0) (source : S) where
   -- one turn more
   AreTurns-push : (old last read : S) (held rest : List ℕ) (turns : List (Turn S)) (turn : Turn S)
-      (window behind : List ℕ) → AreTurns calls old held turns last rest → ReadsOn calls last rest turn.given read
+      (window following : List ℕ) → AreTurns calls old held turns last rest → ReadsOn calls last rest turn.given read
       window
-      → BeginsRequest window turn.answer.request.0 turn.answer.request.1 behind
-      → AreTurns calls old held (turns ++ turn ∷ []) read behind
-  AreTurns-push old last read held rest [] turn window behind same on whole = (
+      → BeginsRequest window turn.answer.request.0 turn.answer.request.1 following
+      → AreTurns calls old held (turns ++ turn ∷ []) read following
+  AreTurns-push old last read held rest [] turn window following same on whole = (
     read,
     window,
-    behind,
+    following,
     subst (λ (s : S). ReadsOn calls s held turn.given read window) same.0
         (subst (λ (b : List ℕ). ReadsOn calls last b turn.given read window) same.1 on),
     whole,
     (refl, refl),
   )
-  AreTurns-push old last read held rest (first ∷ turns) turn window behind
+  AreTurns-push old last read held rest (first ∷ turns) turn window following
       (seen, held_then, left, reads, begins, more) on whole = (
         seen,
         held_then,
         left,
         reads,
         begins,
-        AreTurns-push seen last read left rest turns turn window behind more on whole,
+        AreTurns-push seen last read left rest turns turn window following more on whole,
       )
 
   -- so the answers of turns are
   pub TakesTurns-push : (last read : S) (answers : List Answered) (a : Answered) (held : List ℕ) (given : List
       (Reading S))
-      (window behind : List ℕ) → TakesTurns calls source last answers held → ReadsOn calls last held given read window
-      → BeginsRequest window a.request.0 a.request.1 behind → TakesTurns calls source read (answers ++ a ∷ []) behind
-  TakesTurns-push last read answers a held given window behind t on whole =
+      (window following : List ℕ) → TakesTurns calls source last answers held
+          → ReadsOn calls last held given read window
+      → BeginsRequest window a.request.0 a.request.1 following
+          → TakesTurns calls source read (answers ++ a ∷ []) following
+  TakesTurns-push last read answers a held given window following t on whole =
       let turn : Turn S = record { given = given; answer = a } in
       record {
         turns = t.turns ++ turn ∷ [];
         are = ap (λ (l : List Answered). l ++ a ∷ []) t.are
             ∙ sym (map-append (λ (one : Turn S). one.answer) t.turns (turn ∷ []));
-        in_turn = AreTurns-push source last read [] held t.turns turn window behind t.in_turn on whole;
+        in_turn = AreTurns-push source last read [] held t.turns turn window following t.in_turn on whole;
       }
 
   -- so many requests were answered in full, and the window holds what was taken after them
@@ -141,32 +143,32 @@ module _ {S : Type 0} {calls : S → S → ℕ → Result ℕ Failed → Type 0}
 
   -- a request is answered, and its text is still to be written
   pub Serving-weighs : {last : S} {held : List ℕ} {steady : Type 0} {takes taking : ℕ → Type 0} {limit : ℕ}
-      {old mid : Scene} (new : Scene) {count : ℕ} {window : List ℕ} (request : WholeRequest) {behind text : List ℕ}
+      {old mid : Scene} (new : Scene) {count : ℕ} {window : List ℕ} (request : WholeRequest) {following text : List ℕ}
       {keeps : Type 0} (s : Serving calls source last held steady takes taking limit old mid count window)
-      → BeginsRequest window request.0 request.1 behind
+      → BeginsRequest window request.0 request.1 following
       → (h : IsAnswered keeps mid.tables (command_for request) ((count + 1) == limit) (asks_head request) new.tables
       text mid.uses new.uses)
       → IfTold new.told new.tables → new.left ≡ mid.left
-      → Progress limit old new s.taken (s.answers ++ answered request h ∷ []) behind
-  Serving-weighs {limit} {old} {mid} new {window} request {behind} s whole h told left =
-      Progress-answers limit old mid new s.taken s.answers window (answered request h) behind s.progress whole
+      → Progress limit old new s.taken (s.answers ++ answered request h ∷ []) following
+  Serving-weighs {limit} {old} {mid} new {window} request {following} s whole h told left =
+      Progress-answers limit old mid new s.taken s.answers window (answered request h) following s.progress whole
       (rw s.counted h.answers) h.failed h.called left refl told
 
   -- a request is answered, and its text is written
   pub Serving-answers : {last read : S} {held : List ℕ} (given : List (Reading S)) {steady keeps : Type 0}
       {takes taking took : ℕ → Type 0} {limit : ℕ} {old mid new : Scene} {count : ℕ} {window : List ℕ}
-      (request : WholeRequest) {behind text : List ℕ}
+      (request : WholeRequest) {following text : List ℕ}
       → Serving calls source last held steady takes taking limit old mid count window
       → ReadsOn calls last held given read window
-      → BeginsRequest window request.0 request.1 behind
+      → BeginsRequest window request.0 request.1 following
       → IsAnswered keeps mid.tables (command_for request) ((count + 1) == limit) (asks_head request) new.tables text
       mid.uses new.uses
       → IfTold new.told new.tables → TellsNoMore mid.told new.told → new.left ≡ mid.left
       → Appends mid.written new.written text
       → new.read_faults ≡ mid.read_faults → mid.write_faults ≤ new.write_faults → (steady → keeps)
       → TakesRest taking took (length text)
-      → Serving calls source read behind steady takes took limit old new (count + 1) behind
-  Serving-answers {last} {read} {held} given {takes} {taking} {took} {old} {mid} {new} {window} request {behind}
+      → Serving calls source read following steady takes took limit old new (count + 1) following
+  Serving-answers {last} {read} {held} given {takes} {taking} {took} {old} {mid} {new} {window} request {following}
       {text} s on whole h told no_more left written read_faults later keeping room = record {
         taken = s.taken;
         answers = s.answers ++ answered request h ∷ [];
@@ -182,6 +184,7 @@ module _ {S : Type 0} {calls : S → S → ℕ → Result ℕ Failed → Type 0}
         settled = λ is. rw (failures-push s.answers (answered request h), s.settled is, h.settled (keeping is)) refl;
         room = rw (texts-push s.answers (answered request h), length-append (texts s.answers) text)
             (TakesRest-then takes taking took (length (texts s.answers)) (length text) s.room room);
-        turns = TakesTurns-push calls source last read s.answers (answered request h) held given window behind s.turns
+        turns = TakesTurns-push calls source last read s.answers
+            (answered request h) held given window following s.turns
             on whole;
       }

@@ -205,7 +205,7 @@ in_order (line ∷ next ∷ lines) up ((first_apart, others_apart), apart) =
       (
         first,
         each-weaker (λ other. comes_before next other ≡ true) (λ other. comes_before line other ≡ true)
-            (λ other behind. comes_before-onward line next other first behind) lines more.0,
+            (λ other following. comes_before-onward line next other first following) lines more.0,
       ),
       more,
     )

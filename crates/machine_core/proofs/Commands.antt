@@ -18,7 +18,7 @@ use Rattle.fix_model.specs.States.{uncovered_count}
 use Rattle.master_rows.specs.declared.master.Master.{Master}
 use Rattle.master_rows.specs.Sheet.{read_sheet}
 use Rattle.machine_core.specs.Answers.{state_of}
-use Rattle.machine_core.specs.Checked.{Gives, each, each_behind}
+use Rattle.machine_core.specs.Checked.{Gives, each, each_following}
 use Rattle.machine_core.specs.Clerk.Batch.{another_column, batch_deed, enter_batch, row_session}
 use Rattle.machine_core.specs.Clerk.Carry.{carried_to, carry_row}
 use Rattle.machine_core.specs.Clerk.Commit.{accepts, commit_rows, fixed_end, record_at}
@@ -108,7 +108,7 @@ pub record IsBatched (published : Published) (own : Own) (name body : List ℕ) 
   pub newest : newest_edition published.editions name ≡ Some edition
   pub binds : bound_at published edition ≡ Some bound
   pub reads : read_sheet body ≡ Ok sheet
-  pub found : Gives (each_behind [] (another_column bound.names.attributes) sheet.columns) (Ok columns)
+  pub found : Gives (each_following [] (another_column bound.names.attributes) sheet.columns) (Ok columns)
   pub active : active_count own.sessions + length sheet.grid.rows ≤ limit_of which.ActiveSessions
   pub few : length own.sessions + length sheet.grid.rows ≤ limit_of which.Sessions
   pub batches : length own.batches + 1 ≤ limit_of which.Batches
@@ -236,7 +236,7 @@ module _ (published : Published) (own : Own) where
         newest = newest;
         binds = binds;
         reads = reads;
-        found = Gives-Met (each_behind [] (another_column bound.names.attributes) sheet.columns) (Ok columns) found;
+        found = Gives-Met (each_following [] (another_column bound.names.attributes) sheet.columns) (Ok columns) found;
         active = few-stand which.ActiveSessions (active_count own.sessions + length sheet.grid.rows) active;
         few = few-stand which.Sessions (length own.sessions + length sheet.grid.rows) sessions;
         batches = few-stand which.Batches (length own.batches + 1) batches;

@@ -26,7 +26,7 @@ use Rattle.master_rows.specs.Master.{IsMaster}
 use Rattle.master_rows.specs.Sheet.{read_sheet}
 use Rattle.master_rows.proofs.Masters.{IsMaster-read_sheet}
 use Rattle.region_derive.specs.Derived.{ArePairs, IsDerived, texts_in}
-use Rattle.machine_core.specs.Checked.{each_behind, some_or}
+use Rattle.machine_core.specs.Checked.{each_following, some_or}
 use Rattle.machine_core.specs.Checked.{IsFound, run}
 use Rattle.machine_core.specs.Checked.{Gives}
 use Rattle.machine_core.specs.declared.derivation.Derivation.{Derivation}
@@ -43,7 +43,7 @@ use Rattle.machine_core.proofs.Stopping.{EndsWith-stopped}
 use Rattle.machine_core.proofs.Walks.{Gives-Met, Met-Gives}
 use Rattle.machine_core.proofs.Distinct.{AreDistinct, another-place, no-places}
 use Rattle.machine_core.proofs.EditionWords.{words-bound}
-use Rattle.machine_core.proofs.Tested.{each_behind-all, each_behind-length}
+use Rattle.machine_core.proofs.Tested.{each_following-all, each_following-length}
 use Rattle.machine_core.proofs.Widths.{edition-stands, kit-width}
 
 -- the word at the place that is found for it is that word
@@ -93,7 +93,7 @@ module _ (words names : List (List ℕ)) where
 
   -- the attributes of pairs are found by their words
   attributes-named : (pairs : List (List ℕ × List ℕ)) (before found : List (ℕ × ℕ))
-      → Gives (each_behind before (another_pair words names) pairs) (Ok found)
+      → Gives (each_following before (another_pair words names) pairs) (Ok found)
       → map (λ place. name_at words place.0) found
       ≡ map (λ place. name_at words place.0) before ++ map (λ pair. pair.0) pairs
   attributes-named [] before found gives =
@@ -104,12 +104,12 @@ module _ (words names : List (List ℕ)) where
       let word : (ℕ × ℕ) → List ℕ = λ place. name_at words place.0 in
       let rest : List (List ℕ) = map (λ (one : List ℕ × List ℕ). one.0) others in
       let (here, is_here, is_rest) =
-      Met-Gives (each_behind before (another_pair words names) (pair ∷ others)) (Ok found) gives in
+      Met-Gives (each_following before (another_pair words names) (pair ∷ others)) (Ok found) gives in
       let (attribute, is_attribute, (column, is_column, same)) = is_here in
       let named : word here ≡ pair.0 = ap word same ∙ word-found words (map first before) pair.0 attribute
       (Gives-Met (another_attribute words (map first before) pair.0) (Ok attribute) is_attribute) in
       attributes-named others (before ++ here ∷ []) found
-      (Gives-Met (each_behind (before ++ here ∷ []) (another_pair words names) others) (Ok found) is_rest)
+      (Gives-Met (each_following (before ++ here ∷ []) (another_pair words names) others) (Ok found) is_rest)
       ∙ ap (λ list. list ++ rest) (map_push word before here)
       ∙ append_assoc (map word before) (word here ∷ []) rest
       ∙ ap (λ one. map word before ++ one ∷ rest) named
@@ -118,13 +118,13 @@ module _ (words names : List (List ℕ)) where
       → Gives (places_of words names pairs) (Ok found) → ArePlaces words names pairs found
   places-found pairs found gives =
       let (places, are_places, same) = Met-Gives (places_of words names pairs) (Ok found) gives in
-      let given = Gives-Met (each_behind [] (another_pair words names) pairs) (Ok places) are_places in
+      let given = Gives-Met (each_following [] (another_pair words names) pairs) (Ok places) are_places in
       let start : ArePairsSoFar [] = record
       { attributes = no-places (length words); columns = no-places (length names) } in
-      let are : ArePairsSoFar places = each_behind-all ArePairsSoFar (another_pair words names) pairs [] places
+      let are : ArePairsSoFar places = each_following-all ArePairsSoFar (another_pair words names) pairs [] places
       (λ sofar pair place are one. another-pair sofar pair place are one) start given in
       let count : length places ≡ length pairs =
-      omega (arith, each_behind-length (another_pair words names) pairs [] places given) in
+      omega (arith, each_following-length (another_pair words names) pairs [] places given) in
       let first : (ℕ × ℕ) → ℕ = λ place. place.0 in
       let second : (ℕ × ℕ) → ℕ = λ place. place.1 in
       subst (ArePlaces words names pairs) (sym same) (record {

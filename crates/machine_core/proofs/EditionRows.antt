@@ -6,7 +6,7 @@ use Rattle.desk_words.specs.declared.limit.Which.TheVariants as which
 use Rattle.desk_words.specs.declared.refusal.Kind.TheVariants as kind
 use Rattle.desk_words.specs.declared.refusal.Refusal.TheVariants.{NoSuch}
 use Rattle.desk_words.specs.Tables.{Published}
-use Rattle.machine_core.specs.Checked.{IsFound, done, each_behind, run, some_or, ◌>>=◌}
+use Rattle.machine_core.specs.Checked.{IsFound, done, each_following, run, some_or, ◌>>=◌}
 use Rattle.machine_core.specs.Finding.{rulebook_named}
 use Rattle.machine_core.specs.Limits.{within}
 use Rattle.machine_core.specs.Steward.AddEdition.{another_master, bindable, edition_row, in_order, next_edition}
@@ -18,9 +18,9 @@ pub edition-tested : (published : Published) (name : List ℕ) (rulebook : List 
     → IsFound (tests.proper_name name) tt
     → IsFound (some_or (rulebook_named published.rulebooks rulebook.0 rulebook.1) (NoSuch kind.Rulebook)) book
     → rules_at published book ≡ Some rules
-    → IsFound (each_behind [] (tests.another_attribute rules.schema.attributes) folded) attributes
+    → IsFound (each_following [] (tests.another_attribute rules.schema.attributes) folded) attributes
     → IsFound (within which.EditionMasters (length masters)) tt
-    → IsFound (each_behind [] (another_master published.masters) masters) places
+    → IsFound (each_following [] (another_master published.masters) masters) places
     → IsFound (within which.Editions (length published.editions + 1)) tt
     → let row = next_edition published.editions name book places (in_order attributes (length rules.schema.attributes))
     in run (edition_row published name rulebook masters folded) ≡ run (bindable published row >>= (λ _. done row))

@@ -3,7 +3,8 @@ use Rattle.std.proofs.Common.{◌≡◌, ◌∙◌, ℕ, ◌+◌, ◌<◌, ◌�
 use Rattle.std.proofs.Common.{Ok, append_assoc, drop-cons, add-one}
 use Rattle.std.proofs.lemmas.List.{append-nil, drop_all}
 use Rattle.desk_words.specs.declared.refusal.Refusal.{Refusal}
-use Rattle.machine_core.specs.Checked.{Checked, IsFound, IsRefused, and_then, done, each, each_behind, run, told, ◌>>=◌}
+use Rattle.machine_core.specs.Checked.{Checked, IsFound, IsRefused, and_then, done, each}
+use Rattle.machine_core.specs.Checked.{each_following, run, told, ◌>>=◌}
 use Rattle.machine_core.proofs.Chains.{and_then-assoc, bind-done}
 
 -- what is found stands after what was found before
@@ -42,20 +43,20 @@ joined-refused find items place item before refusal within here is =
     rw (drop-cons items place item within, first) refl
 
 -- the next item is found among those before it
-pub behind-step : {A B : Type 0} (find : List B → A → Checked B) (items : List A) (place : ℕ) (item : A)
+pub following-step : {A B : Type 0} (find : List B → A → Checked B) (items : List A) (place : ℕ) (item : A)
     (before after : List B) (found : B) → place < length items → item ≡ get_or items place item
     → IsFound (find before item) found → after ≡ before ++ found ∷ []
-    → run (each_behind before find (drop place items)) ≡ run (each_behind after find (drop (place + 1) items))
-behind-step find items place item before after found within here is more =
+    → run (each_following before find (drop place items)) ≡ run (each_following after find (drop (place + 1) items))
+following-step find items place item before after found within here is more =
     let first : IsFound (find before (get_or items place item)) found =
     ap (λ one. run (find before one)) (sym here) ∙ is in
     rw (more, drop-cons items place item within, first, add-one place) refl
 
 -- the next item is refused among those before it: so are all
-pub behind-refused : {A B : Type 0} (find : List B → A → Checked B) (items : List A) (place : ℕ) (item : A)
+pub following-refused : {A B : Type 0} (find : List B → A → Checked B) (items : List A) (place : ℕ) (item : A)
     (before : List B) (refusal : Refusal) → place < length items → item ≡ get_or items place item
-    → IsRefused (find before item) refusal → IsRefused (each_behind before find (drop place items)) refusal
-behind-refused find items place item before refusal within here is =
+    → IsRefused (find before item) refusal → IsRefused (each_following before find (drop place items)) refusal
+following-refused find items place item before refusal within here is =
     let first : IsRefused (find before (get_or items place item)) refusal =
     ap (λ one. run (find before one)) (sym here) ∙ is in
     rw (drop-cons items place item within, first) refl

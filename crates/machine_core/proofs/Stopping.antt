@@ -3,9 +3,9 @@ use Rattle.std.specs.Prelude.{Result, Ok, Err, IsErrAnd}
 use Rattle.std.proofs.Common.{refl, ◌≡◌, ◌∙◌, ◌<◌, ℕ, List, drop, get_or, length, sym}
 use Rattle.machine_core.specs.declared.stop.Stop.{Stop}
 use Rattle.machine_core.specs.declared.stop.Stop.TheVariants.{Refused, NoMemory}
-use Rattle.machine_core.specs.Checked.{Checked, IsFound, Outcome, and_then, each, each_behind, run, ◌>>=◌}
+use Rattle.machine_core.specs.Checked.{Checked, IsFound, Outcome, and_then, each, each_following, run, ◌>>=◌}
 use Rattle.machine_core.specs.Outcomes.{EndsWith, Finds}
-use Rattle.machine_core.proofs.Joined.{behind-refused, joined, joined-refused}
+use Rattle.machine_core.proofs.Joined.{following-refused, joined, joined-refused}
 
 -- chains that come to the same are found alike
 pub Finds-same : {A : Type 0} (checked other : Checked A) (result : Result A Stop) → run checked ≡ run other
@@ -33,15 +33,15 @@ pub Finds-stopped : {A B : Type 0} (checked : Checked A) (next : A → Checked B
 Finds-stopped checked next = EndsWith-stopped (run checked) (λ value. run (next value))
 
 -- tests of one item after another stop where the next one does, among those before it
-pub Finds-behind : {A B : Type 0} (find : List B → A → Checked B) (items : List A) (place : ℕ) (item : A)
+pub Finds-following : {A B : Type 0} (find : List B → A → Checked B) (items : List A) (place : ℕ) (item : A)
     (before : List B) (stop : Stop) (whole : Outcome (List B)) (result : Result (List B) Stop)
     → IsErrAnd result (λ one. one ≡ stop) → place < length items → item ≡ get_or items place item
-    → whole ≡ run (each_behind before find (drop place items)) → Finds {A = B} (Err stop) (find before item)
+    → whole ≡ run (each_following before find (drop place items)) → Finds {A = B} (Err stop) (find before item)
     → EndsWith result whole
-Finds-behind find items place item before stop whole (Ok value) is within here all finds = absurd is
-Finds-behind find items place item before (Refused refusal) whole (Err other) is within here all finds =
-    rw is (all ∙ behind-refused find items place item before refusal within here finds)
-Finds-behind find items place item before NoMemory whole (Err other) is within here all finds = rw is tt
+Finds-following find items place item before stop whole (Ok value) is within here all finds = absurd is
+Finds-following find items place item before (Refused refusal) whole (Err other) is within here all finds =
+    rw is (all ∙ following-refused find items place item before refusal within here finds)
+Finds-following find items place item before NoMemory whole (Err other) is within here all finds = rw is tt
 
 -- and so they do each for itself
 pub Finds-each : {A B : Type 0} (find : A → Checked B) (items : List A) (place : ℕ) (item : A) (before : List B)

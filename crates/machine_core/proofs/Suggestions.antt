@@ -16,7 +16,7 @@ use Rattle.region_suggest.specs.Hope.{AreAllHoped}
 use Rattle.region_suggest.specs.Need.{IsGivenWithout, IsNeed, IsNeeded}
 use Rattle.region_suggest.specs.Offers.{IsOffer, IsOfferBefore, ListsExactly}
 use Rattle.region_suggest.specs.Suggestions.{AdvisesAtFix, AdvisesNothing, IsSuggestion}
-use Rattle.fix_engine.proofs.Lists.{Contains-behind, Contains-cases, Contains-first}
+use Rattle.fix_engine.proofs.Lists.{Contains-following, Contains-cases, Contains-first}
 use Rattle.region_suggest.proofs.Lists.{Contains-nil}
 
 -- the first of a list in order comes before each that the list contains after it
@@ -38,19 +38,19 @@ module _ {A : Type 0} (R : A → A → Type 0) (apart : (one other : A) → R on
       → Contains (other ∷ others) first → Contains (first ∷ rest) other → first ≡ other
   same-first first other rest others in_order in_order_too there here = elim (Contains-cases other first others there) [
     | inl same ↦ same
-    | inr behind ↦ elim (Contains-cases first other rest here) [
+    | inr following ↦ elim (Contains-cases first other rest here) [
       | inl same ↦ sym same
-      | inr behind_too ↦ absurd (apart first other (first-before R first rest in_order other behind_too)
-          (first-before R other others in_order_too first behind))
+      | inr following_too ↦ absurd (apart first other (first-before R first rest in_order other following_too)
+          (first-before R other others in_order_too first following))
     ]
   ]
 
   -- an item that the one list contains after its first is after the first of the other
-  contains-behind : (first : A) (rest others : List A) → AllPairs R (first ∷ rest) → (one : A) → Contains rest one
+  contains-following : (first : A) (rest others : List A) → AllPairs R (first ∷ rest) → (one : A) → Contains rest one
       → Contains (first ∷ others) one → Contains others one
-  contains-behind first rest others in_order one behind there = elim (Contains-cases first one others there) [
+  contains-following first rest others in_order one following there = elim (Contains-cases first one others there) [
     | inl same ↦ absurd (strict one (subst (λ other. R other one) (sym same)
-        (first-before R first rest in_order one behind)))
+        (first-before R first rest in_order one following)))
     | inr found ↦ found
   ]
 
@@ -64,15 +64,15 @@ module _ {A : Type 0} (R : A → A → Type 0) (apart : (one other : A) → R on
   same-in_order (first ∷ rest) (other ∷ others) in_order in_order_too same =
       let is : first ≡ other = same-first first other rest others in_order in_order_too
       ((same first).0 (Contains-first first rest)) ((same other).1 (Contains-first other others)) in
-      let left : (one : A) → Contains rest one → Contains others one = λ one behind.
-      contains-behind first rest others in_order one behind (subst (λ head. Contains (head ∷ others) one) (sym is)
-      ((same one).0 (Contains-behind first one rest behind))) in
-      let right : (one : A) → Contains others one → Contains rest one = λ one behind.
-      contains-behind other others rest in_order_too one behind (subst (λ head. Contains (head ∷ rest) one) is
-      ((same one).1 (Contains-behind other one others behind))) in
-      let behind : rest ≡ others = same-in_order rest others (rest-in_order R first rest in_order)
+      let left : (one : A) → Contains rest one → Contains others one = λ one following.
+      contains-following first rest others in_order one following (subst (λ head. Contains (head ∷ others) one) (sym is)
+      ((same one).0 (Contains-following first one rest following))) in
+      let right : (one : A) → Contains others one → Contains rest one = λ one following.
+      contains-following other others rest in_order_too one following (subst (λ head. Contains (head ∷ rest) one) is
+      ((same one).1 (Contains-following other one others following))) in
+      let following : rest ≡ others = same-in_order rest others (rest-in_order R first rest in_order)
       (rest-in_order R other others in_order_too) (λ one. (left one, right one)) in
-      ap (λ head. head ∷ rest) is ∙ ap (λ tail. other ∷ tail) behind
+      ap (λ head. head ∷ rest) is ∙ ap (λ tail. other ∷ tail) following
 
 -- the rows that are offered
 offer-apart : (one other : ℕ × ℕ) → IsOfferBefore one other → IsOfferBefore other one → ⊥
@@ -110,7 +110,7 @@ module _ (kit : Kit) (state : State) where
   needed-alike : (need other : List ℕ) (attribute : ℕ)
       → ((later : ℕ) → attribute < later → Contains other later → Contains need later)
       → IsNeeded kit state need attribute → IsNeeded kit state other attribute
-  needed-alike need other attribute behind is = record {
+  needed-alike need other attribute following is = record {
     within = is.within;
     uncovered = is.uncovered;
     missed = λ hoped. is.missed (all-hoped (IsGivenWithout state other attribute) (IsGivenWithout state need attribute)
@@ -119,7 +119,7 @@ module _ (kit : Kit) (state : State) where
     where
       given : (one : ℕ) → IsGivenWithout state other attribute one → IsGivenWithout state need attribute one
       given one (inl before) = inl before
-      given one (inr after) = inr (after.0, behind one after.0 after.1)
+      given one (inr after) = inr (after.0, following one after.0 after.1)
 
   -- so the attributes that are needed are the same, from the last one on
   needed-from : (need other : List ℕ) → IsNeed kit state need → IsNeed kit state other → (left attribute : ℕ)
@@ -128,7 +128,7 @@ module _ (kit : Kit) (state : State) where
       absurd (omega (arith, ((is.each attribute).0 there).within, last))
   needed-from need other is is_too (suc left) attribute last there =
       (is_too.each attribute).1 (needed-alike need other attribute
-      (λ later behind found. needed-from other need is_too is left later (omega arith) found)
+      (λ later following found. needed-from other need is_too is left later (omega arith) found)
       ((is.each attribute).0 there))
 
   same-need : (need other : List ℕ) → IsNeed kit state need → IsNeed kit state other → need ≡ other

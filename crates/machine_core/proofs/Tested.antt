@@ -8,7 +8,7 @@ use Rattle.std.proofs.lemmas.List.Elements.{All-cons, All-nil, Contains-append_r
 use Rattle.desk_words.specs.declared.limit.Which.{Which}
 use Rattle.desk_words.specs.declared.refusal.Refusal.{Refusal}
 use Rattle.desk_words.specs.declared.refusal.Refusal.TheVariants.{Limit}
-use Rattle.machine_core.specs.Checked.{Checked, done, ◌>>=◌, certainly, each, each_behind, some_or, unless, value_or}
+use Rattle.machine_core.specs.Checked.{Checked, done, ◌>>=◌, certainly, each, each_following, some_or, unless, value_or}
 use Rattle.machine_core.specs.Checked.{IsFound, ComesTo, Outcome, and_then, run}
 use Rattle.machine_core.specs.Checked.{Gives}
 use Rattle.machine_core.specs.Limits.{limit_of, within}
@@ -125,26 +125,26 @@ each-err {A} {B} find (first ∷ others) refusal gives =
     ]
 
 -- where each item passes after those before it, what each leaves so holds of all
-pub each_behind-all : {A B : Type 0} (P : List B → Type 0) (find : List B → A → Checked B) (items : List A)
+pub each_following-all : {A B : Type 0} (P : List B → Type 0) (find : List B → A → Checked B) (items : List A)
     (before found : List B)
     → ((sofar : List B) (item : A) (value : B) → P sofar → Gives (find sofar item) (Ok value) → P (sofar ++ value ∷ []))
-    → P before → Gives (each_behind before find items) (Ok found) → P found
-each_behind-all P find [] before found holds start gives = subst P (sym (done-value before found gives)) start
-each_behind-all P find (first ∷ others) before found holds start gives =
+    → P before → Gives (each_following before find items) (Ok found) → P found
+each_following-all P find [] before found holds start gives = subst P (sym (done-value before found gives)) start
+each_following-all P find (first ∷ others) before found holds start gives =
     let (here, is_here, left) =
-    Gives-bind_ok (find before first) (λ one. each_behind (before ++ one ∷ []) find others) found gives in
-    each_behind-all P find others (before ++ here ∷ []) found holds (holds before first here start is_here) left
+    Gives-bind_ok (find before first) (λ one. each_following (before ++ one ∷ []) find others) found gives in
+    each_following-all P find others (before ++ here ∷ []) found holds (holds before first here start is_here) left
 
 -- as many are found as there are items, after those before them
-pub each_behind-length : {A B : Type 0} (find : List B → A → Checked B) (items : List A) (before found : List B)
-    → Gives (each_behind before find items) (Ok found) → length found ≡ length before + length items
-each_behind-length find [] before found gives = omega (arith, ap length (done-value before found gives))
-each_behind-length find (first ∷ others) before found gives =
+pub each_following-length : {A B : Type 0} (find : List B → A → Checked B) (items : List A) (before found : List B)
+    → Gives (each_following before find items) (Ok found) → length found ≡ length before + length items
+each_following-length find [] before found gives = omega (arith, ap length (done-value before found gives))
+each_following-length find (first ∷ others) before found gives =
     let (here, is_here, left) =
-    Gives-bind_ok (find before first) (λ one. each_behind (before ++ one ∷ []) find others) found gives in
+    Gives-bind_ok (find before first) (λ one. each_following (before ++ one ∷ []) find others) found gives in
     omega (
       arith,
-      each_behind-length find others (before ++ here ∷ []) found left,
+      each_following-length find others (before ++ here ∷ []) found left,
       length-append before (here ∷ []),
     )
 
@@ -212,16 +212,16 @@ pub record IsRefusedAt {A B : Type 0} (find : List B → A → Checked B) (befor
   pub later : List A
   pub sofar : List B
   pub same : items ≡ earlier ++ item ∷ later
-  pub passed : Gives (each_behind before find earlier) (Ok sofar)
+  pub passed : Gives (each_following before find earlier) (Ok sofar)
   pub refused_so : Gives (find sofar item) (Err refusal)
 
 -- where such a list is refused, it is so at an item
-pub each_behind-refused : {A B : Type 0} (find : List B → A → Checked B) (items : List A) (before : List B)
-    (refusal : Refusal) → Gives (each_behind before find items) (Err refusal)
+pub each_following-refused : {A B : Type 0} (find : List B → A → Checked B) (items : List A) (before : List B)
+    (refusal : Refusal) → Gives (each_following before find items) (Err refusal)
     → IsRefusedAt find before items refusal
-each_behind-refused find [] before refusal gives = absurd (cc)
-each_behind-refused find (first ∷ others) before refusal gives =
-    elim (Gives-bind_err (find before first) (λ one. each_behind (before ++ one ∷ []) find others) refusal gives) [
+each_following-refused find [] before refusal gives = absurd (cc)
+each_following-refused find (first ∷ others) before refusal gives =
+    elim (Gives-bind_err (find before first) (λ one. each_following (before ++ one ∷ []) find others) refusal gives) [
       | inl here ↦ record {
         earlier = [];
         item = first;
@@ -233,14 +233,14 @@ each_behind-refused find (first ∷ others) before refusal gives =
       }
       | inr there ↦
           let (found, is_found, left) = there in
-          let rest = each_behind-refused find others (before ++ found ∷ []) refusal left in
+          let rest = each_following-refused find others (before ++ found ∷ []) refusal left in
           record {
             earlier = first ∷ rest.earlier;
             item = rest.item;
             later = rest.later;
             sofar = rest.sofar;
             same = ap (λ more. first ∷ more) rest.same;
-            passed = Gives-bind (find before first) (λ one. each_behind (before ++ one ∷ []) find rest.earlier) found
+            passed = Gives-bind (find before first) (λ one. each_following (before ++ one ∷ []) find rest.earlier) found
                 (Ok rest.sofar) is_found rest.passed;
             refused_so = rest.refused_so;
           }
@@ -254,16 +254,16 @@ pub record IsFoundFor {A B : Type 0} (find : List B → A → Checked B) (items 
   pub gave : Gives (find sofar item) (Ok value)
 
 -- each value that is found after others was found for an item
-pub each_behind-found : {A B : Type 0} (find : List B → A → Checked B) (items : List A) (before sofar : List B)
+pub each_following-found : {A B : Type 0} (find : List B → A → Checked B) (items : List A) (before sofar : List B)
     (value : B)
-    → Gives (each_behind before find items) (Ok sofar) → Contains sofar value
+    → Gives (each_following before find items) (Ok sofar) → Contains sofar value
     → Contains before value ⊎ IsFoundFor find items value
-each_behind-found find [] before sofar value gives there =
+each_following-found find [] before sofar value gives there =
     inl (subst (λ list. Contains list value) (done-value before sofar gives) there)
-each_behind-found find (first ∷ others) before sofar value gives there =
+each_following-found find (first ∷ others) before sofar value gives there =
     let (here, is_here, left) =
-    Gives-bind_ok (find before first) (λ one. each_behind (before ++ one ∷ []) find others) sofar gives in
-    elim (each_behind-found find others (before ++ here ∷ []) sofar value left there) [
+    Gives-bind_ok (find before first) (λ one. each_following (before ++ one ∷ []) find others) sofar gives in
+    elim (each_following-found find others (before ++ here ∷ []) sofar value left there) [
       | inl found ↦ elim (Contains-push_cases before here value found) [
         | inl earlier ↦ inl earlier
         | inr is ↦ inr (record {

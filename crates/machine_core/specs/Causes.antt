@@ -50,7 +50,7 @@ use Rattle.schema_core.specs.declared.fault.SchemaFault.{SchemaFault}
 use Rattle.schema_core.specs.declared.schema.Schema.{Schema}
 use Rattle.schema_core.specs.Reading.{schema_of}
 use Rattle.machine_core.specs.Answers.{state_of}
-use Rattle.machine_core.specs.Checked.{Answer, each, each_behind, Gives, IsFound}
+use Rattle.machine_core.specs.Checked.{Answer, each, each_following, Gives, IsFound}
 use Rattle.machine_core.specs.declared.column.Column.{Column}
 use Rattle.machine_core.specs.Clerk.Batch.{another_column, row_session}
 use Rattle.machine_core.specs.Clerk.Commit.{record_at}
@@ -238,7 +238,7 @@ HoldsBytes rows (Clerk name ticket (Batch edition body)) own count =
     (place : ℕ) × (bound : Bound) × (sheet : Master) × (columns : List Column)
     × (newest_edition rows.editions edition ≡ Some place) × (bound_at (published_of rows) place ≡ Some bound)
     × (read_sheet body ≡ Ok sheet)
-    × Gives (each_behind [] (another_column bound.names.attributes) sheet.columns) (Ok columns)
+    × Gives (each_following [] (another_column bound.names.attributes) sheet.columns) (Ok columns)
     × (count ≡ text_bytes own.sessions own.records + typed_bytes (map (row_session place
     (length bound.names.attributes) (length own.batches + 1) columns) sheet.grid.rows))
 HoldsBytes rows _ own count = ⊥

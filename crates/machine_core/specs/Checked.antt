@@ -102,11 +102,11 @@ each find (first ∷ others) = do
   done (found ∷ more)
 
 -- what is found of each item among those that were found before it, after these
-abbrev pub each_behind : {A B : Type 0} → List B → (List B → A → Checked B) → List A → Checked (List B)
-each_behind before find [] = done before
-each_behind before find (first ∷ others) = do
+abbrev pub each_following : {A B : Type 0} → List B → (List B → A → Checked B) → List A → Checked (List B)
+each_following before find [] = done before
+each_following before find (first ∷ others) = do
   found ← find before first
-  each_behind (before ++ found ∷ []) find others
+  each_following (before ++ found ∷ []) find others
 
 -- what the rules make of a state
 abbrev pub answer_for : Kit → State → Checked Answer

@@ -11,7 +11,7 @@ use Rattle.desk_valid.specs.Bindings.{bound_at}
 use Rattle.desk_valid.specs.Readings.{master_at}
 use Rattle.master_rows.specs.declared.master.Master.{Master}
 use Rattle.region_derive.specs.Derived.{ArePairs}
-use Rattle.machine_core.specs.Checked.{Checked, ◌>>=◌, ◌>>◌, certainly, done, each_behind, rows_for, some_or, unless}
+use Rattle.machine_core.specs.Checked.{Checked, ◌>>=◌, ◌>>◌, certainly, done, each_following, rows_for, some_or, unless}
 use Rattle.machine_core.specs.declared.derivation.Derivation.{Derivation}
 use Rattle.machine_core.specs.Finding.{edition_named}
 use Rattle.machine_core.specs.Steward.AddEdition.{master_name}
@@ -43,7 +43,7 @@ master_of published edition name = do
 -- the places of pairs: those of the attributes, and those of the columns, in their order
 abbrev pub places_of : List (List ℕ) → List (List ℕ) → List (List ℕ × List ℕ) → Checked (List ℕ × List ℕ)
 places_of attributes columns pairs = do
-  places ← each_behind [] (another_pair attributes columns) pairs
+  places ← each_following [] (another_pair attributes columns) pairs
   done (map (λ place. place.0) places, map (λ place. place.1) places)
 
 -- the tests, in their order, and what is asked: an edition, the rows of one of its masters, and the pairs

@@ -2,7 +2,7 @@
 ghost use Rattle.std.specs.Prelude.{◌≡◌, ◌<◌, ◌==◌, ℕ, List, All, IfOk, IfSome, length, position, []};
 ghost use Rattle.std.specs.List.{list_any};
 ghost use Rattle.std.specs.Str.{bytes_eq};
-ghost use Rattle.machine_core.specs.Checked.{each, each_behind};
+ghost use Rattle.machine_core.specs.Checked.{each, each_following};
 ghost use Rattle.machine_core.specs.Outcomes.{Finds};
 ghost use Rattle.machine_core.specs.Tests.{another_attribute, attribute_of, typed_cell};
 
@@ -96,7 +96,7 @@ pub fn another_attributes(
     words: &[Str],
 ) -> Result<List<u16>, Stop>
     requires { length attributes.now < 65536 }
-    ensures finds { Finds result (each_behind [] (another_attribute attributes.now) words.now) }
+    ensures finds { Finds result (each_following [] (another_attribute attributes.now) words.now) }
     ensures within { IfOk result (All (λ place. place < length attributes.now)) }
 {
     let mut places = List::new(alloc);

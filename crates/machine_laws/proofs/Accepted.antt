@@ -93,34 +93,34 @@ making-sound rows (AddDerived edition version master pairs from) making valid gi
 IsDone-own : (rows : Rows) (place : ℕ) (own : Own) (row : ClerkRow) (what : Act) (target : ℕ) → 0 < place
     → place < length rows.sessions → place < length rows.records → place < length rows.batches
     → HasOwnTarget own what target → IsDone (with_own rows place (record own { row = row })) place what target
-IsDone-own rows place own row act.Nothing target behind sessions records batches has = absurd has
-IsDone-own rows place own row act.Clerk target behind sessions records batches has = absurd has
-IsDone-own rows place own row act.Schema target behind sessions records batches has = absurd has
-IsDone-own rows place own row act.Master target behind sessions records batches has = absurd has
-IsDone-own rows place own row act.Rulebook target behind sessions records batches has = absurd has
-IsDone-own rows place own row act.Edition target behind sessions records batches has = absurd has
-IsDone-own rows place own row act.Region target behind sessions records batches has = absurd has
-IsDone-own rows place own row act.Opened target behind sessions records batches has = record {
+IsDone-own rows place own row act.Nothing target following sessions records batches has = absurd has
+IsDone-own rows place own row act.Clerk target following sessions records batches has = absurd has
+IsDone-own rows place own row act.Schema target following sessions records batches has = absurd has
+IsDone-own rows place own row act.Master target following sessions records batches has = absurd has
+IsDone-own rows place own row act.Rulebook target following sessions records batches has = absurd has
+IsDone-own rows place own row act.Edition target following sessions records batches has = absurd has
+IsDone-own rows place own row act.Region target following sessions records batches has = absurd has
+IsDone-own rows place own row act.Opened target following sessions records batches has = record {
   some = λ same. cc;
-  steward = λ first. absurd (omega (arith, first, behind));
+  steward = λ first. absurd (omega (arith, first, following));
   clerk = λ there. tt;
   stands = subst (λ list. target < length list) (sym (list_at-set_same rows.sessions place own.sessions sessions)) has;
 }
-IsDone-own rows place own row act.Changed target behind sessions records batches has = record {
+IsDone-own rows place own row act.Changed target following sessions records batches has = record {
   some = λ same. cc;
-  steward = λ first. absurd (omega (arith, first, behind));
+  steward = λ first. absurd (omega (arith, first, following));
   clerk = λ there. tt;
   stands = subst (λ list. target < length list) (sym (list_at-set_same rows.sessions place own.sessions sessions)) has;
 }
-IsDone-own rows place own row act.Committed target behind sessions records batches has = record {
+IsDone-own rows place own row act.Committed target following sessions records batches has = record {
   some = λ same. cc;
-  steward = λ first. absurd (omega (arith, first, behind));
+  steward = λ first. absurd (omega (arith, first, following));
   clerk = λ there. tt;
   stands = subst (λ list. target < length list) (sym (list_at-set_same rows.records place own.records records)) has;
 }
-IsDone-own rows place own row act.Batched target behind sessions records batches has = record {
+IsDone-own rows place own row act.Batched target following sessions records batches has = record {
   some = λ same. cc;
-  steward = λ first. absurd (omega (arith, first, behind));
+  steward = λ first. absurd (omega (arith, first, following));
   clerk = λ there. tt;
   stands = subst (λ list. target < length list) (sym (list_at-set_same rows.batches place own.batches batches)) has;
 }
@@ -155,7 +155,7 @@ module _ (rows : Rows) (valid : AreValid rows) (place : ℕ) (within : place < l
   pub AreValid-deed : (deed : Deed) → 0 < place → IsSoundDeed (published_of rows) (own_of rows place) deed
       → FitAll rows (changes_of place (own_of rows place).row ticket deed)
       × AreValid (changed_all rows (changes_of place (own_of rows place).row ticket deed))
-  AreValid-deed deed behind sound =
+  AreValid-deed deed following sound =
       let own : Own = own_of rows place in
       let new : Own = own_after own ticket deed in
       let changes : List Change = changes_of place own.row ticket deed in
@@ -171,7 +171,8 @@ module _ (rows : Rows) (valid : AreValid rows) (place : ℕ) (within : place < l
       (omega (arith, length-append own.batches (option_to_list deed.batch))) in
       let done : IsDone (with_own rows place new) place deed.act deed.target = IsDone-own rows place (after own deed)
       new.row
-      deed.act deed.target behind (omega (arith, valid.tables.sessions.each)) (omega (arith, valid.tables.records.each))
+      deed.act deed.target following (omega (arith, valid.tables.sessions.each)) (omega
+          (arith, valid.tables.records.each))
       (omega (arith, valid.tables.batches.each)) sound.target in
       (fit, subst AreValid (sym same) (ticketed-valid new deed.act deed.target refl done fewer sound.rows tables))
 
@@ -237,7 +238,7 @@ made-valid rows (Clerk name ticket work) made valid numbered gives =
       | inl again ↦ none-valid rows made.1 valid again.unchanged
       | inr new ↦ subst (λ changes. FitAll rows changes × AreValid (changed_all rows changes)) (sym new.changed)
           (AreValid-deed rows valid new.place new.is_place.within ticket numbered.0 numbered.1 new.deed
-          new.is_place.behind
+          new.is_place.following
           (deed-sound rows new.place work new.deed valid new.is_place.within new.does))
     ]
 made-valid rows (Look name look) made valid numbered gives =

@@ -19,7 +19,7 @@ use Rattle.region_suggest.specs.Hope.{IsHopeClosed, IsHoped}
 use Rattle.region_suggest.specs.Need.{IsGivenWithout, IsNeed, IsNeeded}
 use Rattle.fix_engine.proofs.Reach.{IsFlagged-cells}
 use Rattle.region_suggest.proofs.Counts.{count-covering, count-more, count-set}
-use Rattle.fix_engine.proofs.Lists.{Contains-behind, Contains-cases, Contains-first}
+use Rattle.fix_engine.proofs.Lists.{Contains-following, Contains-cases, Contains-first}
 use Rattle.region_suggest.proofs.Lists.{Contains-at, Contains-nil, IsFlagged-cases, IsFlagged-within}
 use Rattle.region_suggest.proofs.Needs.{AreAllHoped-more}
 use Rattle.region_suggest.proofs.Wider.{IsCovered-within}
@@ -28,14 +28,14 @@ use Rattle.machine_laws.proofs.Hoping.{decide_hoped, decide_needed, flags-where}
 -- the members from an attribute on are those that are needed
 record IsNeedFrom (kit : Kit) (state : State) (first : ℕ) (need : List ℕ) : Type 0 where
   in_order : AllPairs (λ earlier later. earlier < later) need
-  behind : (attribute : ℕ) → Contains need attribute → first ≤ attribute
+  following : (attribute : ℕ) → Contains need attribute → first ≤ attribute
   each : (attribute : ℕ) → first ≤ attribute → Contains need attribute ↔ IsNeeded kit state need attribute
 
 -- whether an attribute is needed turns on the members after it
 needed-same : (kit : Kit) (state : State) (need other : List ℕ) (attribute : ℕ)
     → ((later : ℕ) → attribute < later → Contains other later → Contains need later)
     → IsNeeded kit state need attribute → IsNeeded kit state other attribute
-needed-same kit state need other attribute behind is = record {
+needed-same kit state need other attribute following is = record {
   within = is.within;
   uncovered = is.uncovered;
   missed = λ hoped. is.missed (AreAllHoped-more kit state (IsGivenWithout state other attribute)
@@ -44,30 +44,30 @@ needed-same kit state need other attribute behind is = record {
   where
     given_too : (one : ℕ) → IsGivenWithout state other attribute one → IsGivenWithout state need attribute one
     given_too one (inl before) = inl before
-    given_too one (inr after) = inr (after.0, behind one after.0 after.1)
+    given_too one (inr after) = inr (after.0, following one after.0 after.1)
 
 -- an attribute that is needed is a member more
 need-cons : (kit : Kit) (state : State) (first : ℕ) (need : List ℕ) → IsNeedFrom kit state (first + 1) need
     → IsNeeded kit state need first → IsNeedFrom kit state first (first ∷ need)
 need-cons kit state first need from needed = record {
   in_order = AllPairs-cons (λ earlier later. earlier < later) first need
-      (λ place past inside. omega (arith, from.behind (get_or need place past) (Contains-at need place past inside)))
+      (λ place past inside. omega (arith, from.following (get_or need place past) (Contains-at need place past inside)))
       from.in_order;
-  behind = λ attribute there. elim (Contains-cases first attribute need there) [
+  following = λ attribute there. elim (Contains-cases first attribute need there) [
     | inl is ↦ omega (arith, is)
-    | inr later ↦ omega (arith, from.behind attribute later)
+    | inr later ↦ omega (arith, from.following attribute later)
   ];
   each = λ attribute past. (
     (λ there. elim (Contains-cases first attribute need there) [
       | inl is ↦ rw is (longer first (omega arith) needed)
       | inr later ↦ longer attribute (omega arith)
-          ((from.each attribute (from.behind attribute later)).0 later)
+          ((from.each attribute (from.following attribute later)).0 later)
     ]),
     λ is_needed. elim (cases_eq attribute first) [
       | inl is ↦ rw is (Contains-first first need)
-      | inr apart ↦ Contains-behind first attribute need ((from.each attribute (omega (arith, past, apart))).1
+      | inr apart ↦ Contains-following first attribute need ((from.each attribute (omega (arith, past, apart))).1
           (needed-same kit state (first ∷ need) need attribute
-          (λ later behind there. Contains-behind first later need there) is_needed))
+          (λ later following there. Contains-following first later need there) is_needed))
     ],
   );
 }
@@ -75,8 +75,8 @@ need-cons kit state first need from needed = record {
     longer : (attribute : ℕ) → first ≤ attribute → IsNeeded kit state need attribute
         → IsNeeded kit state (first ∷ need) attribute
     longer attribute past = needed-same kit state need (first ∷ need) attribute
-        (λ later behind there. elim (Contains-cases first later need there) [
-          | inl is ↦ absurd (omega (arith, is, behind, past))
+        (λ later following there. elim (Contains-cases first later need there) [
+          | inl is ↦ absurd (omega (arith, is, following, past))
           | inr found ↦ found
         ])
 
@@ -85,10 +85,10 @@ need-skip : (kit : Kit) (state : State) (first : ℕ) (need : List ℕ) → IsNe
     → ¬ IsNeeded kit state need first → IsNeedFrom kit state first need
 need-skip kit state first need from not_needed = record {
   in_order = from.in_order;
-  behind = λ attribute there. omega (arith, from.behind attribute there);
+  following = λ attribute there. omega (arith, from.following attribute there);
   each = λ attribute past. elim (cases_eq attribute first) [
     | inl is ↦ (
-      (λ there. absurd (omega (arith, from.behind attribute there, is))),
+      (λ there. absurd (omega (arith, from.following attribute there, is))),
       λ is_needed. absurd (not_needed (rw is at is_needed)),
     )
     | inr apart ↦ from.each attribute (omega (arith, past, apart))
@@ -102,7 +102,7 @@ need-from kit state fits zero first last = (
   [],
   record {
     in_order = λ i j past before within. absurd (omega (arith, within));
-    behind = λ attribute there. absurd (Contains-nil attribute there);
+    following = λ attribute there. absurd (Contains-nil attribute there);
     each = λ attribute past. (
       (λ there. absurd (Contains-nil attribute there)),
       λ needed. absurd (omega (arith, needed.within, last, past)),

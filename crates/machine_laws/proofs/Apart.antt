@@ -39,20 +39,20 @@ use Rattle.machine_laws.proofs.Unchanged.{step-unchanged}
 use Rattle.machine_laws.proofs.Writes.{IsStewardsNew, clerk_of-ok, desk-unchanged, look-unchanged, steward-cases}
 
 -- a clerk who comes with the steward's step has nothing yet
-behind-new : (rows : Rows) (valid : AreValid rows) (name : List ℕ) (ticket : Ticket) (work : StewardWork)
+following-new : (rows : Rows) (valid : AreValid rows) (name : List ℕ) (ticket : Ticket) (work : StewardWork)
     (answer : Reply)
     (changes : List Change) (place : ℕ) → IsStep rows (Steward ticket work) answer changes → length rows.clerks ≤ place
     → IsFound (clerk_of (changed_all rows changes).clerks name) place
     → own_of (changed_all rows changes) place ≡ new_own
     name
-behind-new rows valid name ticket work answer changes place step behind found =
+following-new rows valid name ticket work answer changes place step following found =
     elim (steward-cases rows ticket work answer changes step) [
       | inl none ↦
           let here : IsFound (clerk_of rows.clerks name) place =
           subst (λ made. IsFound (clerk_of (changed_all rows made).clerks name) place) none found in
           absurd (omega (
             arith,
-            behind,
+            following,
             (clerk_of-ok rows.clerks name place
                 (subst (λ one. ComesTo one (Ok place)) (sym here) refl)).within,
           ))
@@ -66,10 +66,10 @@ behind-new rows valid name ticket work answer changes place step behind found =
           subst (λ (one : Rows). IsFound (clerk_of one.clerks name) place) same found in
           let inside : place < length last.clerks = (clerk_of-ok last.clerks name place
           (subst (λ one. ComesTo one (Ok place)) (sym here) refl)).within in
-          let apart : place ≢ 0 = λ first. omega (arith, first, behind, valid.tables.steward) in
+          let apart : place ≢ 0 = λ first. omega (arith, first, following, valid.tables.steward) in
           let caller = get_or-set_other next.clerks 0 place row (new_clerk []) apart in
           let own : own_of last place ≡ own_of next place = λ i. record (own_of next place) { row = caller i } in
-          let made = sound.new place behind (omega (arith, inside, length-set next.clerks 0 row)) in
+          let made = sound.new place following (omega (arith, inside, length-set next.clerks 0 row)) in
           let named : made.0 ≡ name = ap (λ (one : Own). one.row.name) (sym (own ∙ made.1))
           ∙ clerk_of-named last.clerks name place (new_clerk []) here in
           ap (λ (one : Rows). own_of one place) same ∙ own ∙ made.1 ∙ ap new_own named
@@ -153,10 +153,10 @@ module _ (name : List ℕ) (rows other : Rows) (valid : AreValid rows) (valid_to
         same_place is = cc
 
     -- and one who comes with the step has nothing yet
-    own-behind : (place : ℕ) → position (λ row. bytes_eq row.name name) (drop 1 rows.clerks) ≡ None
+    own-following : (place : ℕ) → position (λ row. bytes_eq row.name name) (drop 1 rows.clerks) ≡ None
         → IsFound (clerk_of (changed_all rows changes).clerks name) place
         → own_of (changed_all rows changes) place ≡ own_of (changed_all other others) place
-    own-behind place none found =
+    own-following place none found =
         let test : ClerkRow → Bool = λ row. bytes_eq row.name name in
         let name_in : ClerkRow → List ℕ = λ row. row.name in
         let next : Rows = changed_all rows changes in
@@ -164,7 +164,7 @@ module _ (name : List ℕ) (rows other : Rows) (valid : AreValid rows) (valid_to
         let longer = step-longer rows valid (Steward ticket work) answer changes step in
         let there = clerk_of-ok next.clerks name place (subst (λ one. ComesTo one (Ok place)) (sym found) refl) in
         let named = clerk_of-named next.clerks name place past found in
-        let behind : length rows.clerks ≤ place = elim (cases_lt place (length rows.clerks)) [
+        let following : length rows.clerks ≤ place = elim (cases_lt place (length rows.clerks)) [
           | inr past_all ↦ past_all
           | inl inside ↦
               let first : get_or (names_of next.clerks) place [] ≡ get_or (names_of rows.clerks) place [] =
@@ -176,22 +176,22 @@ module _ (name : List ℕ) (rows other : Rows) (valid : AreValid rows) (valid_to
               ∙ get_or-map name_in next.clerks place past [] there.within ∙ named in
               let one : get_or (drop 1 rows.clerks) (place - 1) past ≡ get_or rows.clerks place past =
               get_or-drop 1 rows.clerks (place - 1) past
-              ∙ ap (λ index. get_or rows.clerks index past) (omega (arith, there.behind)) in
+              ∙ ap (λ index. get_or rows.clerks index past) (omega (arith, there.following)) in
               let passes : test (get_or (drop 1 rows.clerks) (place - 1) past) ≡ true =
               ap test one ∙ (bytes_eq-Decides (get_or rows.clerks place past).name name).1 here in
               absurd (none-passes test (drop 1 rows.clerks) none (place - 1) past (omega (
                 arith,
                 inside,
-                there.behind,
+                there.following,
                 length-drop 1 rows.clerks,
               )) passes)
         ] in
         let found_too : IsFound (clerk_of (changed_all other others).clerks name) place =
         clerk_of-same next.clerks (changed_all other others).clerks name (sym after-names) ∙ found in
-        let behind_too : length other.clerks ≤ place =
-        omega (arith, behind, length-names rows.clerks other.clerks alike.to_steward.names) in
-        behind-new rows valid name ticket work answer changes place step behind found
-        ∙ sym (behind-new other valid_too name ticket work answer_too others place step_too behind_too found_too)
+        let following_too : length other.clerks ≤ place =
+        omega (arith, following, length-names rows.clerks other.clerks alike.to_steward.names) in
+        following-new rows valid name ticket work answer changes place step following found
+        ∙ sym (following-new other valid_too name ticket work answer_too others place step_too following_too found_too)
 
     own-after : (place : ℕ) → IsFound (clerk_of (changed_all rows changes).clerks name) place
         → own_of (changed_all rows changes) place ≡ own_of (changed_all other others) place
@@ -199,7 +199,7 @@ module _ (name : List ℕ) (rows other : Rows) (valid : AreValid rows) (valid_to
       where
         whole : (one : Option ℕ) → position (λ row. bytes_eq row.name name) (drop 1 rows.clerks) ≡ one
             → own_of (changed_all rows changes) place ≡ own_of (changed_all other others) place
-        whole None is = own-behind place is found
+        whole None is = own-following place is found
         whole (Some first) is =
             let before : IsFound (clerk_of rows.clerks name) (first + 1) =
             ap (λ one. run (some_or (option_map (λ index. index + 1) one) NoClerk)) is in

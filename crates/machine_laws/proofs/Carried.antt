@@ -82,9 +82,9 @@ IsCarried-found published own number version moved is =
       asked_for = named.1;
       newer = is.newer;
       before = is.before;
-      behind = is.after;
+      following = is.after;
       binds = is.binds;
-      binds_behind = is.binds_after;
+      binds_following = is.binds_after;
       moved = record {
         typed = moved.typed;
         confirmed = moved.confirmed;
@@ -190,7 +190,8 @@ CarriesOne-write rows name ticket number version answer changes step accepted =
           Gives (kept_reply (published_of rows) (after own made) made.act made.target)
           (Ok answer)) deed.is new.kept in
           let shown = put-shown (published_of rows) own number deed.moved answer there.counted within kept in
-          let by = shown-by (published_of rows) number deed.moved carried.behind shown.0 carried.binds_behind shown.1 in
+          let by = shown-by (published_of rows) number deed.moved carried.following shown.0 carried.binds_following
+              shown.1 in
           record {
             place = place;
             found = new.is_place.found;
@@ -217,7 +218,7 @@ pub record IsCarryingOf (published : Published) (own : Own) (number version : �
   pub moved : SessionRow
   pub carries : Gives (carry_row published own number version) (Ok moved)
   pub before : Gives (view_at published own number) (Ok carried.before)
-  pub behind : Gives (view_of published number moved) (Ok carried.after)
+  pub following : Gives (view_of published number moved) (Ok carried.after)
   pub changed : AreChanged carried.before carried.after carried.changed
 
 carrying-found : (published : Published) (own : Own) (number version : ℕ) (carried : Carried)
@@ -229,7 +230,7 @@ carrying-found published own number version carried gives =
       moved = moved;
       carries = Gives-Met (carry_row published own number version) (Ok moved) carries;
       before = Gives-Met (view_at published own number) (Ok before) shown;
-      behind = Gives-Met (view_of published number moved) (Ok after_it) shown_after;
+      following = Gives-Met (view_of published number moved) (Ok after_it) shown_after;
       changed = changed_so;
     })
 
@@ -296,7 +297,7 @@ shown-after rows name ticket number version carried answer changes look step acc
           let shown = put-shown published own number deed.moved answer there.counted
           (slice_get_within own.sessions (number - 1) found.session there.stands) kept in
           let views = Gives-unique (view_of published number deed.moved) (Ok shown.0) (Ok carried.after) shown.1
-          (subst (λ session. Gives (view_of published number session) (Ok carried.after)) same shows.behind) in
+          (subst (λ session. Gives (view_of published number session) (Ok carried.after)) same shows.following) in
           let view : shown.0 ≡ carried.after = cc in
           shown.2 ∙ ap reply.View view
     ]

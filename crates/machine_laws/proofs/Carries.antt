@@ -21,11 +21,11 @@ use Rattle.machine_core.proofs.Walks.{Gives-Met, Met-Gives}
 
 module _ (published : Published) (own : Own) where
   -- a session that was carried is a good row
-  IsSessionRow-carried : (batches : List BatchRow) (session : SessionRow) (edition : ℕ) (before behind : Bound)
-      → bound_at published edition ≡ Some behind → session.batch ≤ length batches
-      → IsSessionRow published batches (carried_to session edition before behind)
-  IsSessionRow-carried batches session edition before behind binds batch =
-      let is = carried-stands published session edition before behind binds in
+  IsSessionRow-carried : (batches : List BatchRow) (session : SessionRow) (edition : ℕ) (before following : Bound)
+      → bound_at published edition ≡ Some following → session.batch ≤ length batches
+      → IsSessionRow published batches (carried_to session edition before following)
+  IsSessionRow-carried batches session edition before following binds batch =
+      let is = carried-stands published session edition before following binds in
       record { edition = is.edition; typed = is.typed; confirmed = is.confirmed; batch = batch }
 
   pub IsSoundDeed-carry : IsGoodOwn published own → (number version : ℕ) (deed : Deed)

@@ -38,7 +38,7 @@ use Rattle.machine_core.proofs.Tested.{some_or-ok}
 use Rattle.machine_core.proofs.Widths.{length-confirmed_at, length-typed_over}
 use Rattle.machine_core.proofs.Commands.{carry_row-ok, confirm_row-ok}
 use Rattle.machine_laws.proofs.Makings.{place_of-within}
-use Rattle.machine_laws.proofs.Outcomes.{HasOutcome, outcome-all, outcome-behind, outcome-bind, outcome-done}
+use Rattle.machine_laws.proofs.Outcomes.{HasOutcome, outcome-all, outcome-following, outcome-bind, outcome-done}
 use Rattle.machine_laws.proofs.Outcomes.{outcome-refused, outcome-some_or, outcome-unless, outcome-value_or}
 use Rattle.machine_laws.proofs.Outcomes.{plain_tests}
 use Rattle.machine_laws.proofs.OwnOutcomes.{outcome-bound, session-answered, session-of}
@@ -150,7 +150,7 @@ module _ (rows : Rows) (valid : AreValid rows) where
         outcome-bind (outcome-unless (nat_lt pinned.version version) (NotNewer pinned.version)) (λ _ _.
         outcome-bind (outcome-active_bound number session is) (λ before binds.
         outcome-bind (outcome-bound rows valid edition (named-within pinned.name version edition found))
-        (λ behind binds_too.
+        (λ following binds_too.
         outcome-done _)))))
 
     -- the session that a Carry leaves stands
@@ -190,6 +190,6 @@ module _ (rows : Rows) (valid : AreValid rows) where
         (outcome-some_or (newest_edition rows.editions edition) (NoSuch kind.Edition)) (λ place found.
         outcome-bind (outcome-bound rows valid place (newest-within edition place found)) (λ bound binds.
         outcome-bind (outcome-value_or (read_sheet body) sheet_refusal) (λ sheet reads.
-        outcome-bind (outcome-behind [] _ sheet.columns (outcome-column bound.names.attributes)) (λ columns ok.
+        outcome-bind (outcome-following [] _ sheet.columns (outcome-column bound.names.attributes)) (λ columns ok.
         search plain_tests depth 8))))
     outcome-deed (Carry number version) = outcome-bind (outcome-carry number version) (λ session ok. outcome-done _)

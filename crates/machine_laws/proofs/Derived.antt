@@ -22,7 +22,7 @@ use Rattle.desk_valid.specs.declared.bound.Bound.{Bound}
 use Rattle.desk_valid.specs.Valid.{AreValid}
 use Rattle.master_rows.specs.declared.master.Master.{Master}
 use Rattle.region_derive.specs.Derived.{AreDerived, ArePairs}
-use Rattle.machine_core.specs.Checked.{Checked, done, each_behind, Gives}
+use Rattle.machine_core.specs.Checked.{Checked, done, each_following, Gives}
 use Rattle.machine_core.specs.declared.derivation.Derivation.{Derivation}
 use Rattle.machine_core.specs.declared.making.Making.{Making}
 use Rattle.machine_core.specs.Deriving.{another_pair, derivation_of, derived_rows, places_of}
@@ -47,16 +47,16 @@ same-sheet : (one other : DerivedSheet) → reply.Derived one ≡ reply.Derived 
 same-sheet one other is = cc
 
 -- what is found of each item has the name of the item
-named-behind : {A B : Type 0} (find_it : List B → A → Checked B) (name : A → List ℕ) (name_of : B → List ℕ)
+named-following : {A B : Type 0} (find_it : List B → A → Checked B) (name : A → List ℕ) (name_of : B → List ℕ)
     → ((before : List B) (item : A) (found : B) → Gives (find_it before item) (Ok found) → name_of found ≡ name item)
-    → (items : List A) (before found : List B) → Gives (each_behind before find_it items) (Ok found)
+    → (items : List A) (before found : List B) → Gives (each_following before find_it items) (Ok found)
     → map name_of found ≡ map name_of before ++ map name items
-named-behind find_it name name_of named [] before found gives =
+named-following find_it name name_of named [] before found gives =
     ap (map name_of) (done-value before found gives) ∙ sym (append-nil (map name_of before))
-named-behind find_it name name_of named (item ∷ items) before found gives =
+named-following find_it name name_of named (item ∷ items) before found gives =
     let (here, is_here, rest) =
-    Gives-bind_ok (find_it before item) (λ one. each_behind (before ++ one ∷ []) find_it items) found gives in
-    named-behind find_it name name_of named items (before ++ here ∷ []) found rest
+    Gives-bind_ok (find_it before item) (λ one. each_following (before ++ one ∷ []) find_it items) found gives in
+    named-following find_it name name_of named items (before ++ here ∷ []) found rest
     ∙ ap (λ list. list ++ map name items) (map_push name_of before here)
     ∙ append_assoc (map name_of before) (name_of here ∷ []) (map name items)
     ∙ ap (λ one. map name_of before ++ one ∷ map name items) (named before item here is_here)
@@ -70,12 +70,12 @@ places-named words names pairs found gives =
     let first : ℕ × ℕ → ℕ = λ place. place.0 in
     let second : ℕ × ℕ → ℕ = λ place. place.1 in
     let (places, are, is) = Met-Gives (places_of words names pairs) (Ok found) gives in
-    let given = Gives-Met (each_behind [] (another_pair words names) pairs) (Ok places) are in (
+    let given = Gives-Met (each_following [] (another_pair words names) pairs) (Ok places) are in (
       ap (λ (one : List ℕ × List ℕ). map (name_at words) one.0) is ∙ map-map (name_at words) first places
-          ∙ named-behind (another_pair words names) (λ pair. pair.0) (λ place. name_at words place.0)
+          ∙ named-following (another_pair words names) (λ pair. pair.0) (λ place. name_at words place.0)
           (λ before pair place one. sym (pair-words words names before pair place one).0) pairs [] places given,
       ap (λ (one : List ℕ × List ℕ). map (name_at names) one.1) is ∙ map-map (name_at names) second places
-          ∙ named-behind (another_pair words names) (λ pair. pair.1) (λ place. name_at names place.1)
+          ∙ named-following (another_pair words names) (λ pair. pair.1) (λ place. name_at names place.1)
           (λ before pair place one. sym (pair-words words names before pair place one).1) pairs [] places given,
     )
 

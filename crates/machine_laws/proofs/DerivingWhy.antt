@@ -19,7 +19,7 @@ use Rattle.desk_valid.specs.Bindings.{bound_at}
 use Rattle.desk_valid.specs.Readings.{master_at}
 use Rattle.master_rows.specs.declared.master.Master.{Master}
 use Rattle.machine_core.specs.Causes.{AreWords, AsksMaster, Cause, IsAbout, StandsTwice}
-use Rattle.machine_core.specs.Checked.{Checked, ◌>>=◌, ◌>>◌, certainly, done, each_behind, some_or, unless, Gives}
+use Rattle.machine_core.specs.Checked.{Checked, ◌>>=◌, ◌>>◌, certainly, done, each_following, some_or, unless, Gives}
 use Rattle.machine_core.specs.Checked.{IsFound, told}
 use Rattle.machine_core.specs.declared.derivation.Derivation.{Derivation}
 use Rattle.machine_core.specs.Deriving.{another_master_column, another_pair, derivation_of, derived_rows}
@@ -29,8 +29,8 @@ use Rattle.machine_core.specs.Named.{attributes_in, columns_in, master_in, versi
 use Rattle.machine_core.specs.Steward.AddEdition.{master_name}
 use Rattle.machine_core.specs.Tests.{another_attribute}
 use Rattle.machine_core.specs.Views.{edition_at}
-use Rattle.machine_core.proofs.Tested.{certainly-ok, certainly-why, chain-why, done-why, each_behind-found}
-use Rattle.machine_core.proofs.Tested.{each_behind-refused, some_or-ok, some_or-why, unless-why}
+use Rattle.machine_core.proofs.Tested.{certainly-ok, certainly-why, chain-why, done-why, each_following-found}
+use Rattle.machine_core.proofs.Tested.{each_following-refused, some_or-ok, some_or-why, unless-why}
 use Rattle.machine_laws.proofs.Lists.{find-None}
 use Rattle.machine_laws.proofs.Why.{Contains-image, none-equal, word-at}
 use Rattle.machine_core.proofs.Walks.{Gives-Met, Met-Gives, Met}
@@ -82,11 +82,11 @@ twice-among : {A B : Type 0} (find_it : List B → A → Checked B) (name : A �
     (words : List (List ℕ)) → ((before : List B) (item : A) (found : B) → Gives (find_it before item) (Ok found)
     → name item ≡ get_or words (place found) [])
     → (items earlier later : List A) (item : A) (sofar : List B) → items ≡ earlier ++ item ∷ later
-    → Gives (each_behind [] find_it earlier) (Ok sofar) → (at : ℕ) → name item ≡ get_or words at []
+    → Gives (each_following [] find_it earlier) (Ok sofar) → (at : ℕ) → name item ≡ get_or words at []
     → Contains (map place sofar) at → StandsTwice (map name items) (name item)
 twice-among find_it name place words named items earlier later item sofar is gives at at_word there =
     let (origin, placed, same) = image-of place sofar at there in
-    elim (each_behind-found find_it earlier [] sofar origin gives placed) [
+    elim (each_following-found find_it earlier [] sofar origin gives placed) [
       | inl none ↦ absurd (omega (arith, none.1))
       | inr before ↦
           let equal : name before.item ≡ name item = named before.sofar before.item origin before.gave
@@ -126,10 +126,10 @@ pairs-why : (P : Refusal → Type 0) (words names : List (List ℕ)) (pairs : Li
     → ((word : List ℕ) → StandsTwice (map (λ pair. pair.1) pairs) word → P (Twice word)) → (refusal : Refusal)
     → Gives (places_of words names pairs) (Err refusal) → P refusal
 pairs-why P words names pairs unknown twice missing twice_too =
-    chain-why P (each_behind [] (another_pair words names) pairs) _ (λ refusal gives.
+    chain-why P (each_following [] (another_pair words names) pairs) _ (λ refusal gives.
     let attribute_in : List ℕ × List ℕ → List ℕ = λ pair. pair.0 in
     let column_in : List ℕ × List ℕ → List ℕ = λ pair. pair.1 in
-    let says = each_behind-refused (another_pair words names) pairs [] refusal gives in
+    let says = each_following-refused (another_pair words names) pairs [] refusal gives in
     let pair : List ℕ × List ℕ = says.item in
     let listed : Contains pairs pair = subst (λ list. Contains list pair) (sym says.same)
     (Contains-append_right says.earlier (pair ∷ says.later) pair (0, omega arith, refl)) in

@@ -17,7 +17,7 @@ use Rattle.desk_valid.specs.Readings.{all_of, master_at, rules_at}
 use Rattle.desk_valid.specs.Rows.Edition.{IsBinding, IsEditionRow}
 use Rattle.desk_valid.specs.Valid.{AreValid}
 use Rattle.desk_valid.proofs.Named.{option_map-Some}
-use Rattle.machine_core.specs.Checked.{each_behind}
+use Rattle.machine_core.specs.Checked.{each_following}
 use Rattle.machine_core.specs.Checked.{Gives}
 use Rattle.machine_core.specs.Machine.{making_of}
 use Rattle.machine_core.specs.declared.making.Making.{Making}
@@ -25,7 +25,7 @@ use Rattle.machine_core.specs.Steward.AddEdition.{AreOthers, another_master, bin
 use Rattle.machine_core.specs.Steward.AddEdition.{next_edition}
 use Rattle.machine_core.proofs.InOrder.{AreFolded-in_order}
 use Rattle.machine_core.proofs.Masters.{another-master}
-use Rattle.machine_core.proofs.Tested.{each_behind-all, each_behind-length}
+use Rattle.machine_core.proofs.Tested.{each_following-all, each_following-length}
 use Rattle.machine_laws.proofs.Lists.{pushed}
 use Rattle.machine_laws.proofs.Makings.{IsSoundMaking, IsVersion-next, place_of-within, stays}
 use Rattle.machine_laws.proofs.Makings.{IsSoundMaking-published}
@@ -52,7 +52,7 @@ module _ (rows : Rows) (valid : AreValid rows) where
       (record {
         some = λ same. cc;
         steward = λ first. tt;
-        clerk = λ behind. absurd (omega (arith, behind));
+        clerk = λ following. absurd (omega (arith, following));
         stands = omega (arith, length-append rows.editions (row ∷ []));
       })
 
@@ -118,9 +118,9 @@ module _ (rows : Rows) (valid : AreValid rows) where
       record { change = change.Edition one; act = act.Edition; target = length rows.editions } in
       let words : List (List ℕ) = rules.schema.attributes in
       let made : EditionRow = next_edition rows.editions name book places (in_order attributes (length words)) in
-      let given = Gives-Met (each_behind [] (another_master rows.masters) masters) (Ok places) are_places in
+      let given = Gives-Met (each_following [] (another_master rows.masters) masters) (Ok places) are_places in
       let few_it = few-stand which.Editions (length rows.editions + 1) few in
-      let others : AreOthers published places = each_behind-all (AreOthers published) (another_master rows.masters)
+      let others : AreOthers published places = each_following-all (AreOthers published) (another_master rows.masters)
       masters [] places (λ before master place are found. another-master published before master place are found)
       (record {
         stand = All-nil (λ place. place < length rows.masters);
@@ -138,7 +138,7 @@ module _ (rows : Rows) (valid : AreValid rows) where
             (record { name = []; version = 0; schema = 0; body = [] }) stands;
         few_masters = omega (
           arith,
-          each_behind-length (another_master rows.masters) masters [] places given,
+          each_following-length (another_master rows.masters) masters [] places given,
           few-stand which.EditionMasters (length masters) few_masters,
         );
         masters = others.stand;

@@ -23,7 +23,7 @@ use Rattle.machine_core.specs.declared.deed.Deed.{Deed}
 use Rattle.machine_core.specs.OwnRows.{IsSoundDeed, PutsFit}
 use Rattle.machine_laws.proofs.Changing.{IsGoodOwn}
 use Rattle.machine_laws.proofs.Deeds.{put-end}
-use Rattle.machine_laws.proofs.Lists.{nothing-behind, pushed, slice_get-read}
+use Rattle.machine_laws.proofs.Lists.{nothing-following, pushed, slice_get-read}
 use Rattle.machine_laws.proofs.Sessions.{AreOwnRows-append}
 use Rattle.machine_laws.proofs.Valid.{AreOwnRows-same}
 use Rattle.machine_core.proofs.Widths.{IsSessionRow-new, edition-stands}
@@ -46,14 +46,14 @@ PutsFit-placed sessions (session ∷ news) count is few =
     )
 
 -- each row after the others is one of those that came
-behind-all : {T : Type 0} (P : T → Type 0) (rows news : List T) → All P news → (place : ℕ) (row : T)
+following-all : {T : Type 0} (P : T → Type 0) (rows news : List T) → All P news → (place : ℕ) (row : T)
     → length rows ≤ place
     → slice_get (rows ++ news) place ≡ Some row → P row
-behind-all P [] news all place row past stands =
+following-all P [] news all place row past stands =
     subst P (slice_get-read news place row row stands) (all place row (slice_get_within news place row stands))
-behind-all P (first ∷ rows) news all zero row past stands = absurd (omega (arith, past))
-behind-all P (first ∷ rows) news all (suc place) row past stands =
-    behind-all P rows news all place row (omega (arith, past)) stands
+following-all P (first ∷ rows) news all zero row past stands = absurd (omega (arith, past))
+following-all P (first ∷ rows) news all (suc place) row past stands =
+    following-all P rows news all place row (omega (arith, past)) stands
 
 module _ (published : Published) (own : Own) (good : IsGoodOwn published own) where
   -- a session on an edition after the others
@@ -75,7 +75,7 @@ module _ (published : Published) (own : Own) (good : IsGoodOwn published own) wh
             (AreOwnRows-append published own.sessions own.records own.batches good.rows (session ∷ []) []
             (pushed (λ place. IsSessionRow published (own.batches ++ [])) own.sessions session
             (IsSessionRow-new published (own.batches ++ []) edition bound cells confirmed 0 binds (omega arith)))
-            (λ place row past stands. absurd (nothing-behind (own.batches ++ []) place row
+            (λ place row past stands. absurd (nothing-following (own.batches ++ []) place row
             (omega (arith, past, length-append own.batches [])) stands)));
       }
 
@@ -114,7 +114,7 @@ module _ (published : Published) (own : Own) (good : IsGoodOwn published own) wh
         rows = AreOwnRows-same published sessions (put_all own.sessions (placed (length own.sessions) news))
             own.records (own.records ++ []) batches batches same (append-nil own.records) refl
             (AreOwnRows-append published own.sessions own.records own.batches good.rows news (row ∷ [])
-            (behind-all (IsSessionRow published batches) own.sessions news (valid batches (omega (arith, long))))
+            (following-all (IsSessionRow published batches) own.sessions news (valid batches (omega (arith, long))))
             (pushed (λ place. IsBatchRow published sessions) own.batches row good_row));
       }
 

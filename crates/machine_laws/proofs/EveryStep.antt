@@ -86,17 +86,17 @@ module _ (rows : Rows) (valid : AreValid rows) where
   -- and of a clerk it stands among the clerk's own rows
   own-target : (place : ℕ) → 0 < place → (what : Act) (target : ℕ) → IsDone rows place what target
       → HasOwnTarget (own_of rows place) what target
-  own-target place behind act.Opened target is = is.stands
-  own-target place behind act.Changed target is = is.stands
-  own-target place behind act.Committed target is = is.stands
-  own-target place behind act.Batched target is = is.stands
-  own-target place behind act.Nothing target is = is.some refl
-  own-target place behind act.Clerk target is = is.clerk behind
-  own-target place behind act.Schema target is = is.clerk behind
-  own-target place behind act.Master target is = is.clerk behind
-  own-target place behind act.Rulebook target is = is.clerk behind
-  own-target place behind act.Edition target is = is.clerk behind
-  own-target place behind act.Region target is = is.clerk behind
+  own-target place following act.Opened target is = is.stands
+  own-target place following act.Changed target is = is.stands
+  own-target place following act.Committed target is = is.stands
+  own-target place following act.Batched target is = is.stands
+  own-target place following act.Nothing target is = is.some refl
+  own-target place following act.Clerk target is = is.clerk following
+  own-target place following act.Schema target is = is.clerk following
+  own-target place following act.Master target is = is.clerk following
+  own-target place following act.Rulebook target is = is.clerk following
+  own-target place following act.Edition target is = is.clerk following
+  own-target place following act.Region target is = is.clerk following
 
   -- a clerk's write
   outcome-clerk : (name : List ℕ) (place : ℕ) (ticket : Ticket) (work : ClerkWork) → IsPlaceOf rows.clerks name place
@@ -106,7 +106,7 @@ module _ (rows : Rows) (valid : AreValid rows) where
       at_turn : (turn : Use) → Gives (use_of (own_of rows place).row ticket) (Ok turn)
           → HasOutcome (clerk_write_at (published_of rows) (own_of rows place) work turn)
       at_turn Repeated again = outcome-bind (outcome-kept rows valid (own_of rows place) (own-rows rows valid place)
-          (own_of rows place).row.act (own_of rows place).row.target (own-target place there.behind
+          (own_of rows place).row.act (own_of rows place).row.target (own-target place there.following
           (own_of rows place).row.act (own_of rows place).row.target (done-again place ticket there.within some again)))
           (λ answer ok. outcome-done _)
       at_turn Fresh new =

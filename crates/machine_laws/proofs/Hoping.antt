@@ -127,10 +127,10 @@ module _ (kit : Kit) (state : State) (fits : Fits kit state) where
       (opposite (decide_covered kit state other))) [
         | inl before ↦ inl (inl before)
         | inr not_before ↦ elim (both (decide_less attribute other) (decide_listed need other)) [
-          | inl behind ↦ inl (inr behind)
-          | inr not_behind ↦ inr (λ given. elim given [
+          | inl following ↦ inl (inr following)
+          | inr not_following ↦ inr (λ given. elim given [
             | inl before ↦ not_before before
-            | inr behind ↦ not_behind behind
+            | inr following ↦ not_following following
           ])
         ]
       ]

@@ -87,8 +87,8 @@ module _ (rows : Rows) (valid : AreValid rows) (other : Published) (more : AreMo
           before = subst (λ one. ComesTo one (Ok carried.before))
               (sym (view_at-more rows valid other more own are number))
               is.before;
-          behind = subst (λ one. ComesTo one (Ok carried.after))
-              (sym (view_of-more rows valid other more number is.moved within)) is.behind;
+          following = subst (λ one. ComesTo one (Ok carried.after))
+              (sym (view_of-more rows valid other more number is.moved within)) is.following;
           changed = is.changed;
         }
 

@@ -59,10 +59,10 @@ module _ (kit : Kit) (P : Step → Type 0) (decide : (step : Step) → Decided (
                 | inl before ↦ absurd (no_row other.row before
                     (subst (λ one. P (record { rule = one; row = other.row })) same holds))
                 | inr not_before ↦ elim (decide_less row other.row) [
-                  | inl behind ↦ inr (inr (omega (arith, rule, same), omega (arith, row_is, behind)))
-                  | inr not_behind ↦
+                  | inl following ↦ inr (inr (omega (arith, rule, same), omega (arith, row_is, following)))
+                  | inr not_following ↦
                       let rules : step.rule ≡ other.rule = omega (arith, rule, same) in
-                      let rows : step.row ≡ other.row = omega (arith, row_is, not_before, not_behind) in
+                      let rows : step.row ≡ other.row = omega (arith, row_is, not_before, not_following) in
                       inl (λ i. record { rule = rules i; row = rows i })
                 ]
               ]

@@ -12,9 +12,9 @@ use Rattle.desk_valid.specs.Valid.{EachAt}
 pub use Rattle.desk_base.proofs.Lists.{slice_get-set_same, slice_get-there}
 
 -- after the last item nothing stands
-pub nothing-behind : {T : Type 0} (rows : List T) (place : ℕ) (row : T) → length rows ≤ place
+pub nothing-following : {T : Type 0} (rows : List T) (place : ℕ) (row : T) → length rows ≤ place
     → slice_get rows place ≡ Some row → ⊥
-nothing-behind rows place row behind stands = omega (arith, slice_get_within rows place row stands, behind)
+nothing-following rows place row following stands = omega (arith, slice_get_within rows place row stands, following)
 
 -- what stands in a list stands there in a longer one
 pub slice_get-append : {T : Type 0} (rows others : List T) (place : ℕ) → place < length rows
@@ -77,10 +77,10 @@ pub EachAt-begins : {T : Type 0} (P Q : ℕ → T → Type 0) (rows others : Lis
     → ((place : ℕ) (row : T) → place < length rows → P place row → Q place row)
     → ((place : ℕ) (row : T) → length rows ≤ place → slice_get others place ≡ Some row → Q place row)
     → EachAt others Q
-EachAt-begins P Q rows others begins each more behind place row stands = elim (cases_lt place (length rows)) [
+EachAt-begins P Q rows others begins each more following place row stands = elim (cases_lt place (length rows)) [
   | inl within ↦ more place row within
       (each place row (sym (slice_get-begins rows others begins place within) ∙ stands))
-  | inr past ↦ behind place row past stands
+  | inr past ↦ following place row past stands
 ]
 
 -- the one row after the others
@@ -124,7 +124,7 @@ list_at-push lists clerk = elim (cases_lt clerk (length lists)) [
   | inl within ↦ get_or_append_left lists ([] ∷ []) [] clerk within
   | inr past ↦ elim (cases_eq clerk (length lists)) [
     | inl last ↦ get_or_at lists [] [] [] clerk (sym last) ∙ sym (get_or_past lists clerk [] past)
-    | inr behind ↦ get_or_past (lists ++ [] ∷ []) clerk [] (omega (arith, length-append lists ([] ∷ [])))
+    | inr following ↦ get_or_past (lists ++ [] ∷ []) clerk [] (omega (arith, length-append lists ([] ∷ [])))
         ∙ sym (get_or_past lists clerk [] past)
   ]
 ]

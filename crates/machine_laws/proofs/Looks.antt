@@ -168,7 +168,7 @@ module _ (rows : Rows) (name : List ℕ) (own : Own) where
       chain-why P (view_at (published_of rows) own number) _ (view_at-why rows command own number asks refl)
       (λ before before_ok. chain-why P (view_of (published_of rows) number moved) _
       (view-why P (published_of rows) number moved)
-      (λ behind behind_ok refusal gives. done-why P _ refusal gives.2))))
+      (λ following following_ok refusal gives. done-why P _ refusal gives.2))))
   look-why (Sessions from) asks =
       let P : Refusal → Type 0 = Cause rows (Look name (Sessions from)) in
       told-why P (sessions_from (published_of rows) own from) reply.Sessions (done-why P _)

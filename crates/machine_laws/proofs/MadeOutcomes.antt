@@ -28,7 +28,7 @@ use Rattle.desk_valid.specs.Bindings.{bound_at, parts_of}
 use Rattle.desk_valid.specs.Readings.{all_of, master_at, rules_at, schema_at, schema_in}
 use Rattle.desk_valid.specs.Valid.{AreValid}
 use Rattle.desk_valid.proofs.Kits.{masters-read, rules-read}
-use Rattle.machine_core.specs.Checked.{certainly, each_behind, Gives, some_or}
+use Rattle.machine_core.specs.Checked.{certainly, each_following, Gives, some_or}
 use Rattle.machine_core.specs.DeskLook.Region.{row_answers}
 use Rattle.machine_core.specs.declared.derivation.Derivation.{Derivation}
 use Rattle.machine_core.specs.Deriving.{another_master_column, another_pair, derivation_of, derived_rows}
@@ -44,13 +44,13 @@ use Rattle.machine_core.specs.Tests.{another_attribute, proper_name}
 use Rattle.machine_core.specs.Views.{edition_at}
 use Rattle.machine_core.proofs.Deriving.{derivation-derivable}
 use Rattle.machine_core.proofs.Masters.{another-master}
-use Rattle.machine_core.proofs.Tested.{certainly-ok, each_behind-all, some_or-ok}
+use Rattle.machine_core.proofs.Tested.{certainly-ok, each_following-all, some_or-ok}
 use Rattle.machine_core.proofs.Widths.{edition-stands, named-kit}
 use Rattle.machine_laws.proofs.Callers.{IsDone}
 use Rattle.machine_laws.proofs.DeedOutcomes.{named-within}
 use Rattle.machine_laws.proofs.Lists.{find-Some, slice_get-read, slice_get-there}
 use Rattle.machine_laws.proofs.Makings.{place_of-within}
-use Rattle.machine_laws.proofs.Outcomes.{HasOutcome, outcome-all, outcome-answer, outcome-behind, outcome-bind}
+use Rattle.machine_laws.proofs.Outcomes.{HasOutcome, outcome-all, outcome-answer, outcome-following, outcome-bind}
 use Rattle.machine_laws.proofs.Outcomes.{outcome-certainly, outcome-done, outcome-rows, outcome-some_or, outcome-unless}
 use Rattle.machine_laws.proofs.Outcomes.{outcome-within, plain_tests}
 use Rattle.machine_laws.proofs.OwnOutcomes.{outcome-bound}
@@ -151,11 +151,11 @@ module _ (rows : Rows) (valid : AreValid rows) where
 
   -- masters that were found stand
   masters-stand : (masters : List (List ℕ × ℕ)) (places : List ℕ)
-      → Gives (each_behind [] (another_master rows.masters) masters) (Ok places)
+      → Gives (each_following [] (another_master rows.masters) masters) (Ok places)
       → All (λ place. place < length rows.masters) places
   masters-stand masters places gives =
       let others : AreOthers (published_of rows) places =
-      each_behind-all (AreOthers (published_of rows)) (another_master rows.masters) masters [] places
+      each_following-all (AreOthers (published_of rows)) (another_master rows.masters) masters [] places
       (λ before master place are found. another-master (published_of rows) before master place are found)
       (record {
         stand = All-nil (λ place. place < length rows.masters);
@@ -208,7 +208,7 @@ module _ (rows : Rows) (valid : AreValid rows) where
       outcome-bind (outcome-master_of place bound master
       (certainly-ok (bound_at (published_of rows) place) bound binds))
       (λ sheet ok.
-      outcome-bind (outcome-bind (outcome-behind [] _ pairs (outcome-pair bound.names.attributes sheet.columns))
+      outcome-bind (outcome-bind (outcome-following [] _ pairs (outcome-pair bound.names.attributes sheet.columns))
       (λ places all_ok. outcome-done _)) (λ places all_ok. outcome-done _))))
 
   -- and its rows
@@ -277,9 +277,9 @@ module _ (rows : Rows) (valid : AreValid rows) where
       (some_or-ok (rulebook_named rows.rulebooks rulebook.0 rulebook.1) (NoSuch kind.Rulebook) book found) in
       let rules = rules-read rows valid book stands in
       outcome-bind (outcome-certainly (rules_at (published_of rows) book) rules.0 rules.1) (λ over reads.
-      outcome-bind (outcome-behind [] _ folded (outcome-another over.schema.attributes)) (λ attributes ok.
+      outcome-bind (outcome-following [] _ folded (outcome-another over.schema.attributes)) (λ attributes ok.
       outcome-bind (outcome-within which.EditionMasters (length masters)) (λ _ _.
-      outcome-bind (outcome-behind [] _ masters (outcome-master rows.masters)) (λ places all_ok.
+      outcome-bind (outcome-following [] _ masters (outcome-master rows.masters)) (λ places all_ok.
       outcome-bind (outcome-within which.Editions (length rows.editions + 1)) (λ _ _.
       let row : EditionRow = next_edition rows.editions name book places
       (in_order attributes (length over.schema.attributes)) in
@@ -299,7 +299,7 @@ module _ (rows : Rows) (valid : AreValid rows) where
       (outcome-some_or (edition_named rows.editions edition version) (NoSuch kind.Edition)) (λ place found.
       let stands = named-within rows valid edition version place found in
       outcome-bind (outcome-bound rows valid place stands) (λ bound binds.
-      outcome-bind (outcome-behind [] _ attributes (outcome-another bound.names.attributes)) (λ places ok.
+      outcome-bind (outcome-following [] _ attributes (outcome-another bound.names.attributes)) (λ places ok.
       search (plain_tests, outcome-full_rows))))) (λ row ok. outcome-done _)
   outcome-making (AddDerived edition version master pairs from) = outcome-bind (outcome-bind
       (outcome-derivation edition version master pairs) (λ derivation found.

@@ -38,8 +38,8 @@ use Rattle.machine_core.proofs.Masters.{not-any}
 use Rattle.machine_core.proofs.Tested.{unless-ok}
 use Rattle.machine_laws.proofs.Callers.{IsDone, names_of}
 use Rattle.machine_laws.proofs.Deeds.{put-end, with_clerk-end}
-use Rattle.machine_laws.proofs.Lists.{Begins, Begins-same, list_at-push, nothing-behind, pushed}
-use Rattle.machine_laws.proofs.Valid.{AreValid-new, AreValid-published, with_new, AreGoodBehind, with_published}
+use Rattle.machine_laws.proofs.Lists.{Begins, Begins-same, list_at-push, nothing-following, pushed}
+use Rattle.machine_laws.proofs.Valid.{AreValid-new, AreValid-published, with_new, AreGoodAfter, with_published}
 use Rattle.machine_core.proofs.Walks.{Met-Gives}
 use Rattle.machine_core.proofs.Commands.{few-stand}
 use Rattle.machine_laws.proofs.More.{AreMore-changed}
@@ -82,7 +82,7 @@ name-ok text passed gives = unless-ok (is_name text) (BadName text) passed gives
 -- nothing stands after the rows of a table that stays
 pub stays : {T : Type 0} (Q : ℕ → T → Type 0) (rows : List T) (place : ℕ) (row : T) → length rows ≤ place
     → slice_get rows place ≡ Some row → Q place row
-stays Q rows place row past stands = absurd (nothing-behind rows place row past stands)
+stays Q rows place row past stands = absurd (nothing-following rows place row past stands)
 
 -- a new clerk changes no caller's own rows
 own-new : (rows : Rows) (row : ClerkRow) (place : ℕ) → place < length rows.clerks
@@ -120,7 +120,7 @@ module _ (rows : Rows) (valid : AreValid rows) where
   -- a change of what is published, in which new rows alone have to be good, is sound
   pub IsSoundMaking-published : (making : Making) → (fits : Fits rows making.change)
       → let published : Published = published_of (changed rows making.change) in
-      changed rows making.change ≡ with_published rows published → AreGoodBehind (published_of rows) published
+      changed rows making.change ≡ with_published rows published → AreGoodAfter (published_of rows) published
       → IsDone (with_published rows published) 0 making.act making.target → IsSoundMaking rows making
   IsSoundMaking-published making fits same good has_done = record {
     fits = fits;
@@ -130,7 +130,8 @@ module _ (rows : Rows) (valid : AreValid rows) where
     names = subst (λ (one : Rows). Begins (names_of rows.clerks) (names_of one.clerks)) (sym same)
         (Begins-same (names_of rows.clerks));
     own = λ place within. ap (λ (one : Rows). own_of one place) same;
-    new = λ place behind within. absurd (omega (arith, behind, within, ap (λ (one : Rows). length one.clerks) same));
+    new = λ place following within. absurd (omega (arith, following, within, ap (λ
+        (one : Rows). length one.clerks) same));
     is_done = subst (λ one. IsDone one 0 making.act making.target) (sym same) has_done;
   }
 
@@ -154,7 +155,7 @@ module _ (rows : Rows) (valid : AreValid rows) where
       (record {
         some = λ same. cc;
         steward = λ first. tt;
-        clerk = λ behind. absurd (omega (arith, behind));
+        clerk = λ following. absurd (omega (arith, following));
         stands = omega (arith, length-append rows.schemas (row ∷ []));
       })
 
@@ -195,7 +196,7 @@ module _ (rows : Rows) (valid : AreValid rows) where
       (record {
         some = λ same. cc;
         steward = λ first. tt;
-        clerk = λ behind. absurd (omega (arith, behind));
+        clerk = λ following. absurd (omega (arith, following));
         stands = omega (arith, length-append rows.masters (row ∷ []));
       })
 
@@ -234,7 +235,7 @@ module _ (rows : Rows) (valid : AreValid rows) where
       (record {
         some = λ same. cc;
         steward = λ first. tt;
-        clerk = λ behind. absurd (omega (arith, behind));
+        clerk = λ following. absurd (omega (arith, following));
         stands = omega (arith, length-append rows.rulebooks (row ∷ []));
       })
 
@@ -283,14 +284,14 @@ module _ (rows : Rows) (valid : AreValid rows) where
         few = omega (arith, few);
         name = record {
           steward = λ first. absurd (omega (arith, first, valid.tables.steward));
-          clerk = λ behind. named;
+          clerk = λ following. named;
           first = subst (All (λ earlier. earlier.name ≢ name)) (sym (take_at rows.clerks (row ∷ []) place refl)) apart;
         };
         number = omega arith;
         started = (λ none. refl, λ nothing. refl);
         digest = λ nothing. refl;
         steward = λ first. tt;
-        clerk = λ behind. tt;
+        clerk = λ following. tt;
         target = refl;
       } in
       let tables = subst AreTables same (AreTables-changed rows (change.Clerk place row) fits valid.tables) in
@@ -300,12 +301,12 @@ module _ (rows : Rows) (valid : AreValid rows) where
         names = subst (λ (one : Rows). Begins (names_of rows.clerks) (names_of one.clerks)) (sym same)
             (names_of (row ∷ []), map-append (λ (clerk : ClerkRow). clerk.name) rows.clerks (row ∷ []));
         own = λ caller within. ap (λ (one : Rows). own_of one caller) same ∙ own-new rows row caller within;
-        new = λ caller behind inside. (
+        new = λ caller following inside. (
           name,
           ap (λ (one : Rows). own_of one caller) same
               ∙ own-last rows name caller valid.tables (omega (
                 arith,
-                behind,
+                following,
                 inside,
                 length-append rows.clerks (row ∷ []),
                 ap (λ (one : Rows). length one.clerks) same,
@@ -314,7 +315,7 @@ module _ (rows : Rows) (valid : AreValid rows) where
         is_done = subst (λ one. IsDone one 0 act.Clerk place) (sym same) (record {
           some = λ same_act. cc;
           steward = λ first. tt;
-          clerk = λ behind. absurd (omega (arith, behind));
+          clerk = λ following. absurd (omega (arith, following));
           stands = (valid.tables.steward, omega (arith, length-append rows.clerks (row ∷ [])));
         });
       }

@@ -21,7 +21,7 @@ use Rattle.desk_words.specs.declared.view.View.{View}
 use Rattle.desk_carry.specs.Changes.{AreApart}
 use Rattle.machine_core.specs.Checked.{Checked, done, ◌>>=◌, advice_for, answer_for, blockers_for, certainly}
 use Rattle.machine_core.specs.Checked.{changes_for, contradictions_for, each}
-use Rattle.machine_core.specs.Checked.{each_behind, explanation_for, refused, rows_for, some_or, unless, value_or}
+use Rattle.machine_core.specs.Checked.{each_following, explanation_for, refused, rows_for, some_or, unless, value_or}
 use Rattle.machine_core.specs.Checked.{Gives}
 use Rattle.machine_core.specs.Limits.{limit_of, within}
 use Rattle.machine_core.proofs.Chains.{Gives-bind, Gives-bind_refused, Gives-found}
@@ -111,12 +111,12 @@ outcome-all find (first ∷ others) has =
     outcome-bind (outcome-all find others has) (λ more done_too. outcome-done (found ∷ more)))
 
 -- also where it is tested after those before it
-pub outcome-behind : {A B : Type 0} (before : List B) (find : List B → A → Checked B) (items : List A)
-    → ((sofar : List B) (item : A) → HasOutcome (find sofar item)) → HasOutcome (each_behind before find items)
-outcome-behind before find [] has = outcome-done before
-outcome-behind before find (first ∷ others) has =
+pub outcome-following : {A B : Type 0} (before : List B) (find : List B → A → Checked B) (items : List A)
+    → ((sofar : List B) (item : A) → HasOutcome (find sofar item)) → HasOutcome (each_following before find items)
+outcome-following before find [] has = outcome-done before
+outcome-following before find (first ∷ others) has =
     outcome-bind (has before first) (λ found ok.
-    outcome-behind (before ++ found ∷ []) find others has)
+    outcome-following (before ++ found ∷ []) find others has)
 
 -- a question to the engine about a state of a valid kit
 pub outcome-answer : (kit : Kit) (state : State) → IsValid kit → Fits kit state → HasOutcome (answer_for kit state)

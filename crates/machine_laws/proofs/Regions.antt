@@ -18,7 +18,7 @@ use Rattle.desk_words.specs.declared.steward_work.StewardWork.TheVariants.{AddRe
 use Rattle.desk_words.specs.Tables.{Published, Rows, published_of}
 use Rattle.desk_valid.specs.Rows.Region.{IsRegionRow}
 use Rattle.desk_valid.specs.Valid.{AreValid}
-use Rattle.machine_core.specs.Checked.{◌>>=◌, done, each, each_behind, unless, Gives}
+use Rattle.machine_core.specs.Checked.{◌>>=◌, done, each, each_following, unless, Gives}
 use Rattle.machine_core.specs.Limits.{within}
 use Rattle.machine_core.specs.Machine.{making_of}
 use Rattle.machine_core.specs.declared.making.Making.{Making}
@@ -26,7 +26,7 @@ use Rattle.machine_core.specs.Steward.AddRegion.{full_row, full_rows, region_cou
 use Rattle.machine_core.specs.Tests.{another_attribute}
 use Rattle.machine_core.proofs.Chains.{Gives-bind_ok, done-value}
 use Rattle.machine_core.proofs.Distinct.{AreDistinct, another-place, no-places}
-use Rattle.machine_core.proofs.Tested.{each-length, each_behind-all, each_behind-length, unless-ok}
+use Rattle.machine_core.proofs.Tested.{each-length, each_following-all, each_following-length, unless-ok}
 use Rattle.machine_laws.proofs.Lists.{pushed, slice_get-read, slice_get-there}
 use Rattle.machine_laws.proofs.Makings.{IsSoundMaking, stays, IsSoundMaking-published}
 use Rattle.machine_laws.proofs.Sessions.{distinct-below}
@@ -86,7 +86,7 @@ module _ (rows : Rows) (valid : AreValid rows) where
       (record {
         some = λ same. cc;
         steward = λ first. tt;
-        clerk = λ behind. absurd (omega (arith, behind));
+        clerk = λ following. absurd (omega (arith, following));
         stands = omega (arith, length-append rows.regions (row ∷ []));
       })
 
@@ -181,12 +181,12 @@ module _ (rows : Rows) (valid : AreValid rows) where
       record { change = change.Region one; act = act.Region; target = length rows.regions } in
       let words : List (List ℕ) = bound.names.attributes in
       let made : RegionRow = record { edition = edition; region = record { attrs = places; rows = full } } in
-      let given = Gives-Met (each_behind [] (another_attribute words) attributes) (Ok places) are_places in
-      let distinct : AreDistinct (length words) places = each_behind-all (AreDistinct (length words))
+      let given = Gives-Met (each_following [] (another_attribute words) attributes) (Ok places) are_places in
+      let distinct : AreDistinct (length words) places = each_following-all (AreDistinct (length words))
       (another_attribute words) attributes [] places (λ before word place are found. another-place words before word
       (UnknownAttr word) place are found) (no-places (length words)) given in
       let as_many : length attributes ≡ length places =
-      omega (arith, each_behind-length (another_attribute words) attributes [] places given) in
+      omega (arith, each_following-length (another_attribute words) attributes [] places given) in
       let whole = full_rows-ok attributes 1 texts full (Gives-Met (full_rows attributes 1 texts) (Ok full) are_full) in
       let few_it = few-stand which.Regions (region_count rows.regions edition + 1) few in
       subst (IsSoundMaking rows) (sym (is ∙ ap made_of is_row))

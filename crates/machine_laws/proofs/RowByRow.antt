@@ -32,7 +32,7 @@ use Rattle.desk_valid.specs.declared.bound.Bound.{Bound}
 use Rattle.desk_valid.specs.Bindings.{bound_at}
 use Rattle.desk_valid.specs.Tallies.{active_count, bytes_in, is_active, record_bytes, text_bytes, typed_bytes}
 use Rattle.desk_valid.specs.Valid.{AreValid}
-use Rattle.machine_core.specs.Checked.{Checked, done, ◌>>=◌, ◌>>◌, each, each_behind, some_or, unless}
+use Rattle.machine_core.specs.Checked.{Checked, done, ◌>>=◌, ◌>>◌, each, each_following, some_or, unless}
 use Rattle.machine_core.specs.Checked.{IsFound, ComesTo, and_then, run, Outcome, told}
 use Rattle.machine_core.specs.Checked.{Gives}
 use Rattle.machine_core.specs.declared.column.Column.{Column}
@@ -84,15 +84,15 @@ record IsColumnOf (words : List (List ℕ)) (name : List ℕ) (column : Column) 
   confirms : column.confirms ≡ is_starred name
 
 columns-found : (words : List (List ℕ)) (names : List (List ℕ)) (before columns : List Column)
-    → Gives (each_behind before (another_column words) names) (Ok columns)
+    → Gives (each_following before (another_column words) names) (Ok columns)
     → (more : List Column) × (columns ≡ before ++ more) × AllZip (IsColumnOf words) names more
 columns-found words [] before columns gives = ([], done-value before columns gives ∙ sym (append-nil before), tt)
 columns-found words (name ∷ names) before columns gives =
     let (here, is_here, is_rest) =
-    Met-Gives (each_behind before (another_column words) (name ∷ names)) (Ok columns) gives in
+    Met-Gives (each_following before (another_column words) (name ∷ names)) (Ok columns) gives in
     let (at, there, (_, free, is)) = is_here in
     let (more, same, are) = columns-found words names (before ++ here ∷ []) columns
-    (Gives-Met (each_behind (before ++ here ∷ []) (another_column words) names) (Ok columns) is_rest) in (
+    (Gives-Met (each_following (before ++ here ∷ []) (another_column words) names) (Ok columns) is_rest) in (
       here ∷ more,
       same ∙ append_assoc before (here ∷ []) more,
       (

@@ -218,7 +218,7 @@ module _ (rows : Rows) (valid : AreValid rows) where
       → own_of (changed_all rows changes) place ≡ own_of rows place
   accepted-kept steward place command answer changes (by_clerk name ticket work answer' changes' new) other is =
       let first : place ≡ 0 = cc in
-      let apart : place ≢ new.place = λ same. omega (arith, first, same, new.is_place.behind) in
+      let apart : place ≢ new.place = λ same. omega (arith, first, same, new.is_place.following) in
       ap (λ (one : Rows). own_of one place) (after-clerk name ticket work answer' changes' new)
       ∙ own_of-with_other rows new.place place (own_after (own_of rows new.place) ticket new.deed) apart
   accepted-kept steward place command answer changes (by_steward ticket work answer' changes' new) other is =
@@ -240,7 +240,7 @@ module _ (rows : Rows) (valid : AreValid rows) where
       clerk_of-ok rows.clerks name place (subst (λ one. ComesTo one (Ok place)) (sym is) refl) in
       let next : Rows = changed rows new.making.change in
       let row : ClerkRow = ticketed (own_of rows 0).row ticket new.making.act new.making.target in
-      let apart : place ≢ 0 = λ same. omega (arith, same, there.behind) in
+      let apart : place ≢ 0 = λ same. omega (arith, same, there.following) in
       let caller = get_or-set_other next.clerks 0 place row (new_clerk []) apart in
       let same : own_of (with_making ticket new.making) place ≡ own_of next place = λ i. record (own_of next place)
       { row = caller i } in

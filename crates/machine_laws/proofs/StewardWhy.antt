@@ -35,7 +35,7 @@ use Rattle.desk_words.specs.Tables.{Published, Rows, published_of}
 use Rattle.desk_valid.specs.Bindings.{binding, bound_at, parts_of}
 use Rattle.desk_valid.specs.Readings.{all_of, rules_at, schema_at}
 use Rattle.machine_core.specs.Causes.{AreWords, Cause, StandsTwice}
-use Rattle.machine_core.specs.Checked.{certainly, each_behind, some_or, unless, value_or, Gives}
+use Rattle.machine_core.specs.Checked.{certainly, each_following, some_or, unless, value_or, Gives}
 use Rattle.machine_core.specs.Faults.{bind_refusal, rules_refusal, schema_refusal, sheet_refusal}
 use Rattle.machine_core.specs.Deriving.{derivation_of, derived_rows}
 use Rattle.machine_core.specs.Finding.{edition_named, master_named, rulebook_named, schema_named}
@@ -52,8 +52,8 @@ use Rattle.machine_core.specs.Steward.AddSchema.{schema_row}
 use Rattle.machine_core.specs.Tests.{another_attribute, attribute_of, proper_name}
 use Rattle.machine_core.proofs.Chains.{Gives-bind_ok, done-value}
 use Rattle.machine_core.proofs.Masters.{master-named}
-use Rattle.machine_core.proofs.Tested.{certainly-ok, certainly-why, chain-why, done-why, each-why, each_behind-found}
-use Rattle.machine_core.proofs.Tested.{each_behind-refused, some_or-ok, some_or-why, unless-why, value_or-ok}
+use Rattle.machine_core.proofs.Tested.{certainly-ok, certainly-why, chain-why, done-why, each-why, each_following-found}
+use Rattle.machine_core.proofs.Tested.{each_following-refused, some_or-ok, some_or-why, unless-why, value_or-ok}
 use Rattle.machine_core.proofs.Tested.{value_or-why, within-why}
 use Rattle.machine_laws.proofs.Derived.{IsAskedOf-found}
 use Rattle.machine_laws.proofs.DerivingWhy.{derivation-why, derived_rows-why}
@@ -85,9 +85,9 @@ name-why P name why = unless-why P (is_name name) (BadName name) (λ fails. why 
 attributes-why : (P : Refusal → Type 0) (words names : List (List ℕ))
     → ((word : List ℕ) → Contains names word → All (λ one. one ≢ word) words → P (UnknownAttr word))
     → ((word : List ℕ) → StandsTwice names word → P (Twice word)) → (refusal : Refusal)
-    → Gives (each_behind [] (another_attribute words) names) (Err refusal) → P refusal
+    → Gives (each_following [] (another_attribute words) names) (Err refusal) → P refusal
 attributes-why P words names unknown twice refusal gives =
-    let says = each_behind-refused (another_attribute words) names [] refusal gives in
+    let says = each_following-refused (another_attribute words) names [] refusal gives in
     let word : List ℕ = says.item in
     let taken : ℕ → ℕ → Bool = λ at earlier. earlier == at in
     chain-why P (attribute_of words word) _
@@ -97,7 +97,8 @@ attributes-why P words names unknown twice refusal gives =
     (unless-why P (not (list_any (taken at) says.sofar)) (Twice word) (λ some.
     let (index, one, inside, is, holds) = Any-from_list_any (taken at) says.sofar
     (not-false (list_any (taken at) says.sofar) some) in
-    elim (each_behind-found (another_attribute words) says.earlier [] says.sofar one says.passed (index, inside, is)) [
+    elim (each_following-found (another_attribute words) says.earlier [] says.sofar one says.passed
+        (index, inside, is)) [
       | inl none ↦ absurd (omega (arith, none.1))
       | inr before ↦
           let at_word : word ≡ get_or words at [] = word-at word words at
@@ -125,10 +126,10 @@ masters-why : (P : Refusal → Type 0) (published : Published) (masters : List (
     → ((master : List ℕ × ℕ) → Contains masters master → master_named published.masters master.0 master.1 ≡ None
     → P (NoSuch kind.Master))
     → ((name : List ℕ) → StandsTwice (map (λ master. master.0) masters) name → P (Twice name)) → (refusal : Refusal)
-    → Gives (each_behind [] (another_master published.masters) masters) (Err refusal) → P refusal
+    → Gives (each_following [] (another_master published.masters) masters) (Err refusal) → P refusal
 masters-why P published masters missing twice refusal gives =
     let name_in : List ℕ × ℕ → List ℕ = λ one. one.0 in
-    let says = each_behind-refused (another_master published.masters) masters [] refusal gives in
+    let says = each_following-refused (another_master published.masters) masters [] refusal gives in
     let master : List ℕ × ℕ = says.item in
     let taken : ℕ → Bool = λ earlier. bytes_eq (master_name published.masters earlier) master.0 in
     chain-why P (some_or (master_named published.masters master.0 master.1) (NoSuch kind.Master)) _
@@ -138,7 +139,7 @@ masters-why P published masters missing twice refusal gives =
     (unless-why P (not (list_any taken says.sofar)) (Twice master.0) (λ some.
     let (index, one, inside, is, holds) = Any-from_list_any taken says.sofar
     (not-false (list_any taken says.sofar) some) in
-    elim (each_behind-found (another_master published.masters) says.earlier [] says.sofar one says.passed
+    elim (each_following-found (another_master published.masters) says.earlier [] says.sofar one says.passed
     (index, inside, is)) [
       | inl none ↦ absurd (omega (arith, none.1))
       | inr before ↦
@@ -163,13 +164,13 @@ masters-why P published masters missing twice refusal gives =
 
 -- the places of masters that are found
 masters-places : (published : Published) (masters : List (List ℕ × ℕ)) (before found : List ℕ)
-    → Gives (each_behind before (another_master published.masters) masters) (Ok found)
+    → Gives (each_following before (another_master published.masters) masters) (Ok found)
     → (places : List ℕ) × (found ≡ before ++ places)
     × (all_of (map (λ master. master_named published.masters master.0 master.1) masters) ≡ Some places)
 masters-places published [] before found gives = ([], done-value before found gives ∙ sym (append-nil before), refl)
 masters-places published (master ∷ masters) before found gives =
     let (here, is_here, left) = Gives-bind_ok (another_master published.masters before master)
-    (λ one. each_behind (before ++ one ∷ []) (another_master published.masters) masters) found gives in
+    (λ one. each_following (before ++ one ∷ []) (another_master published.masters) masters) found gives in
     let (at, there, (passed, free, is)) =
     Met-Gives (another_master published.masters before master) (Ok here) is_here in
     let first : master_named published.masters master.0 master.1 ≡ Some here = there ∙ ap Some (sym is) in
@@ -182,10 +183,10 @@ masters-places published (master ∷ masters) before found gives =
     )
 
 -- what stands after others
-slice_get-behind : {A : Type 0} (before : List A) (item : A) (rest : List A)
+slice_get-following : {A : Type 0} (before : List A) (item : A) (rest : List A)
     → slice_get (before ++ item ∷ rest) (length before) ≡ Some item
-slice_get-behind [] item rest = refl
-slice_get-behind (first ∷ before) item rest = slice_get-behind before item rest
+slice_get-following [] item rest = refl
+slice_get-following (first ∷ before) item rest = slice_get-following before item rest
 
 -- the rows of a region, of which one is too narrow or has a text that is too long
 rows-why : (P : Refusal → Type 0) (attributes : List (List ℕ)) (all before rows : List (List (List ℕ))) (number : ℕ)
@@ -199,7 +200,7 @@ rows-why P attributes all before [] number is counted narrow long refusal gives 
 rows-why P attributes all before (first ∷ others) number is counted narrow long refusal gives =
     let here : slice_get all (number - 1) ≡ Some first =
     ap (λ list. slice_get list (number - 1)) is
-    ∙ ap (slice_get (before ++ first ∷ others)) (omega (arith, counted)) ∙ slice_get-behind before first others in
+    ∙ ap (slice_get (before ++ first ∷ others)) (omega (arith, counted)) ∙ slice_get-following before first others in
     let listed : Contains all first = Contains-between all before others first is in
     chain-why P (full_row attributes number first) _
     (chain-why P (unless (length first == length attributes) (RowWidth number)) _
@@ -379,7 +380,7 @@ module _ (rows : Rows) (ticket : Ticket) where
         stands = names_it;
         are = ap (option_map (λ one. one.schema.attributes)) (certainly-ok (rules_at published book) rules is);
       }) in
-      chain-why P (each_behind [] (another_attribute rules.schema.attributes) folded) _
+      chain-why P (each_following [] (another_attribute rules.schema.attributes) folded) _
       (attributes-why P rules.schema.attributes folded (λ word listed unknown. (
         rules.schema.attributes,
         words,
@@ -388,7 +389,7 @@ module _ (rows : Rows) (ticket : Ticket) where
       )) (λ word twice. inl twice))
       (λ attributes attributes_ok. chain-why P (within which.EditionMasters (length masters)) _
       (within-why P which.EditionMasters (length masters) (λ more. (_, refl, refl, more)))
-      (λ few few_ok. chain-why P (each_behind [] (another_master published.masters) masters) _
+      (λ few few_ok. chain-why P (each_following [] (another_master published.masters) masters) _
       (masters-why P published masters (λ master listed none. inl (master, listed, none))
       (λ one twice. inr (inl twice)))
       (λ places places_ok.
@@ -437,7 +438,7 @@ module _ (rows : Rows) (ticket : Ticket) where
         binds = certainly-ok (bound_at published at) bound is;
         are = refl;
       }) in
-      chain-why P (each_behind [] (another_attribute bound.names.attributes) attributes) _
+      chain-why P (each_following [] (another_attribute bound.names.attributes) attributes) _
       (attributes-why P bound.names.attributes attributes (λ word listed unknown. (
         bound.names.attributes,
         words,

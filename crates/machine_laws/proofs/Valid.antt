@@ -50,7 +50,7 @@ AreOwnRows-same published sessions other_sessions records other_records batches 
     (subst (λ list. AreOwnRows published sessions records list) (sym same_batches) are))
 
 -- the rows that are published after those before are good
-pub record AreGoodBehind (before now : Published) : Type 0 where
+pub record AreGoodAfter (before now : Published) : Type 0 where
   pub schemas : (place : ℕ) (row : SchemaRow) → length before.schemas ≤ place → slice_get now.schemas place ≡ Some row
       → IsSchemaRow now place row
   pub masters : (place : ℕ) (row : MasterRow) → length before.masters ≤ place → slice_get now.masters place ≡ Some row
@@ -74,7 +74,7 @@ with_published rows published = record rows {
 
 -- more that is published, and good, leaves valid tables
 pub AreValid-published : (rows : Rows) (published : Published) → AreValid rows → AreMore (published_of rows) published
-    → AreGoodBehind (published_of rows) published → AreTables (with_published rows published)
+    → AreGoodAfter (published_of rows) published → AreTables (with_published rows published)
     → AreValid (with_published rows published)
 AreValid-published rows published valid more good tables =
     let other : Rows = with_published rows published in

@@ -45,7 +45,7 @@ use Rattle.fix_model.specs.Run.{end_of}
 use Rattle.fix_model.specs.States.{uncovered_count}
 use Rattle.machine_core.specs.Answers.{bound_for, state_of}
 use Rattle.machine_core.specs.Causes.{AreWords, AsksWith, Cause, Commits, MakesSessions, Names, RefusesBody}
-use Rattle.machine_core.specs.Checked.{Answer, Checked, ◌>>=◌, ◌>>◌, answer_for, certainly, done, each, each_behind}
+use Rattle.machine_core.specs.Checked.{Answer, Checked, ◌>>=◌, ◌>>◌, answer_for, certainly, done, each, each_following}
 use Rattle.machine_core.specs.Checked.{IsFound, some_or, unless, value_or, Gives}
 use Rattle.machine_core.specs.Clerk.Abandon.{abandon}
 use Rattle.machine_core.specs.declared.column.Column.{Column}
@@ -65,8 +65,8 @@ use Rattle.machine_core.specs.Own.{Own, own_of}
 use Rattle.machine_core.specs.Tests.{active, active_session, attribute_of, session_of, typed_cell}
 use Rattle.machine_core.specs.Views.{edition_at, view_of}
 use Rattle.machine_core.proofs.Chains.{Gives-bind_ok, done-value, refused-not_done, refused-refusal}
-use Rattle.machine_core.proofs.Tested.{certainly-ok, certainly-why, chain-why, done-why, each-why, each_behind-found}
-use Rattle.machine_core.proofs.Tested.{each_behind-refused, some_or-ok, some_or-why, unless-why, value_or-ok}
+use Rattle.machine_core.proofs.Tested.{certainly-ok, certainly-why, chain-why, done-why, each-why, each_following-found}
+use Rattle.machine_core.proofs.Tested.{each_following-refused, some_or-ok, some_or-why, unless-why, value_or-ok}
 use Rattle.machine_core.proofs.Tested.{value_or-why, within-why}
 use Rattle.machine_laws.proofs.Explanations.{answer-given}
 use Rattle.machine_laws.proofs.Names.{none-passes}
@@ -255,7 +255,7 @@ carry_row-why rows command own number version asks names carries =
     (certainly-why P (bound_at (published_of rows) session.edition)) (λ before binds.
     chain-why P (certainly (bound_at (published_of rows) edition)) _
     (certainly-why P (bound_at (published_of rows) edition))
-    (λ behind binds_too. done-why P _)))))
+    (λ following binds_too. done-why P _)))))
 
 module _ (rows : Rows) (name : List ℕ) (place : ℕ) (found : IsFound (clerk_of rows.clerks name) place) (ticket : Ticket)
   where
@@ -500,12 +500,12 @@ module _ (rows : Rows) (name : List ℕ) (place : ℕ) (found : IsFound (clerk_o
     column-why : (edition body : List ℕ) (words : List (List ℕ)) (columns : List (List ℕ)) (refusal : Refusal)
         → AreWords rows (Clerk name ticket (Batch edition body)) words
         → attributes_in (Clerk name ticket (Batch edition body)) ≡ map word_of columns
-        → Gives (each_behind [] (another_column words) columns) (Err refusal)
+        → Gives (each_following [] (another_column words) columns) (Err refusal)
         → Cause rows (Clerk name ticket (Batch edition body)) refusal
     column-why edition body words columns refusal are named gives =
         let command : Command = Clerk name ticket (Batch edition body) in
         let P : Refusal → Type 0 = Cause rows command in
-        let says = each_behind-refused (another_column words) columns [] refusal gives in
+        let says = each_following-refused (another_column words) columns [] refusal gives in
         let column : List ℕ = says.item in
         let word : List ℕ = word_of column in
         let listed : Contains (map word_of columns) word =
@@ -518,7 +518,7 @@ module _ (rows : Rows) (name : List ℕ) (place : ℕ) (found : IsFound (clerk_o
         (unless-why P (not (list_any (taken at) says.sofar)) (Twice word) (λ some.
         let (index, one, inside, is, holds) = Any-from_list_any (taken at) says.sofar
         (not-false (list_any (taken at) says.sofar) some) in
-        let earlier = each_behind-found (another_column words) says.earlier [] says.sofar one says.passed
+        let earlier = each_following-found (another_column words) says.earlier [] says.sofar one says.passed
         (index, inside, is) in
         elim earlier [
           | inl none ↦ absurd (omega (arith, none.1))
@@ -568,7 +568,7 @@ module _ (rows : Rows) (name : List ℕ) (place : ℕ) (found : IsFound (clerk_o
         sheet-why rows command body fault wrong (λ refusal same. (fault, wrong, same))))
         (λ sheet reads_it.
         let reads = value_or-ok (read_sheet body) sheet_refusal sheet reads_it in
-        chain-why P (each_behind [] (another_column bound.names.attributes) sheet.columns) _ (λ refusal gives.
+        chain-why P (each_following [] (another_column bound.names.attributes) sheet.columns) _ (λ refusal gives.
         column-why edition body bound.names.attributes sheet.columns refusal words (ap sheet_words reads) gives)
         (λ columns given.
         let makes : MakesSessions command (length sheet.grid.rows) = (sheet, reads, refl) in

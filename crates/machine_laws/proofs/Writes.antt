@@ -39,7 +39,7 @@ use Rattle.desk_words.specs.declared.refusal.Refusal.{Refusal}
 -- the place of the clerk of a name: after the steward
 pub record IsPlaceOf (clerks : List ClerkRow) (name : List ℕ) (place : ℕ) : Type 0 where
   pub found : IsFound (clerk_of clerks name) place
-  pub behind : 0 < place
+  pub following : 0 < place
   pub within : place < length clerks
 
 pub clerk_of-ok : (clerks : List ClerkRow) (name : List ℕ) (place : ℕ) → Gives (clerk_of clerks name) (Ok place)
@@ -51,7 +51,7 @@ clerk_of-ok clerks name place gives =
     let short = (position-Some is_named (drop 1 clerks) found.0 (new_clerk []) found.1).0 in
     record {
       found = ap (λ one. run (some_or one NoClerk)) there;
-      behind = omega (arith, found.2);
+      following = omega (arith, found.2);
       within = omega (arith, found.2, short, length-drop 1 clerks);
     }
 

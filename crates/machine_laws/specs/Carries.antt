@@ -30,11 +30,11 @@ pub record IsCarried (published : Published) (version : ℕ) (old new : SessionR
   pub asked_for : (edition_at published new.edition).version ≡ version
   pub newer : (edition_at published old.edition).version < version
   pub before : Bound
-  pub behind : Bound
+  pub following : Bound
   pub binds : bound_at published old.edition ≡ Some before
-  pub binds_behind : bound_at published new.edition ≡ Some behind
+  pub binds_following : bound_at published new.edition ≡ Some following
   pub moved : Moved
-  pub is_moved : IsMoved before.names.attributes behind.names.attributes old.typed old.confirmed moved
+  pub is_moved : IsMoved before.names.attributes following.names.attributes old.typed old.confirmed moved
   pub typed : new.typed ≡ moved.typed
   pub confirmed : new.confirmed ≡ moved.confirmed
   pub stage : new.stage ≡ old.stage
@@ -64,5 +64,5 @@ pub record CarriesOne (rows : Rows) (name : List ℕ) (ticket : Ticket) (number 
     sessions = slice_set rows.sessions place (slice_set (list_at rows.sessions place) (number - 1) new);
   }
   pub made_of_it : Answer
-  pub answers : IsAnswer is_carried.behind.kit (state_of new) made_of_it.first made_of_it.second made_of_it.verdict
-  pub is_told : answer ≡ reply.View (view_with (published_of rows) number new is_carried.behind made_of_it)
+  pub answers : IsAnswer is_carried.following.kit (state_of new) made_of_it.first made_of_it.second made_of_it.verdict
+  pub is_told : answer ≡ reply.View (view_with (published_of rows) number new is_carried.following made_of_it)

@@ -23,10 +23,10 @@ each-push {A} {B} find (first ∷ others) found item value gives is =
     let here = Gives-bind_ok (find first) (λ one. each find others >>= (λ more. done (one ∷ more))) found gives in
     let rest = Gives-bind_ok (each find others) (λ more. done (here.0 ∷ more)) found here.2 in
     let both : found ≡ here.0 ∷ rest.0 = done-value (here.0 ∷ rest.0) found rest.2 in
-    let behind = each-push find others rest.0 item value rest.1 is in
+    let following = each-push find others rest.0 item value rest.1 is in
     rw both (Gives-bind (find first) (λ one. each find (others ++ item ∷ []) >>= (λ more. done (one ∷ more))) here.0
     (Ok (here.0 ∷ (rest.0 ++ value ∷ []))) here.1 (Gives-bind (each find (others ++ item ∷ []))
-    (λ more. done (here.0 ∷ more)) (rest.0 ++ value ∷ []) (Ok (here.0 ∷ (rest.0 ++ value ∷ []))) behind refl))
+    (λ more. done (here.0 ∷ more)) (rest.0 ++ value ∷ []) (Ok (here.0 ∷ (rest.0 ++ value ∷ []))) following refl))
 
 -- one more is counted where it passes
 pub count-push : {A : Type 0} (passes : A → Bool) (items : List A) (item : A)

@@ -71,8 +71,8 @@ module _ (P : ℕ → Type 0) (rows : List ℕ) (complete : (row : ℕ) → P ro
   least_from_first ascends place within none =
       all_from_listed (λ row. get_or rows place 0 ≤ row)
       (λ k inside listed.
-      let behind : place ≤ k = least_from_none_below (λ (n : ℕ). P (get_or rows n 0)) place none k listed in
-      elim (eq-or-lt_of_le behind) [
+      let following : place ≤ k = least_from_none_below (λ (n : ℕ). P (get_or rows n 0)) place none k listed in
+      elim (eq-or-lt_of_le following) [
         | inl here ↦ rw here (omega arith)
         | inr later ↦ (let below = ascends place k 0 later inside in omega arith)
       ])

@@ -136,7 +136,7 @@ slice_cmp-led (suc count) (byte ∷ rest) [] bytes others less = absurd (omega a
 slice_cmp-led (suc count) (byte ∷ rest) (against ∷ more) bytes others less = elim (below_or byte against) [
   | inl before ↦ rw (← (nat_cmp_is byte against Less before)) refl
   | inr up_to ↦ elim (below_or against byte) [
-    | inl behind ↦
+    | inl following ↦
         let next : against + 1 ≤ byte = omega arith in
         let weight : (against + 1) * 256 ^ count ≤ byte * 256 ^ count = mul-le-mul_right (256 ^ count) next in
         absurd (omega (arith, weight, led-bound count more others.1))

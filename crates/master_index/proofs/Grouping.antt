@@ -85,12 +85,13 @@ module _ (key : ℕ → List (List ℕ)) where
       rw stands at far
 
   -- such a row of the same key has a smaller number
-  pub behind-not_before : (row other : ℕ) → is_lt (row_order key row other) ≡ false → key other ≡ key row → other ≤ row
-  behind-not_before row other not_less same =
+  pub following-not_before : (row other : ℕ) → is_lt (row_order key row other) ≡ false → key other ≡ key row
+      → other ≤ row
+  following-not_before row other not_less same =
       let tied : key_order (key row) (key other) ≡ Equal = rw same (tied_itself key_order-total (key row)) in
       not_less-order row other (nat_cmp row other) refl (rw tied at not_less)
 
-module _ (P : ℕ → Type 0) (row : ℕ) (behind : (other : ℕ) → P other → other ≤ row) where
+module _ (P : ℕ → Type 0) (row : ℕ) (following : (other : ℕ) → P other → other ≤ row) where
   -- the rows with a property, and one that stands after them
   abbrev pub OneMore : ℕ → Type 0
   OneMore other = P other ⊎ (other ≡ row)
@@ -101,7 +102,7 @@ module _ (P : ℕ → Type 0) (row : ℕ) (behind : (other : ℕ) → P other �
     where
       least : (other : ℕ) → OneMore other → first ≤ other
       least other (inl has) = is.least other has
-      least other (inr last) = rw last (behind first is.agrees)
+      least other (inr last) = rw last (following first is.agrees)
 
   module _ (text : ℕ → List ℕ) where
     -- so does the least that gives another text
@@ -110,7 +111,7 @@ module _ (P : ℕ → Type 0) (row : ℕ) (behind : (other : ℕ) → P other �
       where
         least : (next : ℕ) → OneMore next → text next ≢ text first → other ≤ next
         least next (inl has) differs = is.least next has differs
-        least next (inr last) differs = rw last (behind other is.agrees)
+        least next (inr last) differs = rw last (following other is.agrees)
 
     -- where all give one text and this row gives it, all give it
     same-more : (first : ℕ) → ((other : ℕ) → P other → text other ≡ text first) → text row ≡ text first → (other : ℕ)
@@ -186,7 +187,7 @@ module _ (key : ℕ → List (List ℕ)) (text : ℕ → List ℕ) (rows : List 
       text entry is
 
   -- a row whose key is that of the last entry makes that entry grow
-  module _ (behind : (other : ℕ) → StandsBefore rows count other → key other ≡ key row → other ≤ row) (d : Hit)
+  module _ (following : (other : ℕ) → StandsBefore rows count other → key other ≡ key row → other ≤ row) (d : Hit)
       (some : 0 < length entries) where
     -- the last entry
     abbrev end : Hit
@@ -213,7 +214,7 @@ module _ (key : ℕ → List (List ℕ)) (text : ℕ → List ℕ) (rows : List 
           let first = IsGrown-first text end row grown grows in
           let P = λ (other : ℕ). StandsBefore rows count other × (key other ≡ key end.first) in
           let is : IsHitOf text P end = are.each (length entries - 1) d (omega arith) in
-          let after : (other : ℕ) → P other → other ≤ row = λ other has. behind other has.0 (has.1 ∙ same) in
+          let after : (other : ℕ) → P other → other ≤ row = λ other has. following other has.0 (has.1 ∙ same) in
           let more : IsHitOf text (OneMore P row after) grown = IsHitOf-grown P row after text end grown is grows in
           let keys : key grown.first ≡ key end.first = ap key first in
           IsHitOf-iff (OneMore P row after) (λ (other : ℕ). StandsBefore rows (count + 1) other ×

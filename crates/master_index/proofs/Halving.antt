@@ -87,9 +87,9 @@ module _ (key : ℕ → List (List ℕ)) (text : ℕ → List ℕ) (IsListed : �
       below = narrowed.below;
       above = λ k e h g. elim (eq-or-lt_of_le h) [
         | inl here ↦ rw (← here, get_or_default entries middle e d (omega (arith, narrowed.within))) greater
-        | inr behind ↦ rw (get_or_default entries k e d g)
+        | inr following ↦ rw (get_or_default entries k e d g)
             (turned_less sought (key_at k d) (key_order-total.trans sought (key_at middle d) (key_at k d)
-            (turned_greater (key_at middle d) sought greater) (are.ascending middle k d behind g)))
+            (turned_greater (key_at middle d) sought greater) (are.ascending middle k d following g)))
       ];
     }
 
@@ -101,7 +101,7 @@ module _ (key : ℕ → List (List ℕ)) (text : ℕ → List ℕ) (IsListed : �
       let is : key_at k hit ≡ sought = ap (λ (hit : Hit). key hit.first) stands ∙ its ∙ same in
       elim (below_or k low) [
         | inl before ↦ key_order-irreflexive (key_at k hit) sought (narrowed.below k hit before) is
-        | inr behind ↦ (let greater = narrowed.above k hit (omega arith) within
+        | inr following ↦ (let greater = narrowed.above k hit (omega arith) within
             in absurd (let e = rw is at greater in let f = tied_itself key_order-total sought in cc))
       ]
 

@@ -11,7 +11,7 @@ use Rattle.std.proofs.lemmas.List.Elements.{Contains-append_cases}
 use Rattle.std.proofs.Math.Seq.{take-suc}
 use Rattle.region_suggest.specs.declared.dependencies.Dependencies.{Dependencies}
 use Rattle.region_suggest.specs.Dependencies.{left_count, occurrences, users, uses_of, with_uses}
-use Rattle.fix_engine.proofs.Lists.{All-Contains, Contains-behind, Contains-cases, Contains-first}
+use Rattle.fix_engine.proofs.Lists.{All-Contains, Contains-following, Contains-cases, Contains-first}
 
 -- ---- occurrences
 
@@ -37,7 +37,7 @@ pub occurrences-Contains : (one : ℕ) (xs : List ℕ) → Contains xs one → 0
 occurrences-Contains one [] h = absurd (omega (arith, h.1))
 occurrences-Contains one (x ∷ xs) h = elim (Contains-cases x one xs h) [
   | inl same ↦ rw (eq-eqb x one (sym same)) (omega arith)
-  | inr behind ↦ omega (arith, occurrences-Contains one xs behind)
+  | inr following ↦ omega (arith, occurrences-Contains one xs following)
 ]
 
 -- a list contains a number, or it does not occur in it
@@ -46,7 +46,7 @@ Contains-or-none one [] = inr refl
 Contains-or-none one (x ∷ xs) = elim (cases_Bool (x == one)) [
   | inl same ↦ inl (rw (eqb-true x one same) (Contains-first one xs))
   | inr differs ↦ elim (Contains-or-none one xs) [
-    | inl behind ↦ inl (Contains-behind x one xs behind)
+    | inl following ↦ inl (Contains-following x one xs following)
     | inr none ↦ inr (rw differs (omega (arith, none)))
   ]
 ]
@@ -194,7 +194,7 @@ Contains-with_uses one (attribute ∷ rest) uses place other within = let added 
           let is : place ≡ attribute = eqb-true place attribute same in
           let read : users used place ≡ added = rw is (get_or-set_same uses attribute added [] here) in (
             (λ h. elim (later.0 h) [
-              | inr behind ↦ inr (behind.0, Contains-behind attribute place rest behind.1)
+              | inr following ↦ inr (following.0, Contains-following attribute place rest following.1)
               | inl there ↦ elim (Contains-append_cases (users uses attribute) (one ∷ []) other (rw read at there)) [
                 | inl before ↦ inl (rw is before)
                 | inr last ↦ elim (Contains-cases one other [] last) [
@@ -213,14 +213,14 @@ Contains-with_uses one (attribute ∷ rest) uses place other within = let added 
           let apart : place ≢ attribute = eqb-false place attribute differs in
           let read : users used place ≡ users uses place = get_or-set_other uses attribute place added [] apart in (
             (λ h. elim (later.0 h) [
-              | inr behind ↦ inr (behind.0, Contains-behind attribute place rest behind.1)
+              | inr following ↦ inr (following.0, Contains-following attribute place rest following.1)
               | inl there ↦ inl (rw read at there)
             ]),
             λ h. elim h [
               | inl before ↦ later.1 (inl (rw read before))
               | inr equal ↦ elim (Contains-cases attribute place rest equal.1) [
                 | inl first ↦ absurd (apart first)
-                | inr behind ↦ later.1 (inr (equal.0, behind))
+                | inr following ↦ later.1 (inr (equal.0, following))
               ]
             ],
           )

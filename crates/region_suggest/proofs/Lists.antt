@@ -9,14 +9,14 @@ use Rattle.std.proofs.lemmas.List.{get_or-map, get_or-set_same, get_or-set_other
 use Rattle.std.proofs.lemmas.List.{replicate-append-replicate}
 use Rattle.std.proofs.lemmas.List.Elements.{Contains-append_left, Contains-append_right, Contains-append_cases}
 use Rattle.fix_engine.specs.Flags.{IsFlagged}
-use Rattle.fix_engine.proofs.Lists.{Contains-behind, Contains-cases, Contains-first}
+use Rattle.fix_engine.proofs.Lists.{Contains-following, Contains-cases, Contains-first}
 
 -- the item at a place is in the list
 pub Contains-at : {A : Type 0} (xs : List A) (k : ℕ) (d : A) → k < length xs → Contains xs (get_or xs k d)
 Contains-at [] k d within = absurd (omega (arith, within))
 Contains-at (x ∷ xs) zero d within = Contains-first x xs
 Contains-at (x ∷ xs) (suc k) d within =
-    Contains-behind x (get_or xs k d) xs (Contains-at xs k d (omega (arith, within)))
+    Contains-following x (get_or xs k d) xs (Contains-at xs k d (omega (arith, within)))
 
 -- the image of an item is among the images
 pub Contains-map : {A B : Type 0} (f : A → B) (xs : List A) (k : ℕ) (d : A) → k < length xs
@@ -105,7 +105,7 @@ pub Contains-mapped : {A : Type 0} (name : A → ℕ) (P : ℕ → Type 0) (item
 Contains-mapped name P [] one all h = absurd (omega (arith, h.1))
 Contains-mapped name P (item ∷ items) one all h = elim (Contains-cases (name item) one (map name items) h) [
   | inl is ↦ rw is (all zero item (omega arith))
-  | inr behind ↦ Contains-mapped name P items one (λ k d below. all (suc k) d (omega (arith, below))) behind
+  | inr following ↦ Contains-mapped name P items one (λ k d below. all (suc k) d (omega (arith, below))) following
 ]
 
 -- what holds at each place of a list, and of one item more, holds at each place with it

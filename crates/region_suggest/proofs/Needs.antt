@@ -73,7 +73,7 @@ module _ (kit : Kit) (state : State) where
             | inr uncovered ↦ AreAllHoped-more (IsGivenWithout state need first) (IsFrom first)
                 (λ other below given. elim given [
                   | inl before ↦ inl before
-                  | inr behind ↦ inr (omega (arith, behind.0), behind.1)
+                  | inr following ↦ inr (omega (arith, following.0), following.1)
                 ]) (AreAllHoped-stable (IsGivenWithout state need first)
                 (λ missed. not_needed ((is_need.each first).1 (record {
                   within = omega (arith, more);

@@ -33,7 +33,7 @@ pub ListsExactly-push : (Before After : ℕ × ℕ → Type 0) (pairs longer : L
     → ((other : ℕ × ℕ) → Before other → IsOfferBefore other pair)
     → ((other : ℕ × ℕ) → After other ↔ (Before other ⊎ (other ≡ pair)))
     → ListsExactly After longer
-ListsExactly-push Before After pairs longer pair pushed lists behind same = record {
+ListsExactly-push Before After pairs longer pair pushed lists following same = record {
   in_order = rw pushed (λ i j d less within. elim (decide_less j (length pairs)) [
     | inl before ↦ rw (
       get_or_append_left pairs (pair ∷ []) d j before,
@@ -43,7 +43,7 @@ ListsExactly-push Before After pairs longer pair pushed lists behind same = reco
         let is : j ≡ length pairs = omega (arith, within, last, length-append pairs (pair ∷ [])) in
         let under : i < length pairs = omega (arith, less, is) in
         rw (is, get_or-append_seam pairs pair [] d, get_or_append_left pairs (pair ∷ []) d i under)
-        (behind (get_or pairs i d) ((lists.each (get_or pairs i d)).0 (Contains-at pairs i d under)))
+        (following (get_or pairs i d) ((lists.each (get_or pairs i d)).0 (Contains-at pairs i d under)))
   ]);
   each = λ one. (
     (λ h. elim (Contains-append_cases pairs (pair ∷ []) one (rw pushed at h)) [

@@ -89,7 +89,7 @@ module _ (kit : Kit) (state : State) where
               | inl covered ↦ absurd (uncovered_first (rw is at covered))
               | inr there ↦ elim there [
                 | inl before ↦ absurd (let h = before.0 in omega (arith, h, is))
-                | inr behind ↦ absurd (let h = behind.0 in omega (arith, h, is))
+                | inr following ↦ absurd (let h = following.0 in omega (arith, h, is))
               ]
             ],
           )
@@ -181,11 +181,11 @@ IsNeed-tried kit state flags need tried lists =
     let into : (attribute other : ℕ) → other < kit.width → IsGivenAt state flags attribute other
     → IsGivenWithout state need attribute other =
     λ attribute other below given. elim given
-    [ inl before ↦ inl before | inr behind ↦ inr (behind.0, (lists.each other).1 (below, behind.1)) ] in
+    [ inl before ↦ inl before | inr following ↦ inr (following.0, (lists.each other).1 (below, following.1)) ] in
     let out_of : (attribute other : ℕ) → other < kit.width → IsGivenWithout state need attribute other
     → IsGivenAt state flags attribute other =
     λ attribute other below given. elim given
-    [ inl before ↦ inl before | inr behind ↦ inr (behind.0, ((lists.each other).0 behind.1).1) ] in
+    [ inl before ↦ inl before | inr following ↦ inr (following.0, ((lists.each other).0 following.1).1) ] in
     record {
       in_order = lists.in_order;
       each = λ attribute. (

@@ -31,10 +31,10 @@ use Rattle.fix_engine.proofs.Departures.{IsInside-step, IsInside-then}
 use Rattle.desk_base.specs.Places.{is_listed}
 
 -- the rest of a run is a run from the end of its beginning
-pub IsRun-behind : (kit : Kit) (state : State) (run rest : List Step) → IsRun kit state (run ++ rest)
+pub IsRun-following : (kit : Kit) (state : State) (run rest : List Step) → IsRun kit state (run ++ rest)
     → IsRun kit (end_of kit state run) rest
-IsRun-behind kit state [] rest whole = whole
-IsRun-behind kit state (step ∷ run) rest whole = IsRun-behind kit (after kit state step) run rest whole.1
+IsRun-following kit state [] rest whole = whole
+IsRun-following kit state (step ∷ run) rest whole = IsRun-following kit (after kit state step) run rest whole.1
 
 -- what is covered is an attribute
 pub IsCovered-within : (kit : Kit) (state : State) → Fits kit state → (attribute : ℕ) → IsCovered state attribute

@@ -51,7 +51,7 @@ fn add_rows<L, B: Book<L>>(
     requires few_regions { length regions.now < 2 ^ 32 }
     requires few_rows { length (region_at regions.now place).rows < 2 ^ 32 }
     requires before { ListsExactly (IsMatchWithin (B.kit book.now) state.now regions.now place 0) found.old }
-    ensures behind { OnOk result
+    ensures following { OnOk result
         (ListsExactly (IsMatchWithin (B.kit book.now) state.now regions.now (place + 1) 0) found.new) }
     ensures few { OnOk result (length found.new ≤ length found.old + length (region_at regions.now place).rows) }
 {

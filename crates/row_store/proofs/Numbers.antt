@@ -49,19 +49,19 @@ fits_between (negsuc n) low high = grind (arith, ints, nat_tests)
 -- ---- the number for the next row
 
 -- the number after that of a row
-abbrev behind : ℤ → Row → ℤ
-behind n row = number_of row +ℤ pos 1
+abbrev following : ℤ → Row → ℤ
+following n row = number_of row +ℤ pos 1
 
 lower_than : (a b c : ℤ) → int_cmp a b ≡ Less → b <ℤ c → a <ℤ c
 lower_than a b c p q = grind (arith, ints, nat_tests)
 
 -- it is above that of each row
 below_next : (first : ℤ) (rows : List Row) → IsTable rows → AllByRecursion HasId rows
-    → AllByRecursion (λ row. number_of row <ℤ fold behind first rows) rows
+    → AllByRecursion (λ row. number_of row <ℤ fold following first rows) rows
 below_next first [] up keyed = tt
 below_next first (x ∷ []) up keyed = (omega (arith, ints), tt)
 below_next first (x ∷ y ∷ rows) ((before, all_before), up) ((n, x_is), keyed) =
-    let later = below_next (behind first x) (y ∷ rows) up keyed in
+    let later = below_next (following first x) (y ∷ rows) up keyed in
     let (m, y_is) = keyed.0 in
     let lower : int_cmp (number_of x) (number_of y) ≡ Less =
     rw (x_is, y_is) (sym (value_cmp-Int n m) ∙ (rw (x_is, y_is) at before)) in
@@ -69,23 +69,23 @@ below_next first (x ∷ y ∷ rows) ((before, all_before), up) ((n, x_is), keyed
 
 -- it is at most what is above each row
 next_most : (most first : ℤ) (rows : List Row) → first ≤ℤ most → AllByRecursion (λ row. number_of row <ℤ most) rows
-    → fold behind first rows ≤ℤ most
+    → fold following first rows ≤ℤ most
 next_most most first [] low all = low
 next_most most first (row ∷ rows) low all = let here = all.0 in
-    next_most most (behind first row) rows (omega (arith, ints)) all.1
+    next_most most (following first row) rows (omega (arith, ints)) all.1
 
 next_there : (most : ℤ) (rows : List Row) (x : Row) → Has rows x → AllByRecursion (λ row. number_of row <ℤ most) rows
     → next_rowid rows ≤ℤ most
 next_there most [] x there all = absurd there
 next_there most (row ∷ rows) x there all = let here = all.0 in
-    next_most most (behind (pos 1) row) rows (omega (arith, ints)) all.1
+    next_most most (following (pos 1) row) rows (omega (arith, ints)) all.1
 
 -- it is not below those of 64 bits
 next_not_low : (first : ℤ) (rows : List Row) → negsuc (2 ^ 63 - 1) ≤ℤ first → AllByRecursion IsNotLow rows
-    → negsuc (2 ^ 63 - 1) ≤ℤ fold behind first rows
+    → negsuc (2 ^ 63 - 1) ≤ℤ fold following first rows
 next_not_low first [] low all = low
 next_not_low first (row ∷ rows) low all = let here = all.0 in
-    next_not_low (behind first row) rows (omega (arith, ints)) all.1
+    next_not_low (following first row) rows (omega (arith, ints)) all.1
 
 -- ---- how rows are numbered
 

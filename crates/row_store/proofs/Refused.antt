@@ -54,15 +54,15 @@ stopped_alone old new e other failed =
 pub stopped_within : (old mid late new : State) → old.faults ≤ mid.faults → mid.step_limit ≡ old.step_limit
     → (IsTrue old.is_open → IsTrue mid.is_open ⊎ MoreFaults old.faults mid.faults) → mid.faults ≤ late.faults
     → late.faults ≤ new.faults → IsStopped mid late → IsStopped old new
-stopped_within old mid late new before limit closes during behind (inl failed) = inl (omega arith)
-stopped_within old mid late new before limit closes during behind (inr (inl shut)) = elim (cases_Bool old.is_open) [
+stopped_within old mid late new before limit closes during following (inl failed) = inl (omega arith)
+stopped_within old mid late new before limit closes during following (inr (inl shut)) = elim (cases_Bool old.is_open) [
   | inl opened ↦ elim (closes opened) [
     | inl still ↦ absurd (true≢false (sym still ∙ shut))
     | inr failed ↦ inl (omega (arith, failed))
   ]
   | inr was_shut ↦ inr (inl was_shut)
 ]
-stopped_within old mid late new before limit closes during behind (inr (inr limited)) =
+stopped_within old mid late new before limit closes during following (inr (inr limited)) =
     inr (inr (subst IsSome limit limited))
 
 -- the command writes, and neither begins nor ends a transaction

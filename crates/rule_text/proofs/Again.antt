@@ -24,7 +24,7 @@ use Rattle.rule_text.specs.declared.draft.Draft.{Draft}
 use Rattle.rule_text.specs.Tokens.{piece_at}
 use Rattle.rule_text.specs.Grammar.{next}
 use Rattle.rule_text.specs.Tokenizer.{taken_from, tokens_of}
-use Rattle.rule_text.specs.Reading.{draft_behind, has_name, has_attribute, with_token}
+use Rattle.rule_text.specs.Reading.{draft_following, has_name, has_attribute, with_token}
 use Rattle.rule_text.specs.Reading.{begins_rule, extra_rule, read_rules}
 use Rattle.rule_text.specs.Rulebooks.{IsPlain, IsPattern, ArePairs, IsLine, AreNamedApart}
 use Rattle.rule_text.specs.Rulebooks.{IsRulebook}
@@ -48,11 +48,11 @@ reads-end : (schema : Schema) (is : IsSchema schema) (lines : List RuleLine) (na
     → ArePairs IsPattern schema conds → has_attribute conds head ≡ false
     → Reads schema expected.AfterHead (drafted lines (ruled name master keys head column []) attribute negated [])
     (conds_text schema conds ++ (codes ";\n" ++ rest)) expected.Rule
-    (draft_behind (lines ++ ruled name master keys head column conds ∷ [])) rest 0
+    (draft_following (lines ++ ruled name master keys head column conds ∷ [])) rest 0
 unfolding next with_token piece_at
 reads-end schema is lines name master keys head column [] attribute negated rest are no_cond =
     let whole = drafted lines (ruled name master keys head column []) attribute negated [] in
-    let held = draft_behind (lines ++ ruled name master keys head column [] ∷ []) in
+    let held = draft_following (lines ++ ruled name master keys head column [] ∷ []) in
     reads-token schema expected.AfterHead expected.Rule whole held 59 (10 ∷ rest) (10 ∷ rest) (Sign mark.Semicolon) 0
     0 refl refl refl (λ place. refl) refl
     ▸ newline schema expected.Rule held rest
@@ -60,7 +60,7 @@ reads-end schema is lines name master keys head column (cond ∷ others) attribu
     let conds = cond ∷ others in
     let start = drafted lines (ruled name master keys head column []) attribute negated [] in
     let tail = listed (map (cond_text schema) conds) ++ (codes ";\n" ++ rest) in
-    let held = draft_behind (lines ++ ruled name master keys head column conds ∷ []) in
+    let held = draft_following (lines ++ ruled name master keys head column conds ∷ []) in
     let (last, (now, further)) =
     reads-conds schema is lines name master keys head column conds are no_cond [] cond others attribute negated
     (codes ";\n" ++ rest) refl are.good (stops-semicolon _) in
@@ -115,7 +115,7 @@ reads-body : (schema : Schema) (is : IsSchema schema) (lines : List RuleLine) (n
     → Reads schema expected.Key (drafted lines (ruled name master [] 0 [] []) 0 false [])
     (listed (map (pair_text schema) keys) ++
     (codes " -> " ++ (pair_text schema (head, column) ++ (conds_text schema conds ++ (codes ";\n" ++ rest)))))
-    expected.Rule (draft_behind (lines ++ ruled name master keys head column conds ∷ [])) rest 0
+    expected.Rule (draft_following (lines ++ ruled name master keys head column conds ∷ [])) rest 0
 unfolding next with_token piece_at
 reads-body schema is lines name master [] head column conds rest line = let some = line.some in absurd (omega arith)
 reads-body schema is lines name master (key ∷ others) head column conds rest line =
@@ -144,11 +144,11 @@ ten-append a b c d e f g h i j rest = simp append_assoc
 -- a rule
 reads-line : (schema : Schema) (is : IsSchema schema) (lines : List RuleLine) (line : RuleLine) (rest : List ℕ)
     → IsLine schema line → has_name lines line.name ≡ false
-    → Reads schema expected.Rule (draft_behind lines) (line_text schema line ++ rest) expected.Rule
-    (draft_behind (lines ++ line ∷ [])) rest 1
+    → Reads schema expected.Rule (draft_following lines) (line_text schema line ++ rest) expected.Rule
+    (draft_following (lines ++ line ∷ [])) rest 1
 unfolding next with_token piece_at line_text
 reads-line schema is lines line rest good free =
-    let start = draft_behind lines in
+    let start = draft_following lines in
     let named = drafted lines (ruled line.name [] [] 0 [] []) 0 false [] in
     let mastered = drafted lines (ruled line.name line.master [] 0 [] []) 0 false [] in
     let keys = listed (map (pair_text schema) line.keys) ++ (codes " -> " ++
@@ -184,9 +184,9 @@ free-name [] line others apart = refl
 free-name (first ∷ front) line others apart =
     let parts : (has_name front first.name || (bytes_eq first.name line.name || has_name others first.name)) ≡ false =
     sym (list_any-append (λ l. bytes_eq first.name l.name) front (line ∷ others)) ∙ apart.0 in
-    let (free, behind) =
+    let (free, following) =
     or_parts (has_name front first.name) (bytes_eq first.name line.name || has_name others first.name) parts in
-    let (other, further) = or_parts (bytes_eq first.name line.name) (has_name others first.name) behind in
+    let (other, further) = or_parts (bytes_eq first.name line.name) (has_name others first.name) following in
     rw (bytes_eq-other first.name line.name other) (free-name front line others apart.1)
 
 -- nothing is read of no bytes
@@ -198,20 +198,20 @@ reads-nothing schema before draft
 -- all rules
 reads-lines : (schema : Schema) (is : IsSchema schema) (all front others : List RuleLine) → front ++ others ≡ all
     → AllByRecursion (IsLine schema) others → AreNamedApart all
-    → Reads schema expected.Rule (draft_behind front) (flat_map (line_text schema) others) expected.Rule
-    (draft_behind all) [] (length others)
+    → Reads schema expected.Rule (draft_following front) (flat_map (line_text schema) others) expected.Rule
+    (draft_following all) [] (length others)
 reads-lines schema is all front [] whole good apart =
-    subst (λ (lines : List RuleLine). Reads schema expected.Rule (draft_behind front) [] expected.Rule
-    (draft_behind lines) [] 0) (sym (append-nil front) ∙ whole)
-    (reads-nothing schema expected.Rule (draft_behind front) [])
+    subst (λ (lines : List RuleLine). Reads schema expected.Rule (draft_following front) [] expected.Rule
+    (draft_following lines) [] 0) (sym (append-nil front) ∙ whole)
+    (reads-nothing schema expected.Rule (draft_following front) [])
 reads-lines schema is all front (line ∷ others) whole good apart =
     let free = free-name front line others (subst AreNamedApart (sym whole) apart) in
     let further =
     reads-lines schema is all (front ++ line ∷ []) others (append-shift front line others all whole) good.1 apart in
     let one = reads-line schema is front line (flat_map (line_text schema) others) good.0 free ▸ further in
     let counted : 1 + length others ≡ length (line ∷ others) = omega arith in
-    rw flat_map-cons (subst (λ (n : ℕ). Reads schema expected.Rule (draft_behind front)
-    (line_text schema line ++ flat_map (line_text schema) others) expected.Rule (draft_behind all) [] n) counted
+    rw flat_map-cons (subst (λ (n : ℕ). Reads schema expected.Rule (draft_following front)
+    (line_text schema line ++ flat_map (line_text schema) others) expected.Rule (draft_following all) [] n) counted
     one)
 
 -- a printed rulebook reads as itself
@@ -219,7 +219,7 @@ pub read_rules-printed : (rulebook : Rulebook) (schema : Schema) → IsSchema sc
     → read_rules (printed rulebook schema) schema ≡ Ok rulebook
 unfolding read_rules
 read_rules-printed rulebook schema is good =
-    let (tokens, (behind, (to, (made, counted)))) =
+    let (tokens, (following, (to, (made, counted)))) =
     (reads-lines schema is rulebook.lines [] rulebook.lines refl good.lines good.named_apart).walk
     (record { line = 1; column = 1 }) in
     let text : tokens_of (printed rulebook schema) ≡ Ok tokens =

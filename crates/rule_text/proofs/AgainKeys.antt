@@ -115,9 +115,9 @@ free-before (first ∷ front) pair others distinct =
     let apart : has_attribute (front ++ pair ∷ others) first.0 ≡ false = distinct.0 in
     let parts : (has_attribute front first.0 || (first.0 == pair.0 || has_attribute others first.0)) ≡ false =
     sym (list_any-append (λ q. first.0 == q.0) front (pair ∷ others)) ∙ apart in
-    let (free, behind) =
+    let (free, following) =
     or_parts (has_attribute front first.0) (first.0 == pair.0 || has_attribute others first.0) parts in
-    let (other, further) = or_parts (first.0 == pair.0) (has_attribute others first.0) behind in
+    let (other, further) = or_parts (first.0 == pair.0) (has_attribute others first.0) following in
     rw (nat_eq-other first.0 pair.0 other) (free-before front pair others distinct.1)
 
 -- an item moves from the front of what follows to the end of what is done

@@ -21,7 +21,7 @@ use Rattle.rule_text.specs.BookTokens.{with_commas, pair_tokens, text_tokens, pa
 use Rattle.rule_text.specs.BookTokens.{line_tokens, book_tokens, as_string, column_as_string}
 use Rattle.rule_text.specs.Grammar.{leads, next}
 use Rattle.rule_text.specs.Tokens.{is_keyword, is_name, is_quoted, is_column, is_sign}
-use Rattle.rule_text.specs.Reading.{content, attribute_of, is_long, draft_behind, has_attribute, with_master}
+use Rattle.rule_text.specs.Reading.{content, attribute_of, is_long, draft_following, has_attribute, with_master}
 use Rattle.rule_text.specs.Reading.{with_key_of, with_key_column, with_head_of, with_head_column, with_asked_of}
 use Rattle.rule_text.specs.Reading.{with_cond, with_test, with_constant, with_negated, with_text, set_of, with_set}
 use Rattle.rule_text.specs.Reading.{with_line, with_token, with_tokens, book_of}
@@ -29,8 +29,8 @@ use Rattle.rule_text.specs.Printing.{attribute_text}
 use Rattle.rule_text.proofs.Walk.{IsChain}
 use Rattle.rule_text.proofs.Sentences.{rulebook-only}
 use Rattle.rule_text.proofs.Led.{unless-Ok, same-draft, led, led_either, keyword-word, sign-mark, and_then-Ok}
-use Rattle.rule_text.proofs.Behind.{test-other}
-use Rattle.rule_text.proofs.DraftTokens.{commas_behind, key_tokens, headed_tokens, asking_tokens, asked_tokens}
+use Rattle.rule_text.proofs.Following.{test-other}
+use Rattle.rule_text.proofs.DraftTokens.{commas_following, key_tokens, headed_tokens, asking_tokens, asked_tokens}
 use Rattle.rule_text.proofs.DraftTokens.{set_words, opened_tokens, open_tokens, draft_tokens, IsKeyed, HasParts}
 use Rattle.rule_text.proofs.DraftTokens.{more-item, more-comma, one-by-one, in-parts, conds_tokens-comma, more-cond}
 use Rattle.rule_text.proofs.DraftTokens.{set_of-tokens, line_tokens-closed, name-token, quoted-token, column-token}
@@ -139,7 +139,7 @@ step-text schema place after draft held token quoted read is =
     let some : 1 ≤ length changed.texts = rw length-append (omega arith) in
     step-open schema expected.Item expected.AfterItem after draft changed held token is (same-draft _ _ same) refl some
     (rw (more-item text_tokens draft.texts (content token), ← quoted-token token quoted)
-    (sym (append_assoc (opened_tokens schema draft) (commas_behind (map text_tokens draft.texts)) (token ∷ []))))
+    (sym (append_assoc (opened_tokens schema draft) (commas_following (map text_tokens draft.texts)) (token ∷ []))))
 
 -- the last token of a condition
 step-cond : (schema : Schema) (before after : Expected) (pat : Pat) (texts : List (List ℕ)) (draft held : Draft)
@@ -176,7 +176,7 @@ step-closed schema after draft held is same =
 
 -- the end of a rule
 step-line : (schema : Schema) (before after : Expected) (draft held : Draft) → expected.Rule ≡ after
-    → draft_behind (draft.lines ++ draft.line ∷ []) ≡ held
+    → draft_following (draft.lines ++ draft.line ∷ []) ≡ held
     → open_tokens schema before draft ≡ headed_tokens schema draft.line ++ conds_tokens schema draft.line.conds
     → IsStep schema before after draft held (Sign mark.Semicolon)
 step-line schema before after draft held is same whole =
@@ -184,7 +184,7 @@ step-line schema before after draft held is same whole =
     let last = Sign mark.Semicolon ∷ [] in
     let closed : line_tokens schema draft.line ≡ open_tokens schema before draft ++ last =
     line_tokens-closed schema draft.line ∙ ap (λ (tokens : List Token). tokens ++ last) (sym whole) in
-    step-to schema before expected.Rule after draft (draft_behind (draft.lines ++ draft.line ∷ [])) held
+    step-to schema before expected.Rule after draft (draft_following (draft.lines ++ draft.line ∷ [])) held
     (Sign mark.Semicolon) is same (record {
       tokens =
           append-nil (flat_map (line_tokens schema) (draft.lines ++ draft.line ∷ []))
@@ -210,7 +210,7 @@ step-after_line schema before after token comma draft held more one apart goes r
           (rw (one taken) asking)
       | inr (other, others) ↦
           let (closing, is) = led _ _ _ others in
-          let same : draft_behind (draft.lines ++ draft.line ∷ []) ≡ with_line token draft = rw closing refl in
+          let same : draft_following (draft.lines ++ draft.line ∷ []) ≡ with_line token draft = rw closing refl in
           rw (sign-mark mark.Semicolon token closing) (step-line schema before after draft held is (same ∙ read) whole)
     ]
 
@@ -383,7 +383,7 @@ tokens-all schema before [] draft held rulebook read at =
     ap (λ (last : Expected). draft_tokens schema last draft ++ []) (rulebook-only before rulebook)
     ∙ append-nil (lines ++ []) ∙ append-nil lines
     ∙ ap (λ (d : Draft). book_tokens schema (book_of d)) (same-draft _ _ read)
-tokens-all schema before (first ∷ rest) draft held (is, spelled, (after, goes, behind)) read at =
+tokens-all schema before (first ∷ rest) draft held (is, spelled, (after, goes, following)) read at =
     let (middle, step, others) =
     and_then-Ok (with_token schema first.expected first.token first.place draft) (with_tokens schema rest) held read in
     let one = tokens-step schema before after first.token first.place draft middle goes
@@ -395,4 +395,4 @@ tokens-all schema before (first ∷ rest) draft held (is, spelled, (after, goes,
     (record { expected = s; token = first.token; place = first.place })) (sym is) in
     sym (append_assoc front (column_as_string first ∷ []) more)
     ∙ ap (λ (tokens : List Token). tokens ++ more) (sym (one.tokens ∙ ap (λ (t : Token). front ++ t ∷ []) string))
-    ∙ tokens-all schema after rest middle held behind others one.parts
+    ∙ tokens-all schema after rest middle held following others one.parts

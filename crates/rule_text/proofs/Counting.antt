@@ -19,13 +19,13 @@ use Rattle.rule_text.specs.declared.draft.Draft.{Draft}
 use Rattle.rule_text.specs.Grammar.{leads, next}
 use Rattle.rule_text.specs.Tokenizer.{is_between_rules}
 use Rattle.rule_text.specs.Tokens.{is_keyword, is_quoted, is_sign}
-use Rattle.rule_text.specs.Reading.{content, is_long, draft_behind, has_attribute}
+use Rattle.rule_text.specs.Reading.{content, is_long, draft_following, has_attribute}
 use Rattle.rule_text.specs.Reading.{with_key_of, with_head_of, with_asked_of}
 use Rattle.rule_text.specs.Reading.{with_test, with_constant, with_negated, with_text, with_set}
 use Rattle.rule_text.specs.Reading.{with_line, with_token, with_tokens, begins_rule}
 use Rattle.rule_text.proofs.Walk.{IsChain}
 use Rattle.rule_text.proofs.Led.{unless-Ok, same-draft, led, led_either, and_then-Ok}
-use Rattle.rule_text.proofs.Behind.{when-apart, comma-apart}
+use Rattle.rule_text.proofs.Following.{when-apart, comma-apart}
 
 -- ---- how many rules there are
 
@@ -47,7 +47,7 @@ count-kept to after draft changed held is one same kept =
 
 -- the end of a rule adds it
 pub count-closed : (after : Expected) (draft held : Draft) → expected.Rule ≡ after
-    → draft_behind (draft.lines ++ draft.line ∷ []) ≡ held → HasCounted after draft held
+    → draft_following (draft.lines ++ draft.line ∷ []) ≡ held → HasCounted after draft held
 count-closed after draft held is same =
     let number : open_rules after ≡ 0 = ap open_rules (sym is) in
     let lines : length held.lines ≡ length draft.lines + 1 =
@@ -64,7 +64,7 @@ count-after_line after token draft held more apart goes read =
       | inl (taken, is) ↦ count-kept expected.Cond after draft draft held is refl
           (let same : draft ≡ with_line token draft = rw (apart taken) refl in same ∙ read) refl
       | inr (other, others) ↦ let (closing, is) = led _ _ _ others in count-closed after draft held is
-          (let same : draft_behind (draft.lines ++ draft.line ∷ []) ≡ with_line token draft = rw closing refl in same
+          (let same : draft_following (draft.lines ++ draft.line ∷ []) ≡ with_line token draft = rw closing refl in same
           ∙ read)
     ]
 
@@ -207,12 +207,12 @@ pub count-tokens : (schema : Schema) (present : Expected) (tokens : List Taken) 
     → length held.lines ≡ length draft.lines + open_rules present + length (filter begins_rule tokens)
 count-tokens schema present [] draft held rulebook read = rw rulebook
     (ap (λ (d : Draft). length d.lines) (sym (same-draft _ _ read)) ∙ omega arith)
-count-tokens schema present (first ∷ rest) draft held (is, spelled, (after, goes, behind)) read =
+count-tokens schema present (first ∷ rest) draft held (is, spelled, (after, goes, following)) read =
     let (middle, step, others) =
     and_then-Ok (with_token schema first.expected first.token first.place draft) (with_tokens schema rest) held read in
     let step' : with_token schema present first.token first.place draft ≡ Ok middle =
     subst (λ (expected : Expected). with_token schema expected first.token first.place draft ≡ Ok middle) is step in
-    let more = count-tokens schema after rest middle held behind others in
+    let more = count-tokens schema after rest middle held following others in
     let one = (count-step schema present after first.token first.place draft middle goes step').sum in
     let begun = count-first present first rest is in
     omega arith

@@ -27,32 +27,32 @@ use Rattle.rule_text.specs.Printing.{attribute_text}
 -- ---- items with commas
 
 -- items with a comma after each
-abbrev pub commas_behind : List (List Token) → List Token
-commas_behind [] = []
-commas_behind (first ∷ rest) = first ++ Sign mark.Comma ∷ commas_behind rest
+abbrev pub commas_following : List (List Token) → List Token
+commas_following [] = []
+commas_following (first ∷ rest) = first ++ Sign mark.Comma ∷ commas_following rest
 
 -- an item more
 with_commas-append : (items : List (List Token)) (last : List Token)
-    → with_commas (items ++ last ∷ []) ≡ commas_behind items ++ last
+    → with_commas (items ++ last ∷ []) ≡ commas_following items ++ last
 with_commas-append [] last = refl
 with_commas-append (first ∷ []) last = simp append_assoc
 with_commas-append (first ∷ second ∷ rest) last = rw (with_commas-append (second ∷ rest) last) (simp append_assoc)
 
 -- a comma more
 with_commas-comma : (first : List Token) (rest : List (List Token))
-    → with_commas (first ∷ rest) ++ Sign mark.Comma ∷ [] ≡ commas_behind (first ∷ rest)
+    → with_commas (first ∷ rest) ++ Sign mark.Comma ∷ [] ≡ commas_following (first ∷ rest)
 with_commas-comma first [] = refl
 with_commas-comma first (second ∷ rest) = rw (← with_commas-comma second rest) (simp append_assoc)
 
 module _ {A : Type 0} (shown : A → List Token) where
   -- an item more, of which this is shown
   pub more-item : (items : List A) (last : A)
-      → with_commas (map shown (items ++ last ∷ [])) ≡ commas_behind (map shown items) ++ shown last
+      → with_commas (map shown (items ++ last ∷ [])) ≡ commas_following (map shown items) ++ shown last
   more-item items last = rw (map-append, with_commas-append) refl
 
   -- a comma more after them
   pub more-comma : (items : List A) → 1 ≤ length items
-      → with_commas (map shown items) ++ Sign mark.Comma ∷ [] ≡ commas_behind (map shown items)
+      → with_commas (map shown items) ++ Sign mark.Comma ∷ [] ≡ commas_following (map shown items)
   more-comma [] some = absurd (omega arith)
   more-comma (first ∷ rest) some = with_commas-comma (shown first) (map shown rest)
 
@@ -64,7 +64,7 @@ start_tokens line = Word (codes "rule") ∷ Word line.name ∷ Word (codes "from
 
 -- up to the attribute of its next key
 abbrev pub key_tokens : Schema → RuleLine → List Token
-key_tokens schema line = start_tokens line ++ commas_behind (map (pair_tokens schema) line.keys)
+key_tokens schema line = start_tokens line ++ commas_following (map (pair_tokens schema) line.keys)
 
 -- up to its last key
 abbrev pub keyed_tokens : Schema → RuleLine → List Token
@@ -81,7 +81,7 @@ headed_tokens schema line = (head_tokens schema line ++ Sign mark.Equals ∷ [])
 
 -- up to the attribute of its next condition
 abbrev pub asking_tokens : Schema → RuleLine → List Token
-asking_tokens schema line = headed_tokens schema line ++ Word (codes "when") ∷ commas_behind
+asking_tokens schema line = headed_tokens schema line ++ Word (codes "when") ∷ commas_following
     (map (cond_tokens schema) line.conds)
 
 -- with this attribute
@@ -118,7 +118,7 @@ open_tokens schema expected.Cond draft = asking_tokens schema draft.line
 open_tokens schema expected.Test draft = asked_tokens schema draft
 open_tokens schema expected.Negated draft = asked_tokens schema draft ++ Word (codes "not") ∷ []
 open_tokens schema expected.Open draft = asked_tokens schema draft ++ set_words draft.negated
-open_tokens schema expected.Item draft = opened_tokens schema draft ++ commas_behind (map text_tokens draft.texts)
+open_tokens schema expected.Item draft = opened_tokens schema draft ++ commas_following (map text_tokens draft.texts)
 open_tokens schema expected.AfterItem draft = opened_tokens schema draft ++ with_commas (map text_tokens draft.texts)
 open_tokens schema expected.Const draft = asked_tokens schema draft ++ Word (codes "is") ∷ []
 open_tokens schema expected.AfterCond draft = headed_tokens schema draft.line ++ conds_tokens schema draft.line.conds
@@ -176,7 +176,7 @@ to-the-end keys conds arrow head equals column semicolon = simp append_assoc
 -- a condition more
 conds_tokens-append : (schema : Schema) (conds : List (ℕ × Pat)) (last : ℕ × Pat)
     → conds_tokens schema (conds ++ last ∷ [])
-    ≡ Word (codes "when") ∷ commas_behind (map (cond_tokens schema) conds) ++ cond_tokens schema last
+    ≡ Word (codes "when") ∷ commas_following (map (cond_tokens schema) conds) ++ cond_tokens schema last
 conds_tokens-append schema [] last = refl
 conds_tokens-append schema (first ∷ rest) last = ap (λ (tokens : List Token). Word (codes "when") ∷ tokens)
     (more-item (cond_tokens schema) (first ∷ rest) last)
@@ -184,7 +184,7 @@ conds_tokens-append schema (first ∷ rest) last = ap (λ (tokens : List Token).
 -- and a comma more
 pub conds_tokens-comma : (schema : Schema) (conds : List (ℕ × Pat)) → 1 ≤ length conds
     → conds_tokens schema conds ++ Sign mark.Comma ∷ []
-    ≡ Word (codes "when") ∷ commas_behind (map (cond_tokens schema) conds)
+    ≡ Word (codes "when") ∷ commas_following (map (cond_tokens schema) conds)
 conds_tokens-comma schema [] some = absurd (omega arith)
 conds_tokens-comma schema (first ∷ rest) some = ap (λ (tokens : List Token). Word (codes "when") ∷ tokens)
     (more-comma (cond_tokens schema) (first ∷ rest) some)
@@ -193,7 +193,7 @@ conds_tokens-comma schema (first ∷ rest) some = ap (λ (tokens : List Token). 
 pub more-cond : (schema : Schema) (pat : Pat) (draft : Draft)
     → open_tokens schema expected.AfterCond (with_cond pat draft) ≡ asked_tokens schema draft ++ pattern_tokens pat
 more-cond schema pat draft =
-    let when = Word (codes "when") ∷ commas_behind (map (cond_tokens schema) draft.line.conds) in
+    let when = Word (codes "when") ∷ commas_following (map (cond_tokens schema) draft.line.conds) in
     let cond = cond_tokens schema (draft.attribute, pat) in
     rw (conds_tokens-append schema draft.line.conds (draft.attribute, pat))
     (sym (append_assoc (asking_tokens schema draft.line) (Word (attribute_text schema draft.attribute) ∷ [])

@@ -21,7 +21,7 @@ use Rattle.rule_text.specs.declared.grammar.Expected.{Expected}
 use Rattle.rule_text.specs.declared.grammar.Expected.TheVariants as expected
 use Rattle.rule_text.specs.declared.draft.Draft.{Draft}
 use Rattle.rule_text.specs.Tokens.{is_name, is_quoted, is_column}
-use Rattle.rule_text.specs.Reading.{content, attribute_of, is_long, draft_behind, has_name, has_attribute, with_name}
+use Rattle.rule_text.specs.Reading.{content, attribute_of, is_long, draft_following, has_name, has_attribute, with_name}
 use Rattle.rule_text.specs.Reading.{with_key_of, with_key_column, with_head_of, with_head_column, with_asked_of}
 use Rattle.rule_text.specs.Reading.{with_cond, with_constant, with_text, set_of}
 use Rattle.rule_text.specs.Rulebooks.{is_plain, IsPlain, IsSet, IsPattern, ArePairs, IsLine, AreNamedApart}
@@ -389,7 +389,7 @@ pattern-set_of draft set = elim (cases_Bool draft.negated) [ inl is ↦ rw is se
 
 -- a rule that is closed is one more
 pub hold-line : (schema : Schema) (draft : Draft) → IsWhole schema draft
-    → AtRule schema (draft_behind (draft.lines ++ draft.line ∷ []))
+    → AtRule schema (draft_following (draft.lines ++ draft.line ∷ []))
 hold-line schema draft whole = record {
   closed = record {
     lines = AllByRecursion-push (IsLine schema) draft.lines draft.line whole.closed.lines whole.line;

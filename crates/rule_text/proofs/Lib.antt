@@ -6,7 +6,7 @@ pub mod Walk
 pub mod Parts
 pub mod Led
 pub mod Held
-pub mod Behind
+pub mod Following
 pub mod Counting
 pub mod Sound
 pub mod Memory

@@ -21,7 +21,7 @@ use Rattle.rule_text.specs.Tokenizer.{is_between_rules, with_first, taken_with, 
 use Rattle.rule_text.specs.Tokens.{is_quoted}
 use Rattle.rule_text.specs.Reading.{content, attribute_of, with_name, with_key_of, with_key, with_key_column}
 use Rattle.rule_text.specs.Reading.{with_head_of, with_head_column, with_asked_of, with_asked, with_constant}
-use Rattle.rule_text.specs.Reading.{with_text, with_token, and_then, with_tokens, draft_behind, extra_rule, book_of}
+use Rattle.rule_text.specs.Reading.{with_text, with_token, and_then, with_tokens, draft_following, extra_rule, book_of}
 use Rattle.rule_text.specs.Reading.{book_unless, read_rules}
 
 -- another fault, where the test holds, or else what is none either
@@ -176,8 +176,8 @@ from-memory present place zero (byte ∷ rest) =
 rulebook-memory : (extra : Option Taken) (schema : Schema) (tokens : List Taken)
     → book_unless extra schema tokens ≢ Err NoMemory
 rulebook-memory (Some extra) schema tokens = λ h. cc
-rulebook-memory None schema tokens = then-memory (with_tokens schema tokens (draft_behind []))
-    (λ draft. Ok (book_of draft)) (tokens-memory schema tokens (draft_behind [])) (λ draft. ok-memory _)
+rulebook-memory None schema tokens = then-memory (with_tokens schema tokens (draft_following []))
+    (λ draft. Ok (book_of draft)) (tokens-memory schema tokens (draft_following [])) (λ draft. ok-memory _)
 
 -- no text is refused for want of memory
 pub read_rules-memory : (text : List ℕ) (schema : Schema) → read_rules text schema ≢ Err NoMemory

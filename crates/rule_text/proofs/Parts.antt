@@ -41,10 +41,10 @@ pub AreDistinct-push : {A : Type 0} (pairs : List (ℕ × A)) (last : ℕ × A) 
     → has_attribute pairs last.0 ≡ false → AreDistinct (pairs ++ last ∷ [])
 AreDistinct-push [] last distinct free = (refl, tt)
 AreDistinct-push (pair ∷ rest) last distinct free =
-    let (other, behind) = or_parts (last.0 == pair.0) (has_attribute rest last.0) free in (
+    let (other, following) = or_parts (last.0 == pair.0) (has_attribute rest last.0) free in (
       has_attribute-push rest last pair.0 distinct.0 (nat_eq-other last.0 pair.0 other),
       AreDistinct-push rest last
-          distinct.1 behind,
+          distinct.1 following,
     )
 
 -- and the pairs stay as they should be
@@ -78,8 +78,8 @@ pub AreNamedApart-push : (lines : List RuleLine) (last : RuleLine) → AreNamedA
     → has_name lines last.name ≡ false → AreNamedApart (lines ++ last ∷ [])
 AreNamedApart-push [] last apart free = (refl, tt)
 AreNamedApart-push (line ∷ rest) last apart free =
-    let (other, behind) = or_parts (bytes_eq last.name line.name) (has_name rest last.name) free in (
+    let (other, following) = or_parts (bytes_eq last.name line.name) (has_name rest last.name) free in (
       has_name-push rest last line.name apart.0 (bytes_eq-other last.name line.name other),
       AreNamedApart-push rest
-          last apart.1 behind,
+          last apart.1 following,
     )

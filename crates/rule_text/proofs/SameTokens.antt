@@ -22,7 +22,7 @@ use Rattle.rule_text.specs.BookTokens.{book_tokens, takes_column, as_string, col
 use Rattle.rule_text.specs.Grammar.{next}
 use Rattle.rule_text.specs.Tokenizer.{is_between_rules, tokens_of}
 use Rattle.rule_text.specs.Tokens.{is_column}
-use Rattle.rule_text.specs.Reading.{content, is_long, draft_behind, has_name, has_attribute, with_key_of}
+use Rattle.rule_text.specs.Reading.{content, is_long, draft_following, has_name, has_attribute, with_key_of}
 use Rattle.rule_text.specs.Reading.{with_head_of, with_asked_of, with_constant, with_negated, with_text, with_token}
 use Rattle.rule_text.specs.Reading.{with_tokens, begins_rule, extra_rule, book_of, book_unless, read_rules}
 use Rattle.rule_text.specs.Rulebooks.{IsRulebook}
@@ -151,8 +151,8 @@ stated-same : (before : Expected) (tokens others : List Taken) → IsChain befor
 stated-same before [] [] chain chain' same = refl
 stated-same before [] (second ∷ others) chain chain' same = absurd cc
 stated-same before (first ∷ rest) [] chain chain' same = absurd cc
-stated-same before (first ∷ rest) (second ∷ others) (is, spelled, (after, goes, behind))
-    (is', spelled', (after', goes', behind')) same =
+stated-same before (first ∷ rest) (second ∷ others) (is, spelled, (after, goes, following))
+    (is', spelled', (after', goes', following')) same =
     let one : column_as_string first ≡ column_as_string second = cc in
     let more : map column_as_string rest ≡ map column_as_string others = cc in
     let taken : taken_as before first.token ≡ taken_as before second.token =
@@ -163,7 +163,7 @@ stated-same before (first ∷ rest) (second ∷ others) (is, spelled, (after, go
     let to : Some after' ≡ Some after = sym goes' ∙ sym led ∙ goes in
     let alike : after' ≡ after = cc in
     let further =
-    stated-same after rest others behind (subst (λ (s : Expected). IsChain s others) alike behind') more in
+    stated-same after rest others following (subst (λ (s : Expected). IsChain s others) alike following') more in
     let expected : first.expected ≡ second.expected = is ∙ sym is' in
     cc
 
@@ -195,10 +195,10 @@ with_tokens-same schema (first ∷ rest) [] draft held same read = absurd cc
 with_tokens-same schema (first ∷ rest) (second ∷ others) draft held same read =
     let one : stated first ≡ stated second = cc in
     let more : map stated rest ≡ map stated others = cc in
-    let (middle, step, behind) =
+    let (middle, step, following) =
     and_then-Ok (with_token schema first.expected first.token first.place draft) (with_tokens schema rest) held read in
     rw (with_token-same schema first second draft middle one step)
-    (with_tokens-same schema rest others middle held more behind)
+    (with_tokens-same schema rest others middle held more following)
 
 -- ---- texts
 
@@ -208,7 +208,7 @@ record IsReadBy (text : List ℕ) (schema : Schema) (rulebook : Rulebook) (taken
     pub spelled : tokens_of text ≡ Ok taken
     pub chain : IsChain expected.Rule taken
     pub few : length (filter begins_rule taken) ≤ 200
-    pub made : with_tokens schema taken (draft_behind []) ≡ Ok draft
+    pub made : with_tokens schema taken (draft_following []) ≡ Ok draft
     pub is : book_of draft ≡ rulebook
     pub tokens : map column_as_string taken ≡ book_tokens schema rulebook
 
@@ -221,7 +221,7 @@ read_by text schema rulebook read =
     and_then-Ok (tokens_of text) (λ tokens. book_unless (extra_rule tokens) schema tokens) rulebook read in
     let chain = IsChain-from_text expected.Rule _ 0 text taken spelled in
     let (few, (draft, made, is)) = extra-none schema taken (extra_rule taken) rulebook refl others in
-    let tokens = tokens-all schema expected.Rule taken (draft_behind []) draft chain made (refl, (refl, refl)) in (
+    let tokens = tokens-all schema expected.Rule taken (draft_following []) draft chain made (refl, (refl, refl)) in (
       taken,
       (
         draft,
@@ -245,7 +245,7 @@ read_rules-same text other schema rulebook read (tokens, spelled, same) =
     let (taken, (draft, by)) = read_by other schema rulebook read in
     let alike = stated-same expected.Rule taken tokens by.chain
     (IsChain-from_text expected.Rule _ 0 text tokens spelled) (by.tokens ∙ sym same) in
-    let made = with_tokens-same schema taken tokens (draft_behind []) draft alike by.made in
+    let made = with_tokens-same schema taken tokens (draft_following []) draft alike by.made in
     let begun : length (filter begins_rule taken) ≡ length (filter begins_rule tokens) =
     begun-stated taken
     ∙ ap (λ (all : List (Expected × Token)). length (filter (λ one. is_between_rules one.0) all)) alike

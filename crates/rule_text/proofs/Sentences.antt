@@ -11,7 +11,7 @@ use Rattle.rule_text.specs.declared.grammar.Taken.{Taken}
 use Rattle.rule_text.specs.declared.token.Piece.{Piece}
 use Rattle.rule_text.specs.declared.token.Piece.TheVariants.{Gap, Spelled, Stray}
 use Rattle.rule_text.specs.declared.token.Token.{Token}
-use Rattle.rule_text.specs.Tokens.{place_after, place_behind, piece_at}
+use Rattle.rule_text.specs.Tokens.{place_after, place_following, piece_at}
 use Rattle.rule_text.specs.Grammar.{next}
 use Rattle.rule_text.specs.Tokenizer.{with_first, taken_with, taken_at, is_between_rules, taken_from, syntax_at}
 use Rattle.rule_text.specs.Tokenizer.{tokens_of}
@@ -34,15 +34,15 @@ module _ (expected : Expected) (place : Place) (byte : ℕ) (rest : List ℕ) (m
   -- a token that is taken, and a reading after it, are a reading
   reading-first : (token : Token) (after : Expected) (others : Result (List Taken) RuleFault) (taken : List Taken)
       → piece_at (byte ∷ rest) ≡ Spelled token more → next expected token ≡ Some after
-      → ((behind : List Taken) → others ≡ Ok behind → IsReading after (drop more rest) behind)
+      → ((following : List Taken) → others ≡ Ok following → IsReading after (drop more rest) following)
       → with_first (record { expected = expected; token = token; place = place }) others ≡ Ok taken
       → IsReading expected (byte ∷ rest) taken
-  reading-first token after (Ok behind) taken piece led goes read =
-      let is : record { expected = expected; token = token; place = place } ∷ behind ≡ taken = cc in
-      let further = goes behind refl in
+  reading-first token after (Ok following) taken piece led goes read =
+      let is : record { expected = expected; token = token; place = place } ∷ following ≡ taken = cc in
+      let further = goes following refl in
       subst (IsReading expected (byte ∷ rest)) is
       (record {
-        spelled = spelled byte rest more token (tokens_alone behind) piece further.spelled;
+        spelled = spelled byte rest more token (tokens_alone following) piece further.spelled;
         sentence = (after, led, further.sentence);
       })
   reading-first token after (Err fault) taken piece led goes read = absurd cc
@@ -51,7 +51,8 @@ module _ (expected : Expected) (place : Place) (byte : ℕ) (rest : List ℕ) (m
   reading-with : (token : Token) (found : Option Expected) (others : Expected → Result (List Taken) RuleFault)
       (taken : List Taken)
       → piece_at (byte ∷ rest) ≡ Spelled token more → next expected token ≡ found
-      → ((after : Expected) (behind : List Taken) → others after ≡ Ok behind → IsReading after (drop more rest) behind)
+      → ((after : Expected) (following : List Taken) → others after ≡ Ok following
+          → IsReading after (drop more rest) following)
       → taken_with expected place token found others ≡ Ok taken → IsReading expected (byte ∷ rest) taken
   reading-with token None others taken piece led goes read = absurd cc
   reading-with token (Some after) others taken piece led goes read = reading-first token after (others after) taken
@@ -61,15 +62,15 @@ module _ (expected : Expected) (place : Place) (byte : ℕ) (rest : List ℕ) (m
 reading-at : (expected : Expected) (place : Place) (byte : ℕ) (rest : List ℕ) (piece : Piece)
     (others : Expected → ℕ → Result (List Taken) RuleFault) (taken : List Taken)
     → piece_at (byte ∷ rest) ≡ piece
-    → ((after : Expected) (more : ℕ) (behind : List Taken) → others after more ≡ Ok behind
-    → IsReading after (drop more rest) behind)
+    → ((after : Expected) (more : ℕ) (following : List Taken) → others after more ≡ Ok following
+    → IsReading after (drop more rest) following)
     → taken_at piece expected place others ≡ Ok taken → IsReading expected (byte ∷ rest) taken
 reading-at expected place byte rest (Gap more) others taken is goes read =
     let further = goes expected more taken read in
     record { spelled = gap byte rest more (tokens_alone taken) is further.spelled; sentence = further.sentence }
 reading-at expected place byte rest (Spelled token more) others taken is goes read = reading-with expected place byte
     rest more token (next expected token) (λ after. others after more) taken is refl
-    (λ after behind. goes after more behind) read
+    (λ after following. goes after more following) read
 reading-at expected place byte rest Stray others taken is goes read = absurd cc
 
 -- no bytes are a reading where a rule is expected
@@ -90,7 +91,7 @@ reading expected place (suc passed) (byte ∷ rest) taken read = reading expecte
     taken read
 reading expected place zero (byte ∷ rest) taken read = reading-at expected place byte rest (piece_at (byte ∷ rest))
     (λ after more. taken_from after (place_after place byte) more rest) taken refl
-    (λ after more behind. reading after (place_after place byte) more rest behind) read
+    (λ after more following. reading after (place_after place byte) more rest following) read
 
 -- what is read of a text is a sentence that it spells
 pub IsSentence-tokens_of : (text : List ℕ) (taken : List Taken) → tokens_of text ≡ Ok taken
@@ -113,14 +114,14 @@ read-end before place is = ([], rw is refl, refl)
 module _ (expected : Expected) (place : Place) (byte : ℕ) (rest : List ℕ) (more : ℕ) where
   -- what is after a gap is read as with it
   read-gap : (tokens : List Token) → piece_at (byte ∷ rest) ≡ Gap more
-      → IsReadAs expected (place_behind (place_after place byte) (take more rest)) (drop more rest) tokens
+      → IsReadAs expected (place_following (place_after place byte) (take more rest)) (drop more rest) tokens
       → IsReadAs expected place (byte ∷ rest) tokens
   read-gap tokens piece (taken, read, same) = (taken, taken_from-gap expected place byte rest more piece ∙ read, same)
 
   -- a token that is taken, and what is read after it, are read together
   read-token : (first : Token) (after : Expected) (others : List Token) → piece_at (byte ∷ rest) ≡ Spelled first more
       → next expected first ≡ Some after
-      → IsReadAs after (place_behind (place_after place byte) (take more rest)) (drop more rest) others
+      → IsReadAs after (place_following (place_after place byte) (take more rest)) (drop more rest) others
       → IsReadAs expected place (byte ∷ rest) (first ∷ others)
   read-token first after others piece led (taken, read, same) =
       let one : Taken = record { expected = expected; token = first; place = place } in (
@@ -135,10 +136,10 @@ reads : {bytes : List ℕ} {tokens : List Token} → Spells bytes tokens → (ex
     → IsSentenceFrom expected tokens → IsReadAs expected place bytes tokens
 reads none expected place is = read-end expected place is
 reads (gap byte rest more tokens piece further) expected place is = read-gap expected place byte rest more tokens
-    piece (reads further expected (place_behind (place_after place byte) (take more rest)) is)
+    piece (reads further expected (place_following (place_after place byte) (take more rest)) is)
 reads (spelled byte rest more first others piece further) expected place (after, led, goes) = read-token expected
     place byte rest more first after others piece led (reads further after
-    (place_behind (place_after place byte) (take more rest)) goes)
+    (place_following (place_after place byte) (take more rest)) goes)
 
 -- the tokens of a text that spells a sentence are that sentence
 pub tokens_of-IsSentence : (text : List ℕ) (tokens : List Token) → Spells text tokens → IsSentence tokens
@@ -148,37 +149,37 @@ tokens_of-IsSentence text tokens spells is = reads spells expected.Rule (record 
 -- ---- a text spells one sequence of tokens at most
 
 -- what is spelled with a gap in front is spelled after it
-behind-gap : (byte : ℕ) (rest : List ℕ) (more : ℕ) (others : List Token) → piece_at (byte ∷ rest) ≡ Gap more
+following-gap : (byte : ℕ) (rest : List ℕ) (more : ℕ) (others : List Token) → piece_at (byte ∷ rest) ≡ Gap more
     → Spells (byte ∷ rest) others → Spells (drop more rest) others
-behind-gap byte rest more others is (gap byte' rest' most others' piece further) =
+following-gap byte rest more others is (gap byte' rest' most others' piece further) =
     let same : Gap most ≡ Gap more = sym piece ∙ is in
     let alike : most ≡ more = cc in
     subst (λ (n : ℕ). Spells (drop n rest) others) alike further
-behind-gap byte rest more others is (spelled byte' rest' most first behind piece further) =
+following-gap byte rest more others is (spelled byte' rest' most first following piece further) =
     let same : Spelled first most ≡ Gap more = sym piece ∙ is in
     absurd cc
 
 -- the tokens after the first one
-record IsBehind (bytes : List ℕ) (first : Token) (others : List Token) : Type 0 where
-  pub behind : List Token
-  pub is : others ≡ first ∷ behind
-  pub spelled : Spells bytes behind
+record IsAfter (bytes : List ℕ) (first : Token) (others : List Token) : Type 0 where
+  pub following : List Token
+  pub is : others ≡ first ∷ following
+  pub spelled : Spells bytes following
 
 -- what is spelled with a token in front begins with it
-behind-token : (byte : ℕ) (rest : List ℕ) (more : ℕ) (token : Token) (others : List Token)
+following-token : (byte : ℕ) (rest : List ℕ) (more : ℕ) (token : Token) (others : List Token)
     → piece_at (byte ∷ rest) ≡ Spelled token more → Spells (byte ∷ rest) others
-    → IsBehind (drop more rest) token others
-behind-token byte rest more token others is (gap byte' rest' most others' piece further) =
+    → IsAfter (drop more rest) token others
+following-token byte rest more token others is (gap byte' rest' most others' piece further) =
     let same : Gap most ≡ Spelled token more = sym piece ∙ is in
     absurd cc
-behind-token byte rest more token others is (spelled byte' rest' most first behind piece further) =
+following-token byte rest more token others is (spelled byte' rest' most first following piece further) =
     let same : Spelled first most ≡ Spelled token more = sym piece ∙ is in
     let alike : most ≡ more = cc in
     let one : first ≡ token = cc in
     record {
-      behind = behind;
-      is = ap (λ (t : Token). t ∷ behind) one;
-      spelled = subst (λ (n : ℕ). Spells (drop n rest) behind) alike further;
+      following = following;
+      is = ap (λ (t : Token). t ∷ following) one;
+      spelled = subst (λ (n : ℕ). Spells (drop n rest) following) alike further;
     }
 
 -- no bytes spell no tokens alone
@@ -191,7 +192,7 @@ pub Spells-unique : {bytes : List ℕ} {tokens : List Token} → Spells bytes to
     → Spells bytes others → tokens ≡ others
 Spells-unique none others also = none-only others also
 Spells-unique (gap byte rest more tokens piece further) others also = Spells-unique further others
-    (behind-gap byte rest more others piece also)
+    (following-gap byte rest more others piece also)
 Spells-unique (spelled byte rest more first tokens piece further) others also =
-    let left = behind-token byte rest more first others piece also in
-    ap (λ (l : List Token). first ∷ l) (Spells-unique further left.behind left.spelled) ∙ sym left.is
+    let left = following-token byte rest more first others piece also in
+    ap (λ (l : List Token). first ∷ l) (Spells-unique further left.following left.spelled) ∙ sym left.is

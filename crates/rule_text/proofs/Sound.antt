@@ -10,14 +10,14 @@ use Rattle.rule_text.specs.declared.grammar.Taken.{Taken}
 use Rattle.rule_text.specs.declared.rulebook.Rulebook.{Rulebook}
 use Rattle.rule_text.specs.declared.draft.Draft.{Draft}
 use Rattle.rule_text.specs.Tokenizer.{tokens_of}
-use Rattle.rule_text.specs.Reading.{draft_behind}
+use Rattle.rule_text.specs.Reading.{draft_following}
 use Rattle.rule_text.specs.Reading.{with_tokens, begins_rule, extra_rule, book_of}
 use Rattle.rule_text.specs.Reading.{book_unless, read_rules}
 use Rattle.rule_text.specs.Rulebooks.{IsRulebook}
 use Rattle.rule_text.proofs.Walk.{IsChain-from_text}
 use Rattle.rule_text.proofs.Led.{and_then-Ok}
 use Rattle.rule_text.proofs.Held.{AtRule}
-use Rattle.rule_text.proofs.Behind.{hold-tokens}
+use Rattle.rule_text.proofs.Following.{hold-tokens}
 use Rattle.rule_text.proofs.Counting.{count-tokens}
 
 -- there are at most 200 where there is none after them
@@ -28,11 +28,11 @@ few xs none = elim (slice_get_cases xs 200).1 [ inl (x, within, is, at) ↦ absu
 pub extra-none : (schema : Schema) (tokens : List Taken) (extra : Option Taken) (rulebook : Rulebook)
     → extra_rule tokens ≡ extra → book_unless extra schema tokens ≡ Ok rulebook
     → (length (filter begins_rule tokens) ≤ 200)
-    × ((draft : Draft) × (with_tokens schema tokens (draft_behind []) ≡ Ok draft) × (book_of draft ≡ rulebook))
+    × ((draft : Draft) × (with_tokens schema tokens (draft_following []) ≡ Ok draft) × (book_of draft ≡ rulebook))
 extra-none schema tokens (Some extra) rulebook is read = absurd cc
 extra-none schema tokens None rulebook is read =
     let (draft, walked, whole) =
-    and_then-Ok (with_tokens schema tokens (draft_behind [])) (λ draft. Ok (book_of draft)) rulebook read in
+    and_then-Ok (with_tokens schema tokens (draft_following [])) (λ draft. Ok (book_of draft)) rulebook read in
     (few (filter begins_rule tokens) is, (draft, walked, cc))
 
 -- what a text reads as is a rulebook
@@ -44,10 +44,10 @@ IsRulebook-from_text text schema rulebook read =
     and_then-Ok (tokens_of text) (λ tokens. book_unless (extra_rule tokens) schema tokens) rulebook read in
     let chain = IsChain-from_text expected.Rule _ 0 text tokens spelled in
     let (fits, (draft, walked, is)) = extra-none schema tokens (extra_rule tokens) rulebook refl others in
-    let nothing : AtRule schema (draft_behind []) =
+    let nothing : AtRule schema (draft_following []) =
     record { closed = record { lines = tt; apart = tt }; no_keys = refl; no_conds = refl; no_texts = refl } in
-    let whole = hold-tokens schema expected.Rule tokens (draft_behind []) draft chain walked nothing in
-    let counted = count-tokens schema expected.Rule tokens (draft_behind []) draft chain walked in
+    let whole = hold-tokens schema expected.Rule tokens (draft_following []) draft chain walked nothing in
+    let counted = count-tokens schema expected.Rule tokens (draft_following []) draft chain walked in
     subst (IsRulebook schema) is (record {
       fits = omega arith;
       lines = whole.closed.lines;

@@ -16,7 +16,7 @@ use Rattle.rule_text.specs.declared.token.Piece.TheVariants.{Gap, Spelled}
 use Rattle.rule_text.specs.declared.token.Token.{Token}
 use Rattle.rule_text.specs.declared.token.Token.TheVariants.{Word, Quoted}
 use Rattle.rule_text.specs.declared.draft.Draft.{Draft}
-use Rattle.rule_text.specs.Tokens.{place_after, place_behind, piece_at}
+use Rattle.rule_text.specs.Tokens.{place_after, place_following, piece_at}
 use Rattle.rule_text.specs.Grammar.{next}
 use Rattle.rule_text.specs.Tokenizer.{with_first, is_between_rules, taken_from}
 use Rattle.rule_text.specs.Reading.{with_token, with_tokens, begins_rule}
@@ -32,7 +32,8 @@ pub record Reads (schema : Schema) (before : Expected) (draft : Draft) (bytes : 
     (held : Draft) (rest : List ℕ) (begun : ℕ) : Type 0 where
   pub walk : (place : Place)
       → (tokens : List Taken)
-      × ((behind : Place) × ((taken_from before place 0 bytes ≡ with_front tokens (taken_from after behind 0 rest))
+      × ((following : Place) × ((taken_from before place 0 bytes
+          ≡ with_front tokens (taken_from after following 0 rest))
       × ((with_tokens schema tokens draft ≡ Ok held) × (length (filter begins_rule tokens) ≡ begun))))
 
 -- tokens in front of tokens in front
@@ -74,13 +75,13 @@ pub ◌▸◌ : {schema : Schema} {before middle after : Expected} {draft betwee
 ◌▸◌ {schema} {before} {middle} {after} {draft} {between} {held} {bytes} {more} {rest} {one} {two} first
     second = record {
       walk = λ place.
-          let (tokens, (behind, (to, (made, counted)))) = first.walk place in
-          let (tokens', (behind', (to', (made', counted')))) = second.walk behind in (
+          let (tokens, (following, (to, (made, counted)))) = first.walk place in
+          let (tokens', (following', (to', (made', counted')))) = second.walk following in (
             tokens ++ tokens',
             (
-              behind',
+              following',
               (
-                to ∙ ap (with_front tokens) to' ∙ with_front-append tokens tokens' (taken_from after behind' 0 rest),
+                to ∙ ap (with_front tokens) to' ∙ with_front-append tokens tokens' (taken_from after following' 0 rest),
                 (
                   with_tokens-then schema tokens tokens' draft between held made made',
                   rw (filter-append begins_rule tokens tokens', length-append, counted, counted') refl,
@@ -131,11 +132,11 @@ pub reads-token : (schema : Schema) (before after : Expected) (draft held : Draf
 reads-token schema before after draft held byte tail rest token more begun piece left goes made starts = record {
   walk = λ place.
       let taken : Taken = record { expected = before; token = token; place = place } in
-      let behind = place_behind (place_after place byte) (take more tail) in
+      let following = place_following (place_after place byte) (take more tail) in
       let step = taken_from-token before place byte tail more token after piece goes
-      ∙ with_front-one taken (taken_from after behind 0 (drop more tail))
-      ∙ ap (λ (bytes : List ℕ). with_front (taken ∷ []) (taken_from after behind 0 bytes)) left in
-      (taken ∷ [], (behind, (step, (rw (made place) refl, begun_by taken begun starts))));
+      ∙ with_front-one taken (taken_from after following 0 (drop more tail))
+      ∙ ap (λ (bytes : List ℕ). with_front (taken ∷ []) (taken_from after following 0 bytes)) left in
+      (taken ∷ [], (following, (step, (rw (made place) refl, begun_by taken begun starts))));
 }
 
 -- a word

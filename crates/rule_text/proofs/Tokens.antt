@@ -7,7 +7,7 @@ use Rattle.rule_text.specs.declared.grammar.Expected.{Expected}
 use Rattle.rule_text.specs.declared.grammar.Taken.{Taken}
 use Rattle.rule_text.specs.declared.token.Piece.TheVariants.{Gap, Spelled, Stray}
 use Rattle.rule_text.specs.declared.token.Token.{Token}
-use Rattle.rule_text.specs.Tokens.{place_after, place_behind, piece_at}
+use Rattle.rule_text.specs.Tokens.{place_after, place_following, piece_at}
 use Rattle.rule_text.specs.Grammar.{next}
 use Rattle.rule_text.specs.Tokenizer.{taken_from, with_first, syntax_at}
 
@@ -25,7 +25,7 @@ with_front-with_first front first (Err fault) = refl
 -- bytes that are passed may be left out
 pub taken_from-passed : (expected : Expected) (place : Place) (passed : ℕ) (bytes : List ℕ)
     → taken_from expected place passed bytes
-    ≡ taken_from expected (place_behind place (take passed bytes)) 0 (drop passed bytes)
+    ≡ taken_from expected (place_following place (take passed bytes)) 0 (drop passed bytes)
 taken_from-passed expected place zero [] = refl
 taken_from-passed expected place zero (byte ∷ rest) = refl
 taken_from-passed expected place (suc passed) [] = refl
@@ -36,7 +36,7 @@ module _ (expected : Expected) (place : Place) (byte : ℕ) (rest : List ℕ) (m
   -- after a blank or a comment the text goes on
   pub taken_from-gap : piece_at (byte ∷ rest) ≡ Gap more
       → taken_from expected place 0 (byte ∷ rest)
-      ≡ taken_from expected (place_behind (place_after place byte) (take more rest)) 0 (drop more rest)
+      ≡ taken_from expected (place_following (place_after place byte) (take more rest)) 0 (drop more rest)
   taken_from-gap piece = rw piece (taken_from-passed expected (place_after place byte) more rest)
 
   -- a token that is taken comes first
@@ -44,7 +44,7 @@ module _ (expected : Expected) (place : Place) (byte : ℕ) (rest : List ℕ) (m
       → next expected token ≡ Some after
       → taken_from expected place 0 (byte ∷ rest)
       ≡ with_first (record { expected = expected; token = token; place = place })
-      (taken_from after (place_behind (place_after place byte) (take more rest)) 0 (drop more rest))
+      (taken_from after (place_following (place_after place byte) (take more rest)) 0 (drop more rest))
   taken_from-token token after piece led = rw (piece, led)
       (ap (with_first (record { expected = expected; token = token; place = place }))
       (taken_from-passed after (place_after place byte) more rest))
@@ -53,7 +53,7 @@ module _ (expected : Expected) (place : Place) (byte : ℕ) (rest : List ℕ) (m
 pub goes_on-gap : (front : List Taken) (expected : Expected) (place : Place) (bytes : List ℕ) (more : ℕ)
     (total : Result (List Taken) RuleFault)
     → 0 < length bytes → piece_at bytes ≡ Gap more → total ≡ with_front front (taken_from expected place 0 bytes)
-    → total ≡ with_front front (taken_from expected (place_behind place (take (more + 1) bytes)) 0
+    → total ≡ with_front front (taken_from expected (place_following place (take (more + 1) bytes)) 0
     (drop (more + 1) bytes))
 goes_on-gap front expected place [] more total some piece so_far = absurd (omega arith)
 goes_on-gap front expected place (byte ∷ rest) more total some piece so_far = rw add-one
@@ -65,7 +65,7 @@ pub goes_on-token : (front : List Taken) (expected : Expected) (place : Place) (
     → 0 < length bytes → piece_at bytes ≡ Spelled token more → next expected token ≡ Some after
     → total ≡ with_front front (taken_from expected place 0 bytes)
     → total ≡ with_front (front ++ record { expected = expected; token = token; place = place } ∷ [])
-    (taken_from after (place_behind place (take (more + 1) bytes)) 0 (drop (more + 1) bytes))
+    (taken_from after (place_following place (take (more + 1) bytes)) 0 (drop (more + 1) bytes))
 goes_on-token front expected place [] more total token after some piece led so_far = absurd (omega arith)
 goes_on-token front expected place (byte ∷ rest) more total token after some piece led so_far = rw add-one
     (so_far ∙ ap (with_front front) (taken_from-token expected place byte rest more token after piece led)

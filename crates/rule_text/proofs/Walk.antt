@@ -161,10 +161,10 @@ chain-first : (expected : Expected) (place : Place) (token : Token) (after : Exp
     → ((rest : List Taken) → others ≡ Ok rest → IsChain after rest)
     → with_first (record { expected = expected; token = token; place = place }) others ≡ Ok tokens
     → IsChain expected tokens
-chain-first expected place token after (Ok rest) tokens spelled led behind read =
+chain-first expected place token after (Ok rest) tokens spelled led following read =
     let is : record { expected = expected; token = token; place = place } ∷ rest ≡ tokens = cc in
-    subst (IsChain expected) is (refl, spelled, (after, led, behind rest refl))
-chain-first expected place token after (Err fault) tokens spelled led behind read = absurd cc
+    subst (IsChain expected) is (refl, spelled, (after, led, following rest refl))
+chain-first expected place token after (Err fault) tokens spelled led following read = absurd cc
 
 -- the same, where it is still open whether the token is taken
 chain-with : (expected : Expected) (place : Place) (token : Token) (found : Option Expected)
@@ -172,9 +172,9 @@ chain-with : (expected : Expected) (place : Place) (token : Token) (found : Opti
     → IsSpelled token → next expected token ≡ found
     → ((after : Expected) (rest : List Taken) → others after ≡ Ok rest → IsChain after rest)
     → taken_with expected place token found others ≡ Ok tokens → IsChain expected tokens
-chain-with expected place token None others tokens spelled led behind read = absurd cc
-chain-with expected place token (Some after) others tokens spelled led behind read = chain-first expected place token
-    after (others after) tokens spelled led (behind after) read
+chain-with expected place token None others tokens spelled led following read = absurd cc
+chain-with expected place token (Some after) others tokens spelled led following read = chain-first expected place token
+    after (others after) tokens spelled led (following after) read
 
 -- the same for any piece
 chain-at : (piece : Piece) (expected : Expected) (place : Place)
@@ -182,11 +182,11 @@ chain-at : (piece : Piece) (expected : Expected) (place : Place)
     → IsWell piece
     → ((after : Expected) (more : ℕ) (rest : List Taken) → others after more ≡ Ok rest → IsChain after rest)
     → taken_at piece expected place others ≡ Ok tokens → IsChain expected tokens
-chain-at (Gap more) expected place others tokens well behind read = behind expected more tokens read
-chain-at (Spelled token more) expected place others tokens well behind read = chain-with expected place token
+chain-at (Gap more) expected place others tokens well following read = following expected more tokens read
+chain-at (Spelled token more) expected place others tokens well following read = chain-with expected place token
     (next expected token) (λ after. others after more) tokens (well.token token more refl) refl
-    (λ after rest. behind after more rest) read
-chain-at Stray expected place others tokens well behind read = absurd cc
+    (λ after rest. following after more rest) read
+chain-at Stray expected place others tokens well following read = absurd cc
 
 -- no bytes are a chain where a rule is expected
 chain-end : (expected : Expected) (place : Place) (tokens : List Taken) (closed : Bool)

@@ -42,8 +42,8 @@ abbrev pub blank_line : RuleLine
 blank_line = record { name = []; master = []; keys = []; head = 0; from = []; conds = [] }
 
 -- after these rules, the next is not yet begun
-abbrev pub draft_behind : List RuleLine → Draft
-draft_behind lines = record { lines = lines; line = blank_line; attribute = 0; negated = false; texts = [] }
+abbrev pub draft_following : List RuleLine → Draft
+draft_following lines = record { lines = lines; line = blank_line; attribute = 0; negated = false; texts = [] }
 
 -- an earlier rule has the name
 abbrev pub has_name : List RuleLine → List ℕ → Bool
@@ -152,7 +152,7 @@ with_set token draft =
 
 -- where a rule is closed, one more rule
 abbrev pub with_line : Token → Draft → Draft
-with_line token draft = if is_sign mark.Semicolon token then draft_behind (draft.lines ++ draft.line ∷ []) else draft
+with_line token draft = if is_sign mark.Semicolon token then draft_following (draft.lines ++ draft.line ∷ []) else draft
 
 -- what a token adds, by what was expected there
 unfoldable pub with_token : Schema → Expected → Token → Place → Draft → Result Draft RuleFault
@@ -204,7 +204,7 @@ book_of draft = record { lines = draft.lines }
 -- the rulebook of tokens, where no rule is too many
 abbrev pub book_unless : Option Taken → Schema → List Taken → Result Rulebook RuleFault
 book_unless (Some extra) schema tokens = Err (TooMany extra.place.line extra.place.column)
-book_unless None schema tokens = and_then (with_tokens schema tokens (draft_behind [])) (λ draft. Ok (book_of draft))
+book_unless None schema tokens = and_then (with_tokens schema tokens (draft_following [])) (λ draft. Ok (book_of draft))
 
 -- what a text reads as over a schema
 unfoldable pub read_rules : List ℕ → Schema → Result Rulebook RuleFault

@@ -19,9 +19,9 @@ place_after place byte =
     else record { line = place.line; column = place.column + 1 }
 
 -- the place after all of these bytes
-abbrev pub place_behind : Place → List ℕ → Place
-place_behind place [] = place
-place_behind place (byte ∷ rest) = place_behind (place_after place byte) rest
+abbrev pub place_following : Place → List ℕ → Place
+place_following place [] = place
+place_following place (byte ∷ rest) = place_following (place_after place byte) rest
 
 -- space, tab, CR or LF
 abbrev pub is_blank : ℕ → Bool

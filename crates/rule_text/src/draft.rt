@@ -3,7 +3,7 @@ ghost use Rattle.std.specs.Prelude.{◌≡◌, ◌≢◌, ◌++◌, ◌∷◌, [
 ghost use Rattle.std.specs.Str.{bytes_eq};
 ghost use Rattle.fix_model.specs.declared.pattern.Pat.TheVariants as pat;
 ghost use Rattle.schema_core.specs.Schemas.{IsSchema};
-ghost use Rattle.rule_text.specs.Reading.{content, attribute_of, is_long, blank_line, draft_behind, has_name};
+ghost use Rattle.rule_text.specs.Reading.{content, attribute_of, is_long, blank_line, draft_following, has_name};
 ghost use Rattle.rule_text.specs.Reading.{has_attribute, with_name, with_master, with_key, with_key_column};
 ghost use Rattle.rule_text.specs.Reading.{with_head, with_head_column, with_asked, with_cond, with_test};
 ghost use Rattle.rule_text.specs.Reading.{with_constant, with_negated, with_text, with_set, with_line, with_token};
@@ -117,7 +117,7 @@ fn blank_line(alloc: Global) -> Result<RuleLine, RuleFault>
 impl Draft {
     /// The draft of which nothing is read yet.
     pub fn new(alloc: Global) -> Result<Draft, RuleFault>
-        ensures draft { IfOk result (λ draft. draft ≡ draft_behind []) }
+        ensures draft { IfOk result (λ draft. draft ≡ draft_following []) }
         ensures fault { IfErr result (λ fault. fault ≡ RuleFault.NoMemory) }
     {
         Ok(Draft {

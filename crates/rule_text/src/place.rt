@@ -1,6 +1,6 @@
 //! Places in a text, by which a refusal is told.
 ghost use Rattle.std.specs.Prelude.{◌≡◌, ◌+◌, ◌<◌, ◌≤◌, ◌^◌, length, take};
-ghost use Rattle.rule_text.specs.Tokens.{place_after, place_behind};
+ghost use Rattle.rule_text.specs.Tokens.{place_after, place_following};
 
 /// A line and a column, both from 1. Lines are counted by LF, columns by bytes.
 #[derive(Clone, Copy, Debug, PartialEq, Eq)]
@@ -11,11 +11,11 @@ pub struct Place {
 
 impl Place {
     /// The place after these bytes, which begin at this place.
-    pub fn behind(self, bytes: &[u8]) -> Place
+    pub fn following(self, bytes: &[u8]) -> Place
         requires counted { 1 ≤ self.column }
         requires line_fits { self.line + length bytes.now < 2 ^ 64 }
         requires column_fits { self.column + length bytes.now < 2 ^ 64 }
-        ensures place { result ≡ place_behind self bytes.now }
+        ensures place { result ≡ place_following self bytes.now }
         ensures counted { 1 ≤ result.column }
         ensures line { result.line ≤ self.line + length bytes.now }
         ensures column { result.column ≤ self.column + length bytes.now }

@@ -2,7 +2,7 @@
 ghost use Rattle.std.specs.Prelude.{◌≡◌, ◌≢◌, [], Ok, Err, option_map, IfOk, IfErr};
 ghost use Rattle.schema_core.specs.Schemas.{IsSchema};
 ghost use Rattle.rule_text.specs.Rulebooks.{IsRulebook};
-ghost use Rattle.rule_text.specs.Reading.{read_rules, begins_rule, extra_rule, draft_behind, with_tokens};
+ghost use Rattle.rule_text.specs.Reading.{read_rules, begins_rule, extra_rule, draft_following, with_tokens};
 
 use crate::draft::Draft;
 use crate::fault::RuleFault;
@@ -60,9 +60,9 @@ fn begins_rule(token: &Taken) -> bool
 fn draft_of(alloc: Global, schema: &Schema, tokens: &[Taken]) -> Result<Draft, RuleFault>
     requires { IsSchema schema.now }
     ensures draft { IfOk result (λ draft.
-        with_tokens schema.now tokens.now (draft_behind []) ≡ Ok draft) }
+        with_tokens schema.now tokens.now (draft_following []) ≡ Ok draft) }
     ensures fault { IfErr result (λ fault. fault ≢ RuleFault.NoMemory
-        → with_tokens schema.now tokens.now (draft_behind []) ≡ Err fault) }
+        → with_tokens schema.now tokens.now (draft_following []) ≡ Err fault) }
 {
     let mut draft = Draft::new(alloc)?;
     'tokens: for token in tokens {

@@ -29,7 +29,7 @@ pub fn tokens_of(alloc: Global, text: &[u8]) -> Result<Vec<Taken>, RuleFault>
             Piece::Stray => return Err(RuleFault::Syntax(place.line, place.column)),
         };
         let (passed, left) = rest.split_at(more + 1);
-        place = place.behind(passed);
+        place = place.following(passed);
         rest = left;
     }
     match expected {

@@ -38,8 +38,8 @@ module _ (rows : Rows) (place : ℕ) (valid : AreValid rows) (within : place < l
   -- so the last write of a clerk is about one of the clerk's own rows
   pub last-target : 0 < place → 0 < (own_of rows place).row.last
       → HasOwnTarget (own_of rows place) (own_of rows place).row.act (own_of rows place).row.target
-  last-target behind started =
+  last-target following started =
       let row : ClerkRow = (own_of rows place).row in
       let good : IsClerkRow rows place row = own-row in
       HasOwnTarget-done rows place row.act row.target (λ none. absurd (omega (arith, good.started.1 none, started)))
-      (good.clerk behind) good.target
+      (good.clerk following) good.target

@@ -83,7 +83,7 @@ fn clerk_of(tables: &Tables, name: &Str) -> Result<u32, Stop>
     requires { AreValid (rows_of tables.now) }
     ensures finds { Finds result (clerk_of tables.now.clerks.items name.now) }
     ensures memory { WantsNone result }
-    ensures behind { IfOk result (λ place. 0 < place) }
+    ensures following { IfOk result (λ place. 0 < place) }
     ensures within { IfOk result (λ place. place < length tables.now.clerks.items) }
 {
     let clerks = &tables.clerks.as_slice()[1..];

@@ -119,13 +119,13 @@ module _ (limit : ℕ) where
       (events_of answers) served ∙ stream-leaves (count + 1) a.tables answers rest
 
   -- what comes after the first requests of a stream is a stream over the tables that they leave
-  pub stream-behind : (count : ℕ) (before : Rows) (earlier answers : List Answered)
+  pub stream-following : (count : ℕ) (before : Rows) (earlier answers : List Answered)
       → Served limit count before (earlier ++ answers)
       → (later : ℕ) × Served limit later (last_tables before earlier) answers × Served limit count before earlier
-  stream-behind count before [] answers served = (count, served, tt)
-  stream-behind count before (a ∷ earlier) answers (served, rest) =
-      let behind = stream-behind (count + 1) a.tables earlier answers rest in
-      (behind.0, behind.1, (served, behind.2))
+  stream-following count before [] answers served = (count, served, tt)
+  stream-following count before (a ∷ earlier) answers (served, rest) =
+      let following = stream-following (count + 1) a.tables earlier answers rest in
+      (following.0, following.1, (served, following.2))
 
   pub stream-valid : (count : ℕ) (before : Rows) (answers : List Answered) → Served limit count before answers
       → AreValid before → AreValid (last_tables before answers)

@@ -7,7 +7,7 @@ ghost use Rattle.desk_base.specs.declared.limits.TheConstants.{MAX_ATTRIBUTES};
 ghost use Rattle.desk_words.specs.Tables.{published_of, rows_of};
 ghost use Rattle.desk_valid.specs.Tallies.{typed_bytes};
 ghost use Rattle.desk_valid.specs.Valid.{AreValid};
-ghost use Rattle.machine_core.specs.Checked.{each_behind};
+ghost use Rattle.machine_core.specs.Checked.{each_following};
 ghost use Rattle.machine_core.specs.Clerk.Batch.{another_column, batch_rows, enter_batch, is_confirmed, is_starred};
 ghost use Rattle.machine_core.specs.Clerk.Batch.{placed, row_session, word_of};
 ghost use Rattle.machine_core.specs.Outcomes.{Finds};
@@ -62,7 +62,7 @@ pub fn batch_deed(
 /// The columns of attributes of which none stands twice, in their order.
 fn columns_of(alloc: Global, attributes: &[Text], words: &[Text]) -> Result<List<Column>, Stop>
     requires { length attributes.now < 65536 }
-    ensures finds { Finds result (each_behind [] (another_column attributes.now) words.now) }
+    ensures finds { Finds result (each_following [] (another_column attributes.now) words.now) }
     ensures within { IfOk result (All (λ column. column.attribute < length attributes.now)) }
     ensures each { IfOk result (λ columns. length columns ≡ length words.now) }
 {

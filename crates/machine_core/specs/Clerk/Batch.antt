@@ -11,7 +11,7 @@ use Rattle.desk_words.specs.declared.rows.session.SessionRow.{SessionRow}
 use Rattle.desk_words.specs.Tables.{Published}
 use Rattle.desk_valid.specs.Bindings.{bound_at}
 use Rattle.master_rows.specs.Sheet.{read_sheet}
-use Rattle.machine_core.specs.Checked.{Checked, ◌>>=◌, ◌>>◌, done, each_behind, value_or, some_or, unless, certainly}
+use Rattle.machine_core.specs.Checked.{Checked, ◌>>=◌, ◌>>◌, done, each_following, value_or, some_or, unless, certainly}
 use Rattle.machine_core.specs.Clerk.Enter.{new_session}
 use Rattle.machine_core.specs.Faults.{sheet_refusal}
 use Rattle.machine_core.specs.Finding.{newest_edition}
@@ -78,5 +78,5 @@ enter_batch published own edition_name body = do
   edition ← some_or (newest_edition published.editions edition_name) (NoSuch kind.Edition)
   bound ← certainly (bound_at published edition)
   sheet ← value_or (read_sheet body) sheet_refusal
-  columns ← each_behind [] (another_column bound.names.attributes) sheet.columns
+  columns ← each_following [] (another_column bound.names.attributes) sheet.columns
   batch_rows own edition (length bound.names.attributes) columns sheet.grid.rows

@@ -18,7 +18,7 @@ use Rattle.desk_valid.specs.Rows.Edition.{AreNamedApart}
 use Rattle.fix_model.specs.Entries.{entries}
 use Rattle.rule_text.specs.Binding.{AreFolded}
 use Rattle.desk_base.specs.Places.{is_listed}
-use Rattle.machine_core.specs.Checked.{Checked, ◌>>=◌, ◌>>◌, done, each_behind, value_or, some_or, unless, certainly}
+use Rattle.machine_core.specs.Checked.{Checked, ◌>>=◌, ◌>>◌, done, each_following, value_or, some_or, unless, certainly}
 use Rattle.machine_core.specs.Faults.{bind_refusal}
 use Rattle.machine_core.specs.Finding.{master_named, next_version, rulebook_named}
 use Rattle.machine_core.specs.Limits.{within}
@@ -80,9 +80,9 @@ edition_row published name rulebook masters folded = do
   tests.proper_name name
   book ← some_or (rulebook_named published.rulebooks rulebook.0 rulebook.1) (NoSuch kind.Rulebook)
   rules ← certainly (rules_at published book)
-  attributes ← each_behind [] (tests.another_attribute rules.schema.attributes) folded
+  attributes ← each_following [] (tests.another_attribute rules.schema.attributes) folded
   within which.EditionMasters (length masters)
-  places ← each_behind [] (another_master published.masters) masters
+  places ← each_following [] (another_master published.masters) masters
   within which.Editions (length published.editions + 1)
   let row = next_edition published.editions name book places (in_order attributes (length rules.schema.attributes))
   bindable published row

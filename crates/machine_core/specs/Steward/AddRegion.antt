@@ -7,7 +7,7 @@ use Rattle.desk_words.specs.declared.refusal.Refusal.TheVariants.{NoSuch, RowWid
 use Rattle.desk_words.specs.declared.rows.region.RegionRow.{RegionRow}
 use Rattle.desk_words.specs.Tables.{Published}
 use Rattle.desk_valid.specs.Bindings.{bound_at}
-use Rattle.machine_core.specs.Checked.{Checked, ◌>>=◌, ◌>>◌, done, each, each_behind, some_or, unless, certainly}
+use Rattle.machine_core.specs.Checked.{Checked, ◌>>=◌, ◌>>◌, done, each, each_following, some_or, unless, certainly}
 use Rattle.machine_core.specs.Finding.{edition_named}
 use Rattle.machine_core.specs.Limits.{within}
 use Rattle.machine_core.specs.Tests as tests
@@ -39,7 +39,7 @@ region_count regions edition = count_by (λ row. row.edition == edition) regions
 -- the row of a region of the edition at a place, which has these attributes
 abbrev pub region_on : List RegionRow → ℕ → List (List ℕ) → List (List ℕ) → List (List (List ℕ)) → Checked RegionRow
 region_on regions edition attributes words rows = do
-  places ← each_behind [] (tests.another_attribute attributes) words
+  places ← each_following [] (tests.another_attribute attributes) words
   within which.RegionRows (length rows)
   texts ← full_rows words 1 rows
   within which.Regions (region_count regions edition + 1)

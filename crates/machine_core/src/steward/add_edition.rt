@@ -12,7 +12,7 @@ ghost use Rattle.schema_core.specs.Schemas.{IsSchema};
 ghost use Rattle.desk_valid.specs.Readings.{rules_at};
 ghost use Rattle.desk_valid.specs.Bindings.{AreBindable};
 ghost use Rattle.desk_valid.specs.Valid.{AreValid};
-ghost use Rattle.machine_core.specs.Checked.{each_behind, unless};
+ghost use Rattle.machine_core.specs.Checked.{each_following, unless};
 ghost use Rattle.machine_core.specs.Outcomes.{Finds, WantsNone};
 ghost use Rattle.machine_core.specs.DeskLook.Check.{entries_of};
 ghost use Rattle.machine_core.specs.Steward.AddEdition.{AreOthers, HasParts, another_master, bindable, edition_row, in_order};
@@ -114,7 +114,7 @@ fn next_edition(
 /// The places of versions of masters, each of another name.
 fn masters_named(alloc: Global, tables: &Tables, masters: &[(Str, u32)]) -> Result<List<u32>, Stop>
     requires { length tables.now.masters.items < 2 ^ 31 }
-    ensures finds { Finds result (each_behind [] (another_master tables.now.masters.items) masters.now) }
+    ensures finds { Finds result (each_following [] (another_master tables.now.masters.items) masters.now) }
     ensures others { IfOk result (AreOthers (published_of (rows_of tables.now))) }
     ensures each { IfOk result (λ places. length places ≡ length masters.now) }
 {

@@ -32,16 +32,16 @@ returns-in-len1-up-clause-stand c =
     let rows = c.args.rows.now in
     let first = c.first-item.result in
     let rest = take (length rows - 1) (drop 1 rows) in
-    stands c.unpack_behind.result (map line_of rows) (map line_of rest) (line_of first)
+    stands c.unpack_following.result (map line_of rows) (map line_of rest) (line_of first)
     (ap (map line_of) (first_and_rest rows first c.in-len1-up.len_at_least c.first-item.is))
-    c.unpack_behind.ensures.version c.unpack_behind.ensures.tables
+    c.unpack_following.ensures.version c.unpack_following.ensures.tables
 
 pub returns-in-len1-up-clause-damaged : goal.returns-in-len1-up-clause-damaged
 returns-in-len1-up-clause-damaged c is order tables stand =
     let rows = c.args.rows.now in
     let first = c.first-item.result in
     let rest = take (length rows - 1) (drop 1 rows) in
-    let none : rows_in_order (line_of first ∷ map line_of rest) ≡ None = c.unpack_behind.ensures.damaged is in
+    let none : rows_in_order (line_of first ∷ map line_of rest) ≡ None = c.unpack_following.ensures.damaged is in
     none_stand (map line_of rows) order
     (subst (λ lines. rows_in_order lines ≡ None)
     (sym (ap (map line_of) (first_and_rest rows first c.in-len1-up.len_at_least c.first-item.is))) none)

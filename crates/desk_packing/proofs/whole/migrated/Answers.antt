@@ -21,12 +21,12 @@ module _ (place : ℕ) (items : List EditionRow) (row : EditionRow) (within : pl
       → map line_of done ++ list_lines edition EDITIONS 0 place (drop place items) ≡ all
       → map line_of (done ++ packed ∷ []) ++ list_lines edition EDITIONS 0 (place + 1) (drop (place + 1) items) ≡ all
   next_line done packed all line so =
-      let behind = list_lines edition EDITIONS 0 (place + 1) (drop (place + 1) items) in
+      let following = list_lines edition EDITIONS 0 (place + 1) (drop (place + 1) items) in
       let more : drop place items ≡ row ∷ drop (place + 1) items
       = drop_more items place row within ∙ ap (λ x. x ∷ drop (place + 1) items) (sym is) in
-      let before : map line_of done ++ (row_line edition EDITIONS 0 place row ∷ behind) ≡ all = rw more at so in
-      rw (map_push line_of done packed, append_assoc (map line_of done) (line_of packed ∷ []) behind)
-      (ap (λ one. map line_of done ++ (one ∷ behind)) line ∙ before)
+      let before : map line_of done ++ (row_line edition EDITIONS 0 place row ∷ following) ≡ all = rw more at so in
+      rw (map_push line_of done packed, append_assoc (map line_of done) (line_of packed ∷ []) following)
+      (ap (λ one. map line_of done ++ (one ∷ following)) line ∙ before)
 
   -- one edition more fits
   next_fits : AllByRecursion edition.Fits (take place items) → edition.Fits row

@@ -49,7 +49,7 @@ requests-preserved g c =
       keeps = λ is. c.respond.ensures.steady (c.requests.invariant.keeps is);
       within = omega arith;
       few =
-          let few = c.in-Ok.ensures.behind c.in-Whole.request (ap (λ (s : Step). Ok s) c.in-Whole.is) in
+          let few = c.in-Ok.ensures.following c.in-Whole.request (ap (λ (s : Step). Ok s) c.in-Whole.is) in
           rw c.skip.ensures (omega (arith, few, length-drop c.in-Whole.request.body.end c.next_step.new.self));
     }
 
@@ -94,7 +94,8 @@ returns-in-Bad g c =
     c.in-Bad.is c.requests.invariant.serving c.in-Ok.ensures.fetched c.in-Ok.ensures.order
     c.next_step.ensures.later in
     ends_refused c.in-Bad.kind c.in-Bad.asks_head serving c.requests-test.true
-    (c.in-Ok.ensures.behind_bad c.in-Bad.kind c.in-Bad.asks_head (ap (λ (s : Step). Ok s) c.in-Bad.is)) found wrong asks
+    (c.in-Ok.ensures.following_bad c.in-Bad.kind c.in-Bad.asks_head (ap (λ
+        (s : Step). Ok s) c.in-Bad.is)) found wrong asks
     c.refuse.ensures refl refl refl refl refl
 
 -- as many requests were answered as may be

@@ -2,11 +2,11 @@ use Rattle.std.proofs.Common.{◌∙◌, [], arith, refl}
 use Rattle.std.specs.Prelude.{Err, zip}
 use Rattle.std.proofs.lemmas.List.{drop_all, length-append}
 use Rattle.std.proofs.lemmas.Slice.Zip.{firsts-zip, seconds-zip}
-use Rattle.machine_core.specs.Checked.{run, each_behind}
+use Rattle.machine_core.specs.Checked.{run, each_following}
 use Rattle.machine_core.specs.Deriving.{another_pair}
-use Rattle.machine_core.proofs.Joined.{behind-step}
+use Rattle.machine_core.proofs.Joined.{following-step}
 use Rattle.machine_core.proofs.Pairs.{no-attribute, no-column, pair-found, zip-push}
-use Rattle.machine_core.proofs.Stopping.{EndsWith-stopped, Finds-behind}
+use Rattle.machine_core.proofs.Stopping.{EndsWith-stopped, Finds-following}
 use Rattle.machine_core.proofs.derived.places_of.Goals as goal
 
 pub returns-in_err-attribute : goal.returns-in_err-attribute
@@ -19,9 +19,10 @@ returns-in_err-attribute c =
     let first = rw c.as_slice.ensures at c.in_err-attribute.ensures.finds in
     let none = no-attribute words names c.pairs.attributes c.pairs.columns c.pairs.invariant.each c.pair-item.result
     stop first in
-    EndsWith-stopped (run (each_behind [] (another_pair words names) pairs)) _ stop c.from_residual.result
-    c.from_residual.ensures.1 (Finds-behind (another_pair words names) pairs c.pairs.pair-index c.pair-item.result
-    before stop (run (each_behind [] (another_pair words names) pairs)) (Err stop) refl c.pairs-test.true c.pair-item.is
+    EndsWith-stopped (run (each_following [] (another_pair words names) pairs)) _ stop c.from_residual.result
+    c.from_residual.ensures.1 (Finds-following (another_pair words names) pairs c.pairs.pair-index c.pair-item.result
+    before stop (run (each_following [] (another_pair words names) pairs))
+        (Err stop) refl c.pairs-test.true c.pair-item.is
     c.pairs.invariant.found none)
 
 pub returns-in_err-column : goal.returns-in_err-column
@@ -35,10 +36,10 @@ returns-in_err-column c =
     let second = rw c.as_slice-in-pairs.ensures at c.in_err-column.ensures in
     let none = no-column words names c.pairs.attributes c.pairs.columns c.pairs.invariant.each c.pair-item.result
     c.in_ok-attribute.attribute stop first second in
-    EndsWith-stopped (run (each_behind [] (another_pair words names) pairs)) _ stop
+    EndsWith-stopped (run (each_following [] (another_pair words names) pairs)) _ stop
     c.from_residual-in_err-column.result
-    c.from_residual-in_err-column.ensures.1 (Finds-behind (another_pair words names) pairs c.pairs.pair-index
-    c.pair-item.result before stop (run (each_behind [] (another_pair words names) pairs)) (Err stop) refl
+    c.from_residual-in_err-column.ensures.1 (Finds-following (another_pair words names) pairs c.pairs.pair-index
+    c.pair-item.result before stop (run (each_following [] (another_pair words names) pairs)) (Err stop) refl
     c.pairs-test.true
     c.pair-item.is c.pairs.invariant.found none)
 
@@ -54,7 +55,7 @@ pairs-preserved c =
     let found = pair-found words names c.pairs.attributes c.pairs.columns c.pairs.invariant.each c.pair-item.result
     attribute column first second in
     record {
-      found = c.pairs.invariant.found ∙ behind-step (another_pair words names) c.args.pairs.now c.pairs.pair-index
+      found = c.pairs.invariant.found ∙ following-step (another_pair words names) c.args.pairs.now c.pairs.pair-index
           c.pair-item.result before (zip c.push.new.self c.push-in-pairs.new.self) (attribute, column) c.pairs-test.true
           c.pair-item.is found (rw (c.in_ok-push.ensures.pushed, c.in_ok-push-2.ensures.pushed)
           (zip-push c.pairs.attributes c.pairs.columns attribute column c.pairs.invariant.each));

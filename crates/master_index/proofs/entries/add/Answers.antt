@@ -6,7 +6,8 @@ use Rattle.fix_model.specs.declared.book.Hit.{Hit}
 use Rattle.fix_model.specs.Comparison.{row_key}
 use Rattle.fix_model.specs.Rules.{from_text}
 use Rattle.master_index.specs.Sorted.{EndsWithKey, IsGrown}
-use Rattle.master_index.proofs.Grouping.{AreEntries-grown, AreEntries-own, ahead-other_key, behind-not_before, nothing}
+use Rattle.master_index.proofs.Grouping.{AreEntries-grown, AreEntries-own, ahead-other_key}
+use Rattle.master_index.proofs.Grouping.{following-not_before, nothing}
 use Rattle.master_index.proofs.Grouping.{not_before-sorted}
 use Rattle.master_index.proofs.entries.add.Goals as goal
 
@@ -39,5 +40,5 @@ returns c =
     let changed : c.set.new.self ≡ set entries (length entries - 1) c.with_row-grown.result = rw c.len-end.ensures
     at c.set.ensures in
     rw changed (AreEntries-grown key text rows c.args.place entries c.requires.before
-    (λ other stands same. behind-not_before key row other (not_before other stands) same) nothing ends.0 ends.1
+    (λ other stands same. following-not_before key row other (not_before other stands) same) nothing ends.0 ends.1
     c.with_row-grown.result grows)

@@ -6,5 +6,5 @@ pub returns : goal.returns
 returns c = elim (cases_order c.args.row c.args.other) [
   | inl equal ↦ equal
   | inr (inl before) ↦ absurd (c.requires.other.first c.args.row before c.requires.same)
-  | inr (inr behind) ↦ absurd (c.requires.derived.first c.args.other behind (sym c.requires.same))
+  | inr (inr following) ↦ absurd (c.requires.derived.first c.args.other following (sym c.requires.same))
 ]

@@ -6,7 +6,7 @@ use Rattle.fix_model.proofs.Lengths.{IsCovered-end_of, IsMaximalRun-exists}
 use Rattle.fix_model.proofs.Runs.{end_of-append}
 use Rattle.fix_engine.proofs.Ends.{IsInside-alike}
 use Rattle.fix_engine.proofs.Lists.{All-Contains}
-use Rattle.region_suggest.proofs.Wider.{IsCovered-within, IsRun-behind, IsRun-wider, IsWider-start, covered-closed}
+use Rattle.region_suggest.proofs.Wider.{IsCovered-within, IsRun-following, IsRun-wider, IsWider-start, covered-closed}
 use Rattle.region_suggest.proofs.laws.hope_is_sound.Goals as goal
 
 pub returns : goal.returns
@@ -32,7 +32,7 @@ returns c = λ attribute within flags closed.
     let last : IsCovered (end_of kit (end_of kit more run) rest) attribute =
     rw end_of-append at (into.covered attribute (fix.is_certain.0 refl attribute within)) in
     covered-closed kit valid attributes (end_of kit state run) flags closed (end_of kit more run) rest end_fits
-    wide_end.inside (IsRun-behind kit more run rest maximal.0)
+    wide_end.inside (IsRun-following kit more run rest maximal.0)
     (λ one covered. elim (wide_end.only one covered) [
       | inl before ↦ closed.covered one before
       | inr listed ↦ closed.given_ones one (IsCovered-within kit (end_of kit more run) end_fits one covered) listed

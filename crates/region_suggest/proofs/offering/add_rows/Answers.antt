@@ -42,13 +42,13 @@ texts-read g c =
     c.as_slice-texts.ensures ∙ get_or_read c.as_slice.result.now c.rows.row c.index-as_slice-row.result
     (rw rows (row-within g c)) c.index-as_slice-row.is [] ∙ ap (λ some. get_or some c.rows.row []) rows
 
-pub returns-then-not-holds_confirmed-clause-behind : goal.returns-then-not-holds_confirmed-clause-behind
-returns-then-not-holds_confirmed-clause-behind g c = let kit = g.B.Book.kit c.args.book.now in
+pub returns-then-not-holds_confirmed-clause-following : goal.returns-then-not-holds_confirmed-clause-following
+returns-then-not-holds_confirmed-clause-following g c = let kit = g.B.Book.kit c.args.book.now in
     let state = c.args.state.now in
     let regions = c.args.regions.now in
     let place : ℕ = c.args.place in
     let attributes = attributes-read g
-    (goal.at.returns-then-not-holds_confirmed-clause-behind g c).After-as_slice-attributes in
+    (goal.at.returns-then-not-holds_confirmed-clause-following g c).After-as_slice-attributes in
     ListsExactly-same (IsMatchWithin kit state regions place 0) (IsMatchWithin kit state regions (place + 1) 0)
     c.args.found.now
     (IsMatchWithin-lacks kit state regions place (λ holds.
@@ -116,8 +116,8 @@ rows-preserved g c = let kit = g.B.Book.kit c.args.book.now in
       }
     ]
 
-pub returns-clause-behind : goal.returns-clause-behind
-returns-clause-behind g c = let kit = g.B.Book.kit c.args.book.now in
+pub returns-clause-following : goal.returns-clause-following
+returns-clause-following g c = let kit = g.B.Book.kit c.args.book.now in
     let state = c.args.state.now in
     let regions = c.args.regions.now in
     let place : ℕ = c.args.place in

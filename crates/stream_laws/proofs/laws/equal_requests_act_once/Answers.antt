@@ -1,15 +1,15 @@
 use Rattle.std.proofs.Common.{◌∷◌, ◌++◌, []}
 use Rattle.desk_words.specs.Tables.{rows_of}
 use Rattle.http_desk.specs.Answered.{last_tables}
-use Rattle.stream_laws.proofs.Requests.{acts-once, stream-behind, stream-valid}
+use Rattle.stream_laws.proofs.Requests.{acts-once, stream-following, stream-valid}
 use Rattle.stream_laws.proofs.laws.equal_requests_act_once.Goals as goal
 
 pub returns : goal.returns
 returns c = λ count caller command earlier between one again reply answer changes others served target body is asks_it
     first some none second.
     let rows = rows_of c.args.tables.now in
-    let behind = stream-behind c.args.limit count rows earlier (one ∷ (between ++ again ∷ [])) served in
-    acts-once c.args.limit behind.0 (last_tables rows earlier) caller command one again between reply answer changes
+    let following = stream-following c.args.limit count rows earlier (one ∷ (between ++ again ∷ [])) served in
+    acts-once c.args.limit following.0 (last_tables rows earlier) caller command one again between reply answer changes
     others
-    (record { served = behind.1; target = target; body = body; is = is; first = first; second = second })
-    (stream-valid c.args.limit count rows earlier behind.2 c.requires) asks_it some none
+    (record { served = following.1; target = target; body = body; is = is; first = first; second = second })
+    (stream-valid c.args.limit count rows earlier following.2 c.requires) asks_it some none

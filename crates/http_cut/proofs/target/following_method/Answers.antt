@@ -1,10 +1,11 @@
 use Rattle.std.proofs.Common.{◌≡◌, ◌+◌, ◌-◌, take, drop, length, sym, subst, arith, take_all, length-drop}
 use Rattle.http_cut.specs.Lines.{BeginsMethod}
 use Rattle.http_cut.proofs.Ends.{run_is_method, method_is_run}
-use Rattle.http_cut.proofs.target.behind_method.Goals as goal
-use Rattle.http_cut.proofs.target.behind_method.Goals.{then-end-eq0-via-then-end-eq0}
-use Rattle.http_cut.proofs.target.behind_method.Goals.{then-end-eq0-via-else-end-eq0+then-end-text}
-use Rattle.http_cut.proofs.target.behind_method.Goals.{then-end-eq0-via-else-end-eq0+else-end-text+then-text-end-ne32}
+use Rattle.http_cut.proofs.target.following_method.Goals as goal
+use Rattle.http_cut.proofs.target.following_method.Goals.{then-end-eq0-via-then-end-eq0}
+use Rattle.http_cut.proofs.target.following_method.Goals.{then-end-eq0-via-else-end-eq0+then-end-text}
+use Rattle.http_cut.proofs.target.following_method.Goals.{then-end-eq0-via-else-end-eq0+else-end-text+then-text-end-ne32}
+use Rattle.http_cut.proofs.target.following_method.Goals.{}
 
 pub returns-then-end-eq0 : goal.returns-then-end-eq0
 returns-then-end-eq0 c =

@@ -17,7 +17,7 @@ use Rattle.rule_text.specs.declared.draft.Draft.{Draft}
 use Rattle.rule_text.specs.Grammar.{leads, next}
 use Rattle.rule_text.specs.Tokenizer.{is_between_rules}
 use Rattle.rule_text.specs.Tokens.{is_keyword, is_quoted, is_sign}
-use Rattle.rule_text.specs.Reading.{content, attribute_of, draft_behind}
+use Rattle.rule_text.specs.Reading.{content, attribute_of, draft_following}
 use Rattle.rule_text.specs.Reading.{with_cond, with_test, with_constant, with_negated, set_of, with_set}
 use Rattle.rule_text.specs.Reading.{with_line, with_token, with_tokens}
 use Rattle.rule_text.specs.Rulebooks.{IsPlain}
@@ -79,7 +79,7 @@ hold-after_line schema after token draft held more apart goes read at =
       | inl (taken, is) ↦ arrive schema expected.Cond after held is
           (subst (AtEnd schema) (let same : draft ≡ with_line token draft = rw (apart taken) refl in same ∙ read) at)
       | inr (other, others) ↦ let (closing, is) = led _ _ _ others in arrive schema expected.Rule after held is
-          (subst (AtRule schema) (let same : draft_behind (draft.lines ++ draft.line ∷ [])
+          (subst (AtRule schema) (let same : draft_following (draft.lines ++ draft.line ∷ [])
           ≡ with_line token draft = rw closing refl in same ∙ read) (hold-line schema draft at.whole))
     ]
 
@@ -274,10 +274,10 @@ pub hold-tokens : (schema : Schema) (present : Expected) (tokens : List Taken) (
     → AtRule schema held
 hold-tokens schema present [] draft held chain read at = subst (AtRule schema) (same-draft _ _ read)
     (at_end schema present draft chain at)
-hold-tokens schema present (first ∷ rest) draft held (is, spelled, (after, goes, behind)) read at =
+hold-tokens schema present (first ∷ rest) draft held (is, spelled, (after, goes, following)) read at =
     let (middle, step, others) =
     and_then-Ok (with_token schema first.expected first.token first.place draft) (with_tokens schema rest) held read in
     let step' : with_token schema present first.token first.place draft ≡ Ok middle =
     subst (λ (expected : Expected). with_token schema expected first.token first.place draft ≡ Ok middle) is step in
-    hold-tokens schema after rest middle held behind others (hold-step schema present after first.token first.place
+    hold-tokens schema after rest middle held following others (hold-step schema present after first.token first.place
     draft middle spelled goes step' at)
