@@ -50,7 +50,7 @@ All-put : {A : Type 0} (P : A → Type 0) (items : List A) (place : ℕ) (item :
     → All P (put items place item)
 All-put P items place item all holds =
     elim (place == length items) as (λ following. All P (if following then items ++ item ∷ [] else set items place
-        item)) [
+    item)) [
       | true ↦ All-push P items item all holds
       | false ↦ All-set P items place item holds all
     ]

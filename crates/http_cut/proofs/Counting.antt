@@ -101,12 +101,12 @@ following_lines-append (suc count) bytes more rest e =
         → following_lines count (following ++ more)
         ≡ Some (rest ++ more))
         → (first : Option (List ℕ)) → following_line bytes ≡ first
-            → option_and_then (following_lines count) first ≡ Some rest
+        → option_and_then (following_lines count) first ≡ Some rest
         → option_and_then (following_lines count) (following_line (bytes ++ more)) ≡ Some (rest ++ more)
     by later None test e = cc
     by later (Some following) test e =
         ap (option_and_then (following_lines count)) (following_line-append bytes more following test)
-            ∙ later following more rest e
+        ∙ later following more rest e
 
 -- some lines, and then others
 pub following_lines-then : (first then : ℕ) (bytes rest : List ℕ) → following_lines first bytes ≡ Some rest

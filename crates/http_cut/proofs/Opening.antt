@@ -78,7 +78,7 @@ many_never bytes (text, (blank, e, none), (byte, rest, lines, return, feed)) (mo
     (BeginsNoLine-start head tail is) whole in
     let count : (1 + length head.fields) + (64 - length head.fields) ≡ 65 = omega (arith, few) in
     let following : following_lines (64 - length head.fields) (print_end head.last ++ [])
-        ≡ Some (byte ∷ (rest ++ more)) =
+    ≡ Some (byte ∷ (rest ++ more)) =
     sym (following_lines-then (1 + length head.fields) (64 - length head.fields) (start_line head ++ tail)
     (print_end head.last ++ [])
     (following_head head head.fields (print_end head.last ++ []) is is.fields))

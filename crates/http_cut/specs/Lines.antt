@@ -30,7 +30,7 @@ following_lines (suc count) bytes = option_and_then (following_lines count) (fol
 abbrev pub GoesOn : List ℕ → Type 0
 GoesOn text =
     (byte : ℕ) × (rest : List ℕ) × (following_lines (MAX_FIELDS + 1) text ≡ Some (byte ∷ rest)) × (byte ≢ 13)
-        × (byte ≢ 10)
+    × (byte ≢ 10)
 
 -- the same after empty lines
 abbrev pub HasManyLines : List ℕ → Type 0

@@ -177,7 +177,7 @@ same_requests limit old new early late end other one two own its same =
     let following_too : List ℕ = two.rest ++ two.after in
     let begins : Begins one.bytes (requests two.answers) following_too =
     subst (λ (b : List ℕ). Begins b (requests two.answers) following_too) (sym same)
-        (front limit early late other two) in
+    (front limit early late other two) in
     let begins_too : Begins two.bytes (requests one.answers) following =
     subst (λ (b : List ℕ). Begins b (requests one.answers) following) same (front limit old new end one) in
     elim (whole limit old new end one own) [
@@ -197,13 +197,13 @@ same_requests limit old new early late end other one two own its same =
       | inr (other_end, (cut, few)) ↦ elim (whole limit early late other two its) [
         | inl reached ↦
             absurd (not_both limit one.bytes two.answers one.answers following_too following
-                (cut_end end) reached.1 begins
+            (cut_end end) reached.1 begins
             cut few)
         | inr (other_too, (cut_too, few_too)) ↦
             let (all, rests, ends) = IsCut_unique one.bytes (requests one.answers) (requests two.answers) following
             following_too (cut_end end) (cut_end other) cut
             (subst (λ (b : List ℕ). IsCut b (requests two.answers) following_too (cut_end other))
-                (sym same) cut_too) in (
+            (sym same) cut_too) in (
               all,
               sym (ended_of-cut_end end own other_end) ∙ ap ended_of ends ∙ ended_of-cut_end other its other_too,
             )

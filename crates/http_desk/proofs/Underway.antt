@@ -55,9 +55,9 @@ module _ {S : Type 0} (calls : S → S → ℕ → Result ℕ Failed → Type 0)
   pub TakesTurns-push : (last read : S) (answers : List Answered) (a : Answered) (held : List ℕ) (given : List
       (Reading S))
       (window following : List ℕ) → TakesTurns calls source last answers held
-          → ReadsOn calls last held given read window
+      → ReadsOn calls last held given read window
       → BeginsRequest window a.request.0 a.request.1 following
-          → TakesTurns calls source read (answers ++ a ∷ []) following
+      → TakesTurns calls source read (answers ++ a ∷ []) following
   TakesTurns-push last read answers a held given window following t on whole =
       let turn : Turn S = record { given = given; answer = a } in
       record {

@@ -28,7 +28,7 @@ module _ {S : Type 0} (calls : S → S → ℕ → Result ℕ Failed → Type 0)
   AreTurns old held (turn ∷ turns) new rest =
       (read : S) × (window following : List ℕ) × ReadsOn calls old held turn.given read window
       × BeginsRequest window turn.answer.request.0 turn.answer.request.1 following
-          × AreTurns read following turns new rest
+      × AreTurns read following turns new rest
 
   -- these are the answers of turns, after the last of which the rest was held
   pub record TakesTurns (old new : S) (answers : List Answered) (rest : List ℕ) : Type 0 where

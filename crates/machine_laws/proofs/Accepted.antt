@@ -172,7 +172,7 @@ module _ (rows : Rows) (valid : AreValid rows) (place : ℕ) (within : place < l
       let done : IsDone (with_own rows place new) place deed.act deed.target = IsDone-own rows place (after own deed)
       new.row
       deed.act deed.target following (omega (arith, valid.tables.sessions.each)) (omega
-          (arith, valid.tables.records.each))
+      (arith, valid.tables.records.each))
       (omega (arith, valid.tables.batches.each)) sound.target in
       (fit, subst AreValid (sym same) (ticketed-valid new deed.act deed.target refl done fewer sound.rows tables))
 

@@ -191,7 +191,7 @@ CarriesOne-write rows name ticket number version answer changes step accepted =
           (Ok answer)) deed.is new.kept in
           let shown = put-shown (published_of rows) own number deed.moved answer there.counted within kept in
           let by = shown-by (published_of rows) number deed.moved carried.following shown.0 carried.binds_following
-              shown.1 in
+          shown.1 in
           record {
             place = place;
             found = new.is_place.found;

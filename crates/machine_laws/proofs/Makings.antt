@@ -130,8 +130,8 @@ module _ (rows : Rows) (valid : AreValid rows) where
     names = subst (λ (one : Rows). Begins (names_of rows.clerks) (names_of one.clerks)) (sym same)
         (Begins-same (names_of rows.clerks));
     own = λ place within. ap (λ (one : Rows). own_of one place) same;
-    new = λ place following within. absurd (omega (arith, following, within, ap (λ
-        (one : Rows). length one.clerks) same));
+    new = λ place following within.
+        absurd (omega (arith, following, within, ap (λ (one : Rows). length one.clerks) same));
     is_done = subst (λ one. IsDone one 0 making.act making.target) (sym same) has_done;
   }
 

@@ -98,7 +98,7 @@ attributes-why P words names unknown twice refusal gives =
     let (index, one, inside, is, holds) = Any-from_list_any (taken at) says.sofar
     (not-false (list_any (taken at) says.sofar) some) in
     elim (each_following-found (another_attribute words) says.earlier [] says.sofar one says.passed
-        (index, inside, is)) [
+    (index, inside, is)) [
       | inl none ↦ absurd (omega (arith, none.1))
       | inr before ↦
           let at_word : word ≡ get_or words at [] = word-at word words at

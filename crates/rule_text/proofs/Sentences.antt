@@ -52,7 +52,7 @@ module _ (expected : Expected) (place : Place) (byte : ℕ) (rest : List ℕ) (m
       (taken : List Taken)
       → piece_at (byte ∷ rest) ≡ Spelled token more → next expected token ≡ found
       → ((after : Expected) (following : List Taken) → others after ≡ Ok following
-          → IsReading after (drop more rest) following)
+      → IsReading after (drop more rest) following)
       → taken_with expected place token found others ≡ Ok taken → IsReading expected (byte ∷ rest) taken
   reading-with token None others taken piece led goes read = absurd cc
   reading-with token (Some after) others taken piece led goes read = reading-first token after (others after) taken

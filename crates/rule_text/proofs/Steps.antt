@@ -33,7 +33,7 @@ pub record Reads (schema : Schema) (before : Expected) (draft : Draft) (bytes : 
   pub walk : (place : Place)
       → (tokens : List Taken)
       × ((following : Place) × ((taken_from before place 0 bytes
-          ≡ with_front tokens (taken_from after following 0 rest))
+      ≡ with_front tokens (taken_from after following 0 rest))
       × ((with_tokens schema tokens draft ≡ Ok held) × (length (filter begins_rule tokens) ≡ begun))))
 
 -- tokens in front of tokens in front

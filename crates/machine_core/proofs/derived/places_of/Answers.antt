@@ -22,7 +22,7 @@ returns-in_err-attribute c =
     EndsWith-stopped (run (each_following [] (another_pair words names) pairs)) _ stop c.from_residual.result
     c.from_residual.ensures.1 (Finds-following (another_pair words names) pairs c.pairs.pair-index c.pair-item.result
     before stop (run (each_following [] (another_pair words names) pairs))
-        (Err stop) refl c.pairs-test.true c.pair-item.is
+    (Err stop) refl c.pairs-test.true c.pair-item.is
     c.pairs.invariant.found none)
 
 pub returns-in_err-column : goal.returns-in_err-column
