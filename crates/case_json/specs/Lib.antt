@@ -5,3 +5,4 @@ pub mod Records
 pub mod Kits
 pub mod Cases
 pub mod Answer
+pub mod Pointers

@@ -4,7 +4,7 @@ ghost use Rattle.std.specs.List.{list_all};
 ghost use Rattle.desk_base.specs.Places.{place_of};
 ghost use Rattle.desk_base.specs.Words.{is_word};
 ghost use Rattle.serde_json.specs.View.{view};
-ghost use Rattle.case_json.specs.Attributes.{attributes_in, place_in};
+ghost use Rattle.case_json.specs.Attributes.{attributes_in, place_in, word_in};
 
 use desk_base::{List, MAX_ATTRIBUTES, Text, is_word, place_of};
 use json_parts::{Part, PartFault};
@@ -64,10 +64,44 @@ impl Attributes {
     }
 
     /// The words in their order.
+    pub fn words(&self) -> &[Text]
+        ensures { result.now ≡ self.now }
+    {
+        self.words.as_slice()
+    }
+
+    /// The words in their order.
     pub fn into_words(self) -> List<Text>
         ensures { result ≡ self }
     {
         self.words
+    }
+}
+
+/// A word, the name of an attribute.
+#[derive(Drop)]
+pub struct Word {
+    text: Text,
+}
+
+impl Model for Word {
+    ghost use Rattle.std.specs.Prelude.{ℕ, List};
+
+    ghost Value = { List ℕ };
+
+    ghost view = { λ word. word.text };
+}
+
+impl Part<()> for Word {
+    ghost part_in = { λ _. word_in };
+
+    fn read(alloc: Global, context: &(), value: &Value) -> Result<Word, PartFault> {
+        let text = Text::read(alloc, context, value)?;
+        if is_word(text.as_str().as_bytes()) {
+            Ok(Word { text })
+        } else {
+            Err(PartFault::WrongForm)
+        }
     }
 }
 

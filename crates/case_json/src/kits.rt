@@ -13,7 +13,11 @@ use serde_json::Value;
 use std::alloc::Global;
 
 /// The flags of the folded attributes.
-fn folded(alloc: Global, attributes: &Attributes, value: &Value) -> Result<List<bool>, PartFault>
+pub fn folded(
+    alloc: Global,
+    attributes: &Attributes,
+    value: &Value,
+) -> Result<List<bool>, PartFault>
     ensures folded { IfOk result (λ made.
         folded_of attributes.now (get (codes "folded") (view value.now)) ≡ Some made) }
     ensures none { IsErrOf result PartFault.WrongForm

@@ -2,13 +2,14 @@
 ghost use Rattle.std.specs.Prelude.{◌≡◌, ◌+◌, ◌≤◌, ◌++◌, length, option_map, map, IfOk, OnOk, IsErrOf, Some, None};
 ghost use Rattle.serde_json.specs.View.{view};
 ghost use Rattle.case_json.specs.Masters.{columns_of, row_in, table_in};
-ghost use Rattle.json_parts.specs.Parts.{each, text_in};
+ghost use Rattle.json_parts.specs.Parts.{each, items_in, text_in};
 
 use crate::attributes::Attributes;
 use desk_base::{Grid, List, MAX_COLUMNS, MAX_ROWS, Text};
 use json_parts::{Part, PartFault, items};
 use serde_json::Value;
 use std::alloc::Global;
+use std::marker::Model;
 
 impl Part<Attributes> for Grid {
     ghost part_in = { λ _. table_in };
@@ -18,24 +19,59 @@ impl Part<Attributes> for Grid {
         if rows.len() > MAX_ROWS as usize {
             return Err(PartFault::WrongForm);
         }
-        let columns = columns_of(rows)?;
-        grid_of(alloc, columns, rows)
+        match columns_of(rows) {
+            Some(columns) => grid_of(alloc, columns, rows),
+            None => Err(PartFault::WrongForm),
+        }
+    }
+}
+
+/// The items of a value that is an array.
+pub fn array(value: &Value) -> Option<&[Value]>
+    ensures { option_map (λ items. map view items.now) result ≡ items_in (view value.now) }
+{
+    match value.as_array() {
+        Some(list) => Some(list.as_slice()),
+        None => None,
     }
 }
 
 /// How many columns the rows have, by the first of them. Where there is none they have the most.
-fn columns_of(rows: &[Value]) -> Result<u16, PartFault>
-    ensures columns { IfOk result (λ columns. columns_of (map view rows.now) ≡ Some columns) }
-    ensures none { IsErrOf result PartFault.WrongForm → columns_of (map view rows.now) ≡ None }
+pub fn columns_of(rows: &[Value]) -> Option<u16>
+    ensures { result ≡ columns_of (map view rows.now) }
 {
     let [first, ..] = rows else {
-        return Ok(MAX_COLUMNS as u16);
+        return Some(MAX_COLUMNS as u16);
     };
-    let count = items(first)?.len();
+    let count = array(first)?.len();
     if 1 <= count && count <= MAX_COLUMNS {
-        Ok(count as u16)
+        Some(count as u16)
     } else {
-        Err(PartFault::WrongForm)
+        None
+    }
+}
+
+/// A row of so many texts.
+#[derive(Drop)]
+pub struct Row {
+    cells: List<Text>,
+}
+
+impl Model for Row {
+    ghost use Rattle.std.specs.Prelude.{ℕ, List};
+
+    ghost Value = { List (List ℕ) };
+
+    ghost view = { λ row. row.cells };
+}
+
+impl Part<u16> for Row {
+    ghost part_in = { row_in };
+
+    fn read(alloc: Global, columns: &u16, value: &Value) -> Result<Row, PartFault> {
+        let mut cells = List::new(alloc);
+        push_row(alloc, &mut cells, *columns, value)?;
+        Ok(Row { cells })
     }
 }
 

@@ -53,7 +53,7 @@ fn parts(alloc: Global, value: &Value) -> Result<Case, PartFault>
     })
 }
 
-fn has_case_keys(value: &Value) -> bool
+pub fn has_case_keys(value: &Value) -> bool
     ensures { result ≡ has_case_keys (view value.now) }
 {
     has_keys(

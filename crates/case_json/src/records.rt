@@ -28,7 +28,7 @@ pub fn listed(
 }
 
 /// The typed texts, one for each attribute.
-fn typed(alloc: Global, attributes: &Attributes, value: &Value) -> Result<List<Text>, PartFault>
+pub fn typed(alloc: Global, attributes: &Attributes, value: &Value) -> Result<List<Text>, PartFault>
     ensures typed { IfOk result (λ typed.
         field (codes "record") (record_in attributes.now) (view value.now) ≡ Some typed) }
     ensures none { IsErrOf result PartFault.WrongForm
@@ -44,7 +44,11 @@ fn typed(alloc: Global, attributes: &Attributes, value: &Value) -> Result<List<T
 }
 
 /// The flags of the confirmed attributes.
-fn confirmed(alloc: Global, attributes: &Attributes, value: &Value) -> Result<List<bool>, PartFault>
+pub fn confirmed(
+    alloc: Global,
+    attributes: &Attributes,
+    value: &Value,
+) -> Result<List<bool>, PartFault>
     ensures confirmed { IfOk result (λ made.
         field (codes "confirmed") (flags_in attributes.now) (view value.now) ≡ Some made) }
     ensures none { IsErrOf result PartFault.WrongForm

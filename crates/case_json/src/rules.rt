@@ -1,9 +1,9 @@
 //! The rules of a case.
 ghost use Rattle.std.specs.Prelude.{◌≡◌, ◌<◌, map, IfOk, IsErrOf, Some, None};
 ghost use Rattle.serde_json.specs.View.{view};
-ghost use Rattle.json_parts.specs.Parts.{field};
+ghost use Rattle.json_parts.specs.Parts.{field, has_keys};
 ghost use Rattle.case_json.specs.Rules.{column_in, cond_in, cond_of, key_in, key_of, master_in, counted_in};
-ghost use Rattle.case_json.specs.Rules.{pattern_of, pattern_with, rule_in, rule_of};
+ghost use Rattle.case_json.specs.Rules.{pattern_of, pattern_with, rule_in, rule_keys, rule_of};
 
 use crate::attributes::Attributes;
 use desk_base::{List, MAX_COLUMNS, MAX_MASTERS, Text};
@@ -22,47 +22,23 @@ fn place(greatest: u16, value: &Value) -> Option<u16>
     }
 }
 
-/// A column, read of a value.
-fn column(value: &Value) -> Result<u16, PartFault>
-    ensures column { IfOk result (λ column. column_in (view value.now) ≡ Some column) }
-    ensures none { IsErrOf result PartFault.WrongForm → column_in (view value.now) ≡ None }
-{
-    match place(MAX_COLUMNS as u16, value) {
-        Some(column) => Ok(column),
-        None => Err(PartFault::WrongForm),
-    }
-}
-
 /// The column at a key of an object.
-fn column_at(key: &str, value: &Value) -> Result<u16, PartFault>
-    ensures column { IfOk result (λ column. field key.now column_in (view value.now) ≡ Some column) }
-    ensures none { IsErrOf result PartFault.WrongForm → field key.now column_in (view value.now) ≡ None }
+pub fn column_at(key: &str, value: &Value) -> Option<u16>
+    ensures { result ≡ field key.now column_in (view value.now) }
 {
     match value.get(key) {
-        Some(found) => column(found),
-        None => Err(PartFault::WrongForm),
+        Some(found) => place(MAX_COLUMNS as u16, found),
+        None => None,
     }
 }
 
 /// The master at a key of an object.
-fn master_at(key: &str, value: &Value) -> Result<u16, PartFault>
-    ensures master { IfOk result (λ master. field key.now master_in (view value.now) ≡ Some master) }
-    ensures none { IsErrOf result PartFault.WrongForm → field key.now master_in (view value.now) ≡ None }
+pub fn master_at(key: &str, value: &Value) -> Option<u16>
+    ensures { result ≡ field key.now master_in (view value.now) }
 {
     match value.get(key) {
-        Some(found) => master(found),
-        None => Err(PartFault::WrongForm),
-    }
-}
-
-/// A master, read of a value.
-fn master(value: &Value) -> Result<u16, PartFault>
-    ensures master { IfOk result (λ master. master_in (view value.now) ≡ Some master) }
-    ensures none { IsErrOf result PartFault.WrongForm → master_in (view value.now) ≡ None }
-{
-    match place(MAX_MASTERS as u16, value) {
-        Some(master) => Ok(master),
-        None => Err(PartFault::WrongForm),
+        Some(found) => place(MAX_MASTERS as u16, found),
+        None => None,
     }
 }
 
@@ -83,12 +59,14 @@ fn key(alloc: Global, attributes: &Attributes, items: &[Value]) -> Result<(u16, 
     ensures key { IfOk result (λ key. key_of attributes.now (map view items.now) ≡ Some key) }
     ensures none { IsErrOf result PartFault.WrongForm → key_of attributes.now (map view items.now) ≡ None }
 {
-    let [name, place] = items else {
+    let [name, column] = items else {
         return Err(PartFault::WrongForm);
     };
     let attribute = u16::read(alloc, attributes, name)?;
-    let column = column(place)?;
-    Ok((attribute, column))
+    match place(MAX_COLUMNS as u16, column) {
+        Some(column) => Ok((attribute, column)),
+        None => Err(PartFault::WrongForm),
+    }
 }
 
 /// The pattern of one text or of a set, which stands after its word.
@@ -144,6 +122,13 @@ impl Part<Attributes> for (u16, Pat) {
     }
 }
 
+/// Whether the value is an object with the keys of a rule.
+pub fn has_rule_keys(value: &Value) -> bool
+    ensures { result ≡ has_keys rule_keys (view value.now) }
+{
+    has_keys(value, &["conds", "from", "head", "keys", "master"])
+}
+
 /// A rule, read of an object that has the keys of one.
 fn rule(alloc: Global, attributes: &Attributes, value: &Value) -> Result<Rule, PartFault>
     ensures rule { IfOk result (λ rule. rule_of attributes.now (view value.now) ≡ Some rule) }
@@ -151,8 +136,12 @@ fn rule(alloc: Global, attributes: &Attributes, value: &Value) -> Result<Rule, P
 {
     let keys = read_field(alloc, attributes, "keys", value)?;
     let head = read_field(alloc, attributes, "head", value)?;
-    let from = column_at("from", value)?;
-    let master = master_at("master", value)?;
+    let Some(from) = column_at("from", value) else {
+        return Err(PartFault::WrongForm);
+    };
+    let Some(master) = master_at("master", value) else {
+        return Err(PartFault::WrongForm);
+    };
     let conds = read_field(alloc, attributes, "conds", value)?;
     Ok(Rule {
         keys,
@@ -167,7 +156,7 @@ impl Part<Attributes> for Rule {
     ghost part_in = { rule_in };
 
     fn read(alloc: Global, attributes: &Attributes, value: &Value) -> Result<Rule, PartFault> {
-        if has_keys(value, &["conds", "from", "head", "keys", "master"]) {
+        if has_rule_keys(value) {
             rule(alloc, attributes, value)
         } else {
             Err(PartFault::WrongForm)

@@ -3,7 +3,7 @@ use crate::keeping::fresh;
 use crate::words::words_of;
 use desk_base::{Both, List, MemLink, MemSink, MemSource};
 use desk_cases::{Answer, Case};
-use fixdesk_run::run;
+use fixdesk_run::{Said, run};
 use keeper_core::Keeper;
 use session_machine::Desk;
 use std::alloc::Global;
@@ -70,7 +70,7 @@ impl<'a> Call<'a> {
 
     /// Makes the call over a keeper and its link, and tells the status.
     pub fn make_over<K: Keeper>(&self, alloc: Global, keeper: &mut K, link: &mut MemLink) -> u8 {
-        run::<Desk, _, _, _>(alloc, self.words, keeper, link)
+        run::<Desk, _, _, _>(alloc, self.words, keeper, link, &mut Said::nothing())
     }
 
     /// The link of the call.

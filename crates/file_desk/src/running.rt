@@ -7,7 +7,7 @@ ghost use Rattle.file_desk.specs.Over.{RunsOver};
 
 use crate::ended::Run;
 use desk_base::{Both, Sink, Source, Str};
-use fixdesk_run::run;
+use fixdesk_run::{Said, run};
 use keeper_sqlite::FileKeeper;
 use session_machine::Desk;
 use sqlite::Start;
@@ -21,6 +21,7 @@ pub fn run_over<'r, S: Start, R: Source, W: Sink>(
     path: Str,
     start: S,
     link: &mut Both<R, W>,
+    said: &mut Said,
 ) -> Run<'r, S>
     ensures { let seen = link_seen R.left R.read_faults W.written W.write_faults in
         RunsOver (image_at S.Start) (map string_bytes words.now) (seen link.old) (seen link.new)
@@ -28,6 +29,6 @@ pub fn run_over<'r, S: Start, R: Source, W: Sink>(
         (record { calls = result.1.calls; faults = result.1.faults }) result.0 }
 {
     let mut keeper = FileKeeper::over(rt, path, start);
-    let code = run::<Desk, _, _, _>(rt.alloc(), words, &mut keeper, link);
+    let code = run::<Desk, _, _, _>(rt.alloc(), words, &mut keeper, link, said);
     (code, keeper)
 }

@@ -1,5 +1,5 @@
 //! What the programs over `desk.db` say on standard error.
-use fixdesk_run::tell as tell_status;
+use fixdesk_run::{Said, tell_said};
 use row_store::OpenFault;
 use sqlite::{Error, ErrorCode};
 
@@ -13,7 +13,7 @@ pub struct Called<'w> {
 impl<'w> Called<'w> {
     /// Says in one line why the program ends with this status, and what kept it from opening `desk.db`, where that was
     /// refused. Which words are said is not promised.
-    pub fn tell(self, rt: &HostRuntime, code: u8, fault: Option<OpenFault>) {
+    pub fn tell(self, rt: &HostRuntime, code: u8, fault: Option<OpenFault>, said: &Said) {
         let program = self.program;
         match (code, fault, self.words) {
             (4, Some(OpenFault::Refused(Error::SqliteFailure(ErrorCode::DatabaseBusy))), _) => {
@@ -30,7 +30,7 @@ impl<'w> Called<'w> {
             (9, _, [port, ..]) => {
                 drop(eprintln!(rt; "{program}: port {port} is in use, or may not be listened on"))
             }
-            _ => tell_status(rt, program, code),
+            _ => tell_said(rt, program, code, said),
         }
     }
 }

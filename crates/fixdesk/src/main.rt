@@ -3,7 +3,7 @@
 
 use desk_base::{Both, NoMemory, StdSink, StdSource, Str};
 use file_desk::{Called, end, run_over, words};
-use fixdesk_run::{Status, tell};
+use fixdesk_run::{Said, Status, tell};
 use sqlite::Unknown;
 use std::alloc::AllocError;
 use std::process::ExitCode;
@@ -26,8 +26,12 @@ fn run_words(rt: &HostRuntime, words: &[String]) -> u8 {
         program: "fixdesk",
         words,
     };
+    let mut said = Said::nothing();
     match Str::new(rt.alloc(), "desk.db") {
-        Ok(path) => end(rt, called, run_over(rt, words, path, Unknown, &mut link)),
+        Ok(path) => {
+            let run = run_over(rt, words, path, Unknown, &mut link, &mut said);
+            end(rt, called, run, &said)
+        }
         Err(NoMemory) => no_memory(rt),
     }
 }

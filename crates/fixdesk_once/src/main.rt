@@ -2,7 +2,7 @@
 #![tactic(auto)]
 
 use desk_base::{Both, StdSink, StdSource};
-use once_run::{once, tell};
+use once_run::{Said, once, tell_said};
 use std::process::ExitCode;
 
 fn main(rt: HostRuntime) -> ExitCode {
@@ -10,7 +10,8 @@ fn main(rt: HostRuntime) -> ExitCode {
         source: StdSource::new(rt.stdin()),
         sink: StdSink::new(rt.stdout()),
     };
-    let code = once(rt.alloc(), &mut link).code();
-    tell(&rt, "fixdesk_once", code);
+    let mut said = Said::nothing();
+    let code = once(rt.alloc(), &mut link, &mut said).code();
+    tell_said(&rt, "fixdesk_once", code, &said);
     ExitCode::from(code)
 }

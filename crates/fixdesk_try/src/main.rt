@@ -3,7 +3,7 @@
 
 use desk_base::{Both, List, NoMemory, StdSink, StdSource};
 use desk_words::Tables;
-use fixdesk_run::{Status, run, tell};
+use fixdesk_run::{Said, Status, run, tell_said};
 use keeper_core::MemKeeper;
 use session_machine::Desk;
 use std::alloc::{AllocError, Global};
@@ -12,11 +12,12 @@ use std::io::ErrorKind;
 use std::process::ExitCode;
 
 fn main(rt: HostRuntime) -> ExitCode {
+    let mut said = Said::nothing();
     let code = match words(&rt) {
-        Ok(words) => run_words(&rt, words.as_slice()),
+        Ok(words) => run_words(&rt, words.as_slice(), &mut said),
         Err(AllocError) => Status::NoMemory.code(),
     };
-    tell(&rt, "fixdesk_try", code);
+    tell_said(&rt, "fixdesk_try", code, &said);
     ExitCode::from(code)
 }
 
@@ -31,14 +32,14 @@ fn words(rt: &HostRuntime) -> Result<Vec<String>, AllocError> {
 }
 
 /// Runs over the tables of an empty desk.
-fn run_words(rt: &HostRuntime, words: &[String]) -> u8 {
+fn run_words(rt: &HostRuntime, words: &[String], said: &mut Said) -> u8 {
     let mut link = Both {
         source: StdSource::new(rt.stdin()),
         sink: StdSink::new(rt.stdout()),
     };
     match keeper(rt.alloc()) {
         Ok(mut keeper) => {
-            let code = run::<Desk, _, _, _>(rt.alloc(), words, &mut keeper, &mut link);
+            let code = run::<Desk, _, _, _>(rt.alloc(), words, &mut keeper, &mut link, said);
             drop(keeper);
             code
         }

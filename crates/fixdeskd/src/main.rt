@@ -4,7 +4,7 @@
 
 use desk_base::{NoMemory, StdSink, Str};
 use file_desk::{Called, end, serve_over, words};
-use fixdesk_run::{Status, tell};
+use fixdesk_run::{Said, Status, tell};
 use sqlite::Unknown;
 use std::alloc::AllocError;
 use std::process::ExitCode;
@@ -27,11 +27,10 @@ fn serve_words(rt: &HostRuntime, words: &[String]) -> u8 {
         words,
     };
     match Str::new(rt.alloc(), "desk.db") {
-        Ok(path) => end(
-            rt,
-            called,
-            serve_over(rt, words, path, Unknown, &mut door, &mut out),
-        ),
+        Ok(path) => {
+            let run = serve_over(rt, words, path, Unknown, &mut door, &mut out);
+            end(rt, called, run, &Said::nothing())
+        }
         Err(NoMemory) => no_memory(rt),
     }
 }

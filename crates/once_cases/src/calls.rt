@@ -1,5 +1,6 @@
 //! Calls of `run` as cases state them.
 use crate::indexes::{line_over_map, line_over_sorted};
+use case_json::pointer_of;
 use desk_cases::{Answer, Case, Part};
 use desk_trials::{Call, Told, cut_of};
 use std::alloc::Global;
@@ -48,11 +49,23 @@ fn add_told(case: &Case, input: &[u8], told: &Told, answer: &mut Answer) -> Resu
     if case.part("output").is_some() {
         answer.bytes("output", line(told.output.as_slice()))?;
     }
+    if told.status == 7 {
+        add_pointer(input, answer)?;
+    }
     if told.status == 0 {
         add_over_map(input, told, answer)?;
         add_over_sorted(input, told, answer)?;
     }
     Ok(())
+}
+
+/// Adds which part keeps a JSON text from being a case.
+fn add_pointer(input: &[u8], answer: &mut Answer) -> Result<(), Fail> {
+    match pointer_of(answer.alloc(), input)? {
+        Some(pointer) if pointer.is_empty() => answer.text("pointer", "itself"),
+        Some(pointer) => answer.bytes("pointer", pointer.as_slice()),
+        None => Ok(()),
+    }
 }
 
 /// Adds the line over a map of the masters, where that is not the one that was told.

@@ -12,6 +12,7 @@ ghost use Rattle.once_run.specs.Status.{status_code};
 use crate::input::{InputFault, MOST, input_of};
 use crate::reply::{CaseReply, InputRefusal};
 use crate::status::Status;
+use crate::telling::Said;
 use case_json::{Case, CaseFault, case_of, case_text};
 use desk_base::{Both, Failed, List, NoMemory, Sink, Source, Steps, Text, write_all};
 use fix_engine::{Work, decide};
@@ -67,8 +68,8 @@ pub fn answer_over<B: Book<()>>(
     case_text::<B>(alloc, attributes, book, &state, &work, &verdict)
 }
 
-/// Answers the case that the link has left.
-pub fn once<S: Source, W: Sink>(alloc: Global, link: &mut Both<S, W>) -> Status
+/// Answers the case that the link has left, and points to what keeps another JSON text from being one.
+pub fn once<S: Source, W: Sink>(alloc: Global, link: &mut Both<S, W>, said: &mut Said) -> Status
     ensures ended { let seen = link_seen S.left S.read_faults W.written W.write_faults in
         EndsOnce (seen link.old) (seen link.new) result }
     ensures read_faults { S.read_faults link.old.source ≤ S.read_faults link.new.source }
@@ -85,6 +86,9 @@ pub fn once<S: Source, W: Sink>(alloc: Global, link: &mut Both<S, W>) -> Status
         Ok(reply) => reply,
         Err(NoMemory) => return Status::NoMemory,
     };
+    if let CaseReply::Refused(InputRefusal::NotACase) = &reply {
+        said.point(alloc, bytes.as_slice());
+    }
     match write_all(&mut link.sink, reply.text()) {
         Ok(()) => reply.status(),
         Err(Failed) => Status::WriteFault,

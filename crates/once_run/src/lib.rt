@@ -13,4 +13,4 @@ mod telling;
 
 pub use answering::{answer_over, once};
 pub use status::Status;
-pub use telling::tell;
+pub use telling::{Said, tell, tell_said};
