@@ -1,2 +1,3 @@
 pub mod Time
 pub mod Tcp
+pub mod Turns

@@ -13,16 +13,16 @@ use std::net::{Shutdown, TcpStream};
 use std::time::{Duration, Instant};
 
 /// How many seconds a peer is waited for in all until its request is read, and again until it has taken its response.
-const WAIT: u64 = 10;
+pub(crate) const WAIT: u64 = 10;
 
 /// How many seconds a peer is waited for in all until it closes its own side, after its response.
-const LAST_WAIT: u64 = 2;
+pub(crate) const LAST_WAIT: u64 = 2;
 
 /// How many bytes after its request are taken from a peer at most.
 const MOST: usize = 16_777_216;
 
 /// How many of them a read asks for.
-const PIECE: usize = 8_192;
+pub(crate) const PIECE: usize = 8_192;
 
 /// The time that is left, which is not zero. It is an error that none is.
 fn time_left(rt: &HostRuntime, deadline: &mut Deadline) -> io::Result<Duration>
