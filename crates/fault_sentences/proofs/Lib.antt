@@ -1,8 +1,10 @@
 pub mod Sights
 pub mod Documents
+pub mod Ranges
 pub mod Printable
 pub mod PrintableRules
 pub mod PrintableSheets
 pub mod PrintableSchemas
 pub mod PrintableBindings
 pub mod PrintablePublished
+pub mod PrintableNotes

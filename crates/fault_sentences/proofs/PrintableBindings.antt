@@ -9,7 +9,7 @@ use Rattle.rule_text.specs.declared.binding.BindFault.TheVariants as fault
 use Rattle.rule_text.specs.declared.rulebook.RuleLine.{RuleLine}
 use Rattle.rule_text.specs.declared.rulebook.Rulebook.{Rulebook}
 use Rattle.fault_sentences.specs.declared.bindings.Over.{Over}
-use Rattle.fault_sentences.specs.declared.bindings.Over.TheVariants.{Edition, Given}
+use Rattle.fault_sentences.specs.declared.bindings.Over.TheVariants.{Edition, Given, Desk}
 use Rattle.fault_sentences.specs.Bindings.{bind_sentence, columns_of, index_sentence}
 use Rattle.fault_sentences.specs.Bindings.{lacking, lacks, line_at, no_column}
 use Rattle.fault_sentences.specs.Bindings.{no_master, wants_column}
@@ -17,9 +17,10 @@ use Rattle.fault_sentences.specs.Printable.{IsPrintable}
 use Rattle.fault_sentences.proofs.Printable.{decimal-printable, if-same, list_all-if, listed-printable, shown-printable}
 
 -- who has not what is looked for
-lacks-printable : (over : Over) → IsPrintable (lacks over)
+pub lacks-printable : (over : Over) → IsPrintable (lacks over)
 lacks-printable Edition = refl
 lacks-printable Given = refl
+lacks-printable Desk = refl
 
 -- what is told of a rule that is there
 line-printable : (told : RuleLine → List ℕ) (line : Option RuleLine) → ((one : RuleLine) → IsPrintable (told one))

@@ -9,7 +9,7 @@ use Rattle.rule_text.specs.declared.binding.BindFault.TheVariants as fault
 use Rattle.rule_text.specs.declared.rulebook.RuleLine.{RuleLine}
 use Rattle.rule_text.specs.declared.rulebook.Rulebook.{Rulebook}
 use Rattle.fault_sentences.specs.declared.bindings.Over.{Over}
-use Rattle.fault_sentences.specs.declared.bindings.Over.TheVariants.{Edition, Given}
+use Rattle.fault_sentences.specs.declared.bindings.Over.TheVariants.{Edition, Given, Desk}
 use Rattle.fault_sentences.specs.Shown.{shown}
 use Rattle.fault_sentences.specs.Lists.{listed}
 use Rattle.fault_sentences.specs.Memory.{no_memory}
@@ -22,6 +22,7 @@ line_at rulebook number = slice_get rulebook.lines (number - 1)
 abbrev pub lacks : Over → List ℕ
 lacks Edition = codes ", which the edition does not have"
 lacks Given = codes ", which is not given"
+lacks Desk = codes ", which the desk does not have"
 
 -- a rule that looks into no master
 unfoldable pub no_master : Over → RuleLine → List ℕ

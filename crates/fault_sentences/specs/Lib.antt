@@ -12,3 +12,4 @@ pub mod Records
 pub mod Sheets
 pub mod Published
 pub mod Schemas
+pub mod Notes

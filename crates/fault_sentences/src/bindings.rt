@@ -18,6 +18,8 @@ pub enum Over {
     Edition,
     /// The masters that a caller gives.
     Given,
+    /// The newest versions of all masters of the desk.
+    Desk,
 }
 
 /// Says which name in a rulebook nothing has: the rule, the name, and what there is in its stead.
@@ -59,7 +61,7 @@ fn line_at(rulebook: &Rulebook, number: u64) -> Option<&RuleLine>
 }
 
 #[tactic(auto, unfolding(crate::specs::Bindings::no_master))]
-fn no_master(out: &mut Sentence, over: Over, line: &RuleLine) -> Result<(), NoMemory>
+pub(crate) fn no_master(out: &mut Sentence, over: Over, line: &RuleLine) -> Result<(), NoMemory>
     ensures { OnOk result (out.new ≡ out.old ++ no_master over line.now) }
 {
     out.words("rule ")?;
@@ -75,6 +77,7 @@ fn lacks(over: Over) -> &'static str
     match over {
         Over::Edition => ", which the edition does not have",
         Over::Given => ", which is not given",
+        Over::Desk => ", which the desk does not have",
     }
 }
 
@@ -104,7 +107,7 @@ fn lacking(out: &mut Sentence, master: &Text, columns: &[Text]) -> Result<(), No
 
 /// A rule, and the column that it looks for or copies.
 #[tactic(auto, unfolding(crate::specs::Bindings::wants_column))]
-fn wants_column(out: &mut Sentence, line: &RuleLine, place: u64) -> Result<(), NoMemory>
+pub(crate) fn wants_column(out: &mut Sentence, line: &RuleLine, place: u64) -> Result<(), NoMemory>
     ensures { OnOk result (out.new ≡ out.old ++ wants_column line.now place) }
 {
     out.words("rule ")?;

@@ -1,6 +1,8 @@
 //! What holds of sentences, whatever stands in the texts that they tell of: they are printable ASCII.
+ghost use Rattle.std.specs.Prelude.{ℕ, List, IfSome};
 ghost use Rattle.fault_sentences.specs.Bindings.{bind_sentence, index_sentence};
-ghost use Rattle.fault_sentences.specs.Printable.{IsPrintable};
+ghost use Rattle.fault_sentences.specs.Notes.{absent_note, column_note, rules_told, schema_notes, sheet_notes};
+ghost use Rattle.fault_sentences.specs.Printable.{ArePrintable, IsPrintable};
 ghost use Rattle.fault_sentences.specs.Published.{absent_sentence, bad_name_sentence, cells_sentence, folded_sentence};
 ghost use Rattle.fault_sentences.specs.Published.{full_sentence, masters_sentence, twice_sentence};
 ghost use Rattle.fault_sentences.specs.Rules.{rules_sentence};
@@ -11,7 +13,7 @@ use crate::bindings::Over;
 use crate::published::Published;
 use desk_base::Text;
 use master_rows::{Master, SheetFault};
-use rule_text::{BindFault, RuleFault, Rulebook};
+use rule_text::{BindFault, RuleFault, RuleLine, Rulebook};
 use schema_core::{Schema, SchemaFault};
 
 /// A sentence on a text of rules is printable ASCII.
@@ -64,4 +66,20 @@ pub fn a_sentence_on_publishing_is_printable(
     ensures masters { IsPrintable (masters_sentence count) }
     ensures full { IsPrintable (full_sentence what count) }
     ensures cells { IsPrintable cells_sentence }
+{}
+
+/// The notes on what is taken are printable ASCII: those on a schema, on a sheet and on a rule, and that on all rules
+/// where those on each are.
+pub fn notes_are_printable(
+    schema: &Schema,
+    master: &Master,
+    line: &RuleLine,
+    version: u32,
+    sheet: &[u8],
+)
+    ensures schema { ArePrintable (schema_notes schema.now) }
+    ensures sheet { ArePrintable (sheet_notes master.now) }
+    ensures absent { IsPrintable (absent_note line.now) }
+    ensures column { IfSome (column_note line.now version sheet.now) IsPrintable }
+    ensures rules { (sentences : List (List ℕ)) → ArePrintable sentences → ArePrintable (rules_told sentences) }
 {}

@@ -1,13 +1,15 @@
 //! What is said to a person where a text is refused: the place, what stands there, and what was expected or what to do.
 //!
 //! A clause sees a `Sentence` as its bytes. Each sentence is defined in `specs/`, by its words and arguments:
-//! `Schemas.antt`, `Sheets.antt`, `Rules.antt`, `Bindings.antt` and `Published.antt`. `Shown.antt` says how a sentence
-//! shows what stands in a text.
+//! `Schemas.antt`, `Sheets.antt`, `Rules.antt`, `Bindings.antt` and `Published.antt`, and `Notes.antt` has those on
+//! what is taken though it is likely a slip. `Shown.antt` says how a sentence shows what stands in a text.
 #![tactic(auto)]
 
 mod bindings;
+mod lacking;
 pub mod laws;
 mod names;
+mod notes;
 mod published;
 mod records;
 mod rules;
@@ -15,9 +17,13 @@ mod schemas;
 mod sentence;
 mod sheets;
 mod sight;
+mod slips;
+mod twins;
 mod utf8;
 
 pub use bindings::{Over, bind_sentence, index_sentence};
+pub use lacking::{absent_note, column_note, rules_told};
+pub use notes::{schema_notes, sheet_notes};
 pub use published::{
     Published, absent_sentence, bad_name_sentence, cells_sentence, folded_sentence, full_sentence,
     masters_sentence, twice_sentence,
@@ -26,3 +32,4 @@ pub use rules::rules_sentence;
 pub use schemas::{plain_schema_sentence, schema_sentence};
 pub use sentence::Sentence;
 pub use sheets::sheet_sentence;
+pub use slips::Slip;

@@ -57,7 +57,8 @@ fn fields_of(alloc: Global, source: &ByteRecord) -> Result<List<List<u8>>, NoMem
     Ok(fields)
 }
 
-fn copy_of(alloc: Global, bytes: &[u8]) -> Result<List<u8>, NoMemory>
+/// A copy of bytes.
+pub(crate) fn copy_of(alloc: Global, bytes: &[u8]) -> Result<List<u8>, NoMemory>
     ensures { IfOk result (λ copy. copy ≡ bytes.now) }
 {
     Ok(List::from_vec(Vec::from_slice(alloc, bytes)?))
