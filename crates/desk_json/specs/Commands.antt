@@ -34,6 +34,7 @@ use Rattle.desk_json.specs.declared.route.Route.TheVariants.{Explain, DeskDerive
 use Rattle.desk_json.specs.declared.route.Route.TheVariants.{DeskPublished, DeskEdition, DeskRow, DeskRegion}
 use Rattle.desk_json.specs.declared.route.Route.TheVariants.{Body, Choices, Blocked, DeskContradictions}
 use Rattle.desk_json.specs.declared.route.Route.TheVariants.{CheckSchema, CheckMaster, CheckRulebook, CheckEdition}
+use Rattle.desk_json.specs.declared.route.Route.TheVariants.{DeskDump}
 
 -- who asks for what, or the first fault of the body
 pub data Asked : Type 0 where
@@ -92,6 +93,7 @@ asked_in CheckSchema body = to_check (Ok (Schema body))
 asked_in (CheckMaster name) body = to_check (Ok (Master name body))
 asked_in (CheckRulebook name schema version) body = to_check (Ok (Rulebook name schema version body))
 asked_in (CheckEdition name) body = to_check (proposed_edition name body)
+asked_in DeskDump body = at_desk (Ok desk_looks.Dump)
 
 -- the command that is asked for, where a write has this digest
 abbrev pub command_by : Digest → Asked → Checked Command

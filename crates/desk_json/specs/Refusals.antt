@@ -11,8 +11,9 @@ use Rattle.desk_words.specs.declared.refusal.Refusal.TheVariants.{UnknownAttr, V
 use Rattle.desk_words.specs.declared.refusal.Refusal.TheVariants.{NotConfirmed, Limit}
 use Rattle.desk_words.specs.declared.refusal.Refusal.TheVariants.{BadText, Unavailable, NoMemory, Twice, Taken, BadName}
 use Rattle.desk_words.specs.declared.refusal.Refusal.TheVariants.{RowWidth, NotFixed, NoColumn, NotNewer}
+use Rattle.desk_words.specs.Words.{stage_word}
 use Rattle.json_parts.specs.Shapes.{list_of, object_of, whole}
-use Rattle.desk_json.specs.Words.{kind_word, limit_word, reader_word, stage_word}
+use Rattle.desk_json.specs.Words.{kind_word, limit_word, reader_word}
 
 -- the key `error`, with its word
 abbrev pub error : List ℕ → List ℕ × Data

@@ -17,10 +17,11 @@ use Rattle.desk_json.specs.Carried.{carried_shown}
 use Rattle.desk_json.specs.Choices.{choices_shown}
 use Rattle.desk_json.specs.Fits.{fits_shown}
 use Rattle.desk_json.specs.Refusals.{refusal_shown, unfit_shown}
+use Rattle.desk_words.specs.Words.{stage_word}
 use Rattle.json_parts.specs.Shapes.{list_of, object_of, or_null, whole}
 use Rattle.desk_json.specs.Published.{catalogue_shown, edition_shown, master_row_shown, region_sheet_shown}
 use Rattle.desk_json.specs.Viewed.{number_shown, run_shown, view_shown}
-use Rattle.desk_json.specs.Words.{kind_word, stage_word}
+use Rattle.desk_json.specs.Words.{kind_word}
 
 -- a clerk
 abbrev pub clerk_shown : List ℕ → Data
@@ -98,7 +99,7 @@ page_shown page = object_of (
     ∷ (codes "sessions", list_of (map session_shown page.lines))
     ∷ [])
 
--- a reply; a report, records, derived rows, contradictions and what was published are no JSON
+-- a reply; a report, records, derived rows, contradictions, what was published and a dump are no JSON value
 abbrev pub reply_shown : Reply → Option Data
 reply_shown (replies.Made made) = Some (made_shown made)
 reply_shown (replies.Opened session) = Some (view_shown session)
@@ -120,6 +121,7 @@ reply_shown (replies.Choices told) = Some (choices_shown told)
 reply_shown (replies.Blocked told) = Some (blocked_shown told)
 reply_shown (replies.Body what body) = None
 reply_shown (replies.Contradictions sheet) = None
-reply_shown (replies.Fits told) = Some (fits_shown told)
+reply_shown (replies.Fits told notes) = Some (fits_shown told notes)
 reply_shown (replies.Unfit refusal says) = Some (unfit_shown refusal says)
+reply_shown (replies.Dump tables) = None
 reply_shown (replies.Refused refusal) = Some (refusal_shown refusal)

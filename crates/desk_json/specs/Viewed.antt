@@ -7,8 +7,8 @@ use Rattle.desk_words.specs.declared.view.Shown.{Shown}
 use Rattle.desk_words.specs.declared.view.Shown.TheVariants.{Uncovered, Confirmed, Fixed}
 use Rattle.desk_words.specs.declared.view.View.{View}
 use Rattle.desk_words.specs.declared.view.ViewCell.{ViewCell}
+use Rattle.desk_words.specs.Words.{stage_word}
 use Rattle.json_parts.specs.Shapes.{list_of, object_of, or_null, whole}
-use Rattle.desk_json.specs.Words.{stage_word}
 
 -- a name with its number: `[name,number]`
 abbrev pub number_shown : List ℕ × ℕ → Data

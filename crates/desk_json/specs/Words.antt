@@ -1,4 +1,4 @@
--- The words that replies and refusals have for stages, kinds, limits and readers.
+-- The words that replies and refusals have for kinds, limits and readers.
 use Rattle.std.specs.Prelude.{ℕ, List, codes}
 use Rattle.desk_words.specs.declared.limit.Which.{Which}
 use Rattle.desk_words.specs.declared.limit.Which.TheVariants.{Clerks, Schemas, Masters, MasterCells, Rulebooks}
@@ -8,16 +8,8 @@ use Rattle.desk_words.specs.declared.refusal.Kind.{Kind}
 use Rattle.desk_words.specs.declared.refusal.Kind.TheVariants as kind
 use Rattle.desk_words.specs.declared.refusal.Reader.{Reader}
 use Rattle.desk_words.specs.declared.refusal.Reader.TheVariants as readers
-use Rattle.desk_words.specs.declared.rows.session.Stage.{Stage}
-use Rattle.desk_words.specs.declared.rows.session.Stage.TheVariants.{Active, Committed, Abandoned}
 use Rattle.fix_model.specs.declared.region.RowVerdict.{RowVerdict}
 use Rattle.fix_model.specs.declared.region.RowVerdict.TheVariants.{Certain, Partial, Conflict}
-
--- the stage of a session
-abbrev pub stage_word : Stage → List ℕ
-stage_word Active = codes "active"
-stage_word Committed = codes "committed"
-stage_word Abandoned = codes "abandoned"
 
 -- what is not there
 abbrev pub kind_word : Kind → List ℕ

@@ -148,6 +148,7 @@ pub fn command_of(
             version,
         } => { Ok(to_check(proposed_rulebook(alloc, name, schema, *version, body)?)) }
         Route::CheckEdition { name } => Ok(to_check(proposed_edition(alloc, name, body)?)),
+        Route::DeskDump => Ok(Command::Desk(DeskLook::Dump)),
     }
 }
 

@@ -3,7 +3,7 @@
 //! `specs/Commands.antt` says which command a route and a body are, `specs/Bodies` what each body reads as or which
 //! fault it has first; `specs/Replies.antt`, `Viewed.antt`, `Carried.antt`, `Choices.antt`, `Blocked.antt`,
 //! `Published.antt`, `Fits.antt`, `Refusals.antt` and `Faults.antt` how replies and faults are printed. `docs/api.md`
-//! says the same to a client.
+//! says the same to a client. `Show` is what is shown as a JSON value, also in what other crates print.
 #![tactic(auto)]
 
 mod blocked;
@@ -27,3 +27,4 @@ pub use commands::command_of;
 pub use fault::JsonFault;
 pub use replies::{fault_text, text_of};
 pub use route::Route;
+pub use shown::{Show, show_all};

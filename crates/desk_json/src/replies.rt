@@ -8,6 +8,7 @@ ghost use Rattle.desk_json.specs.Replies.{page_shown, region_shown, reply_shown,
 ghost use Rattle.desk_json.specs.Replies.{version_shown};
 
 use crate::fault::JsonFault;
+use crate::fits::fits_text;
 use crate::refusals::unfit_text;
 use crate::shown::{Show, field, text};
 use desk_base::{List, NoMemory, Text};
@@ -15,8 +16,8 @@ use desk_words::{Batched, Explained, Kind, Made, Reply, SessionLine, SessionPage
 use json_parts::JsonText;
 use std::alloc::{AllocError, Global};
 
-/// The JSON text of a reply that is no report, no records, no derived rows, no contradictions and nothing that was
-/// published: compact, with its keys in byte order (docs/api.md).
+/// The JSON text of a reply that is no report, no records, no derived rows, no contradictions, nothing that was
+/// published and no dump: compact, with its keys in byte order (docs/api.md).
 pub fn text_of(alloc: Global, reply: &Reply) -> Result<List<u8>, NoMemory>
     requires json { reply_shown reply.now ≢ None }
     ensures { IfOk result (λ text. option_map compact_text (reply_shown reply.now) ≡ Some text) }
@@ -50,12 +51,12 @@ pub fn text_of(alloc: Global, reply: &Reply) -> Result<List<u8>, NoMemory>
         Reply::Region(sheet) => text(alloc, sheet),
         Reply::Choices(told) => text(alloc, told),
         Reply::Blocked(told) => text(alloc, told),
-        Reply::Fits(told) => text(alloc, told),
+        Reply::Fits { fits, notes } => fits_text(alloc, fits, notes.as_slice()),
         Reply::Unfit { refusal, says } => unfit_text(alloc, refusal, says),
         Reply::Refused(refusal) => text(alloc, refusal),
         Reply::Report(_) | Reply::Records(_) => unreachable!(),
         Reply::Derived(_) | Reply::Contradictions(_) => unreachable!(),
-        Reply::Body(_, _) => unreachable!(),
+        Reply::Body(_, _) | Reply::Dump(_) => unreachable!(),
     }
 }
 

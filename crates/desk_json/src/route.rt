@@ -155,4 +155,5 @@ pub enum Route {
     CheckEdition {
         name: Str,
     },
+    DeskDump,
 }

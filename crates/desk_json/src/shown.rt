@@ -71,6 +71,14 @@ impl Show for bool {
     }
 }
 
+impl Show for u8 {
+    ghost shown = { whole };
+
+    fn show(&self, out: &mut JsonText) -> Result<(), AllocError> {
+        out.number(u64::from(*self))
+    }
+}
+
 impl Show for u16 {
     ghost shown = { whole };
 
@@ -129,7 +137,7 @@ impl<T: Show> Show for List<T> {
 }
 
 /// Writes an array of what is shown of each item.
-fn show_all<T: Show>(out: &mut JsonText, items: &[T]) -> Result<(), AllocError>
+pub fn show_all<T: Show>(out: &mut JsonText, items: &[T]) -> Result<(), AllocError>
     ensures { OnOk result (out.new ≡ with_value out.old (list_of (map T.shown items.now))) }
 {
     out.begin_array()?;

@@ -1,7 +1,8 @@
-//! The words that replies and refusals have for stages, kinds, limits and readers.
+//! The words that replies and refusals have for kinds, limits and readers, and how they are shown.
 ghost use Rattle.std.specs.Prelude.{◌≡◌};
 ghost use Rattle.serde_json.specs.Data.{string};
-ghost use Rattle.desk_json.specs.Words.{kind_word, limit_word, reader_word, stage_word, verdict_word};
+ghost use Rattle.desk_words.specs.Words.{stage_word};
+ghost use Rattle.desk_json.specs.Words.{kind_word, limit_word, reader_word, verdict_word};
 
 use crate::shown::Show;
 use desk_words::{Kind, Reader, Stage, Which};
@@ -13,7 +14,7 @@ impl Show for Stage {
     ghost shown = { λ stage. string (stage_word stage) };
 
     fn show(&self, out: &mut JsonText) -> Result<(), AllocError> {
-        out.string(stage_word(*self))
+        out.string(self.word())
     }
 }
 
@@ -46,16 +47,6 @@ impl Show for Reader {
 
     fn show(&self, out: &mut JsonText) -> Result<(), AllocError> {
         out.string(reader_word(*self))
-    }
-}
-
-fn stage_word(stage: Stage) -> &'static str
-    ensures { result.now ≡ stage_word stage }
-{
-    match stage {
-        Stage::Active => "active",
-        Stage::Committed => "committed",
-        Stage::Abandoned => "abandoned",
     }
 }
 

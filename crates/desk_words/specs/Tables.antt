@@ -65,6 +65,28 @@ rows_of tables = record {
   batches = lists_of tables.batches;
 }
 
+-- a room of these items, with no places reserved after them
+abbrev pub room_of : {T : Type 0} → List T → Roomy T
+room_of items = record { items = items; spare = 0 }
+
+-- a room of rooms of the items of these lists
+abbrev pub rooms_of : {T : Type 0} → List (List T) → Roomy (Roomy T)
+rooms_of lists = room_of (map room_of lists)
+
+-- the tables of these rows, with no places reserved after them
+abbrev pub tables_of : Rows → Tables
+tables_of rows = record {
+  clerks = room_of rows.clerks;
+  schemas = room_of rows.schemas;
+  masters = room_of rows.masters;
+  rulebooks = room_of rows.rulebooks;
+  editions = room_of rows.editions;
+  regions = room_of rows.regions;
+  sessions = rooms_of rows.sessions;
+  records = rooms_of rows.records;
+  batches = rooms_of rows.batches;
+}
+
 -- the list of the clerk in this row
 abbrev pub list_at : {T : Type 0} → List (List T) → ℕ → List T
 list_at lists clerk = slice_index_or lists clerk []

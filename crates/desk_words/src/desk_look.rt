@@ -55,13 +55,15 @@ pub enum DeskLook {
     },
     /// What publishing this next would come to.
     Check(Proposal),
+    /// All rows of all tables.
+    Dump,
 }
 
 /// One call lets it go (`docs/gate.md`).
 impl Drop for DeskLook {
     fn drop(self) {
         match self {
-            DeskLook::Report | DeskLook::Published => {}
+            DeskLook::Report | DeskLook::Published | DeskLook::Dump => {}
             DeskLook::Derive {
                 edition,
                 version: _,

@@ -8,6 +8,7 @@ use crate::made::{Batched, Made};
 use crate::published::{Catalogue, EditionSheet, MasterRowSheet, RegionSheet};
 use crate::refusal::Refusal;
 use crate::report::{RecordSheet, ReportSheet, SessionPage};
+use crate::tables::Tables;
 use crate::view::View;
 use desk_base::{List, Str, Text};
 
@@ -84,13 +85,18 @@ pub enum Reply {
     /// What was published, byte for byte.
     Body(Publication, List<u8>),
     Contradictions(ContradictionSheet),
-    /// What a proposal that fits would be made to.
-    Fits(Fits),
+    /// What a proposal that fits would be made to, with a sentence for a person on each kind of likely slip in it.
+    Fits {
+        fits: Fits,
+        notes: List<Str>,
+    },
     /// Why a proposal would be refused, with a sentence for a person.
     Unfit {
         refusal: Refusal,
         says: Str,
     },
+    /// All rows of all tables, in tables without reserved places.
+    Dump(Tables),
     Refused(Refusal),
 }
 
@@ -122,11 +128,15 @@ impl Drop for Reply {
             Reply::Blocked(blocked) => drop(blocked),
             Reply::Body(_, body) => drop(body),
             Reply::Contradictions(sheet) => drop(sheet),
-            Reply::Fits(fits) => drop(fits),
+            Reply::Fits { fits, notes } => {
+                drop(fits);
+                drop(notes);
+            }
             Reply::Unfit { refusal, says } => {
                 drop(refusal);
                 drop(says);
             }
+            Reply::Dump(tables) => drop(tables),
             Reply::Refused(refusal) => drop(refusal),
         }
     }

@@ -1,6 +1,7 @@
 //! The nine tables.
 ghost use Rattle.std.specs.Prelude.{codes, ◌≡◌, [], ◌∷◌, IfOk};
 ghost use Rattle.desk_words.specs.Tables.{lists_of, rows_of, new_clerk, empty_rows};
+ghost use Rattle.desk_words.specs.Tables.{room_of, rooms_of, tables_of};
 
 use crate::rows::act::Act;
 use crate::rows::batch::BatchRow;
@@ -77,6 +78,56 @@ impl Tables {
             batches: empty_list(alloc)?,
         })
     }
+
+    /// The same rows, with no places reserved after them.
+    pub fn copy_rows(&self, alloc: Global) -> Result<Tables, NoMemory>
+        ensures { IfOk result (λ made. made ≡ tables_of (rows_of self.now)) }
+    {
+        let clerks = copy_room(alloc, self.clerks.as_slice())?;
+        let schemas = copy_room(alloc, self.schemas.as_slice())?;
+        let masters = copy_room(alloc, self.masters.as_slice())?;
+        let rulebooks = copy_room(alloc, self.rulebooks.as_slice())?;
+        let editions = copy_room(alloc, self.editions.as_slice())?;
+        let regions = copy_room(alloc, self.regions.as_slice())?;
+        let sessions = copy_rooms(alloc, &self.sessions)?;
+        let records = copy_rooms(alloc, &self.records)?;
+        Ok(Tables {
+            clerks,
+            schemas,
+            masters,
+            rulebooks,
+            editions,
+            regions,
+            sessions,
+            records,
+            batches: copy_rooms(alloc, &self.batches)?,
+        })
+    }
+}
+
+/// A room of copies of the items.
+fn copy_room<T: Duplicate + Drop>(alloc: Global, items: &[T]) -> Result<Room<T>, NoMemory>
+    ensures { IfOk result (λ made. made ≡ room_of items.now) }
+{
+    let mut made = Room::new(alloc);
+    'items: for item in items {
+        made.push(item.copy()?)?;
+    }
+    Ok(made)
+}
+
+/// A room of rooms of copies of the items.
+fn copy_rooms<T: Duplicate + Drop>(
+    alloc: Global,
+    rooms: &Room<Room<T>>,
+) -> Result<Room<Room<T>>, NoMemory>
+    ensures { IfOk result (λ made. made ≡ rooms_of (lists_of rooms.now)) }
+{
+    let mut made = Room::new(alloc);
+    'rooms: for room in rooms.as_slice() {
+        made.push(copy_room(alloc, room.as_slice())?)?;
+    }
+    Ok(made)
 }
 
 /// The row of the steward of a new desk.

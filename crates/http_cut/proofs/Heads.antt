@@ -1,6 +1,6 @@
 -- Heads in bytes that more bytes follow.
 use Rattle.std.proofs.Common.{◌≡◌, Bool, false, ℕ, ◌<◌, ◌≤◌, ◌⊎◌, true, List, [], ◌∷◌, ◌++◌, length, refl, sym, ap, ◌∙◌}
-use Rattle.std.proofs.Common.{subst, arith, append_assoc, append-nil, length-append, inl, inr}
+use Rattle.std.proofs.Common.{subst, arith, append_assoc, append-nil, length-append, inl, inr, take, drop, map}
 use Rattle.std.proofs.lemmas.List.Elements.{All-nil, All-cons, All-take}
 use Rattle.std.proofs.lemmas.Str.{IsUtf8-from_ascii}
 use Rattle.std.proofs.lemmas.Str.Ascii.{IsAscii-cons, IsAscii-nil}
@@ -11,6 +11,9 @@ use Rattle.desk_base.specs.declared.limits.TheConstants.{MAX_HEAD, MAX_FIELDS}
 use Rattle.httparse.specs.Grammar.{RequestHead, IsRequestHead, print_request, print_end, print_blank, print_section}
 use Rattle.httparse.specs.Grammar.{print_version, lf, ReadsRequest, EndsInTarget, is_token_byte, is_uri_byte, IsToken}
 use Rattle.httparse.specs.Grammar.{AllPass, LineEnd, HasNoRequest}
+use Rattle.httparse.specs.Spans.{IsRequestAt, RequestOverflows, header_bytes, name_and_value}
+use Rattle.httparse.specs.declared.spans.HeaderSpan.{HeaderSpan}
+use Rattle.httparse.specs.declared.spans.RequestSpans.{RequestSpans}
 use Rattle.httparse.proofs.GrammarLemmas.{request_unique, ReadsRequest-append, print_request-append}
 use Rattle.httparse.proofs.OpenLemmas.{letter_is_token}
 use Rattle.http_cut.specs.Head.{HasHead, HasNoHead, NeverHasHead, MayBecomeHead, AwaitsHead, IsBadHead, SaysBadLength}
@@ -200,6 +203,22 @@ no_bytes_are_not_bad (inr (head, stands, bad)) =
 -- where httparse has no head, none stands
 pub HasNoRequest-none : (bytes : List ℕ) → HasNoRequest bytes → HasNoHead bytes
 HasNoRequest-none bytes none head x = none head x.reads.0 x.reads.1
+
+-- nor where it has more fields than there is room for
+pub overflows_none : (bytes : List ℕ) → RequestOverflows 64 bytes → HasNoHead bytes
+overflows_none bytes over head x =
+    let whole = subst (λ (b : List ℕ). ReadsRequest b head x.reads.0) (sym (append-nil bytes)) x.reads.1 in
+    let many = over [] head x.reads.0 whole in
+    let few = x.few_fields in
+    omega arith
+
+-- where it has one, its fields are those of the head that stands
+pub fields_at : (bytes : List ℕ) (headers : List HeaderSpan) (spans : RequestSpans) (head other : RequestHead)
+    → IsRequestAt bytes headers spans head → HasHead bytes other
+    → map (header_bytes bytes) (take spans.headers headers) ≡ map name_and_value other.fields
+fields_at bytes headers spans head other at x =
+    at.fields ∙ ap (λ (h : RequestHead). map name_and_value h.fields)
+    (request_unique bytes head other (drop spans.len bytes) x.reads.0 at.reads x.reads.1).0
 
 -- where no head will stand, none asks for a head alone
 pub never_is_bad : (bytes : List ℕ) → NeverHasHead bytes → IsBadHead bytes × (IsTrue false ↔ AsksHead bytes)

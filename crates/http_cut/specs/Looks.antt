@@ -53,8 +53,9 @@ IsFront bytes (front.BadHead asks_head) = IsBadHead bytes × (IsTrue asks_head �
 
 -- ---- the next request
 
--- the spans of a request cover its parts
+-- the bytes begin with the head of a request, and its spans cover its parts
 pub record ShowsRequest (bytes : List ℕ) (request : Request) (head : RequestHead) : Type 0 where
+  pub stands : HasHead bytes head
   pub method_fits : IsWithin (length bytes) request.method
   pub method : span_bytes bytes request.method ≡ head.method
   pub target_fits : IsWithin (length bytes) request.target

@@ -40,7 +40,8 @@ pub fn find(bytes: &[u8], headers: &[HeaderSpan], name: &[u8]) -> Found
     found
 }
 
-fn is_named(field: &[u8], name: &[u8]) -> bool
+/// Whether a field's name is this name, in small or capital letters.
+pub fn is_named(field: &[u8], name: &[u8]) -> bool
     ensures { result ≡ str_eq_ignore_ascii_case field.now name.now }
 {
     field.eq_ignore_ascii_case(name)

@@ -37,7 +37,7 @@ pub enum Front {
 
 /// What httparse answers.
 #[derive(Clone, Copy)]
-enum Parsed {
+pub enum Parsed {
     Whole(RequestSpans),
     Unfinished,
     Never,
@@ -67,7 +67,8 @@ pub fn look(bytes: &[u8]) -> Front
     }
 }
 
-fn parse(bytes: &[u8], headers: &mut [HeaderSpan]) -> Parsed
+/// What httparse answers to these bytes. It writes where the fields of a head stand.
+pub fn parse(bytes: &[u8], headers: &mut [HeaderSpan]) -> Parsed
     requires { length headers.old ≡ 64 }
     ensures { IsParsed bytes.now headers.new result }
 {

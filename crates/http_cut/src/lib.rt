@@ -7,6 +7,7 @@
 mod digits;
 mod fields;
 mod front;
+mod head_fields;
 mod intake;
 pub mod laws;
 mod lines;
@@ -18,6 +19,8 @@ mod target;
 mod window;
 
 pub use digits::{NUMBER_DIGITS, WRITE_DIGITS, number, positive};
+pub use fields::{Found, find, is_named};
+pub use head_fields::HeadFields;
 pub use httparse::spans::Span;
 pub use intake::{Intake, IntakeFault, PIECE, next_step};
 pub use route::{ClerkRoute, DeskRoute, LookRoute, Method, NUMBERS, PATTERNS, Route, StewardRoute};

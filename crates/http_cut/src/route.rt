@@ -82,10 +82,11 @@ pub enum DeskRoute {
     CheckMaster,
     CheckRulebook,
     CheckEdition,
+    DeskDump,
 }
 
 /// The table: each pattern with what it asks for (`docs/formats.md`, *Routes*).
-pub const PATTERNS: [(&str, Route); 38] = [
+pub const PATTERNS: [(&str, Route); 39] = [
     (
         "/steward/{n}/clerks",
         Route::Steward(StewardRoute::AddClerk),
@@ -223,6 +224,7 @@ pub const PATTERNS: [(&str, Route); 38] = [
         "/desk/check/edition/{name}",
         Route::Desk(DeskRoute::CheckEdition),
     ),
+    ("/desk/dump", Route::Desk(DeskRoute::DeskDump)),
 ];
 
 /// The parameters of patterns that are numbers, each with the most digits that it has.

@@ -15,6 +15,7 @@ use Rattle.machine_core.specs.DeskLook.{desk_reply}
 use Rattle.machine_core.specs.DeskLook.Bodies.{body_of}
 use Rattle.machine_core.specs.DeskLook.Check.{check_reply, tried}
 use Rattle.machine_core.specs.DeskLook.Contradictions.{contradictions_shown}
+use Rattle.machine_core.specs.DeskLook.Dump.{dump}
 use Rattle.machine_core.specs.DeskLook.Edition.{edition_shown}
 use Rattle.machine_core.specs.DeskLook.Published.{catalogue}
 use Rattle.machine_core.specs.DeskLook.Region.{region_shown}
@@ -59,6 +60,8 @@ desk-found rows (look.Body what name version) =
 desk-found rows (look.Contradictions edition version rule) =
     told-each (contradictions_shown (published_of rows) edition version rule) reply.Contradictions
     (λ answer. DeskFound rows (look.Contradictions edition version rule) (content_of answer)) (λ sheet given. tt)
+desk-found rows look.Dump = told-each (dump rows) reply.Dump
+    (λ answer. DeskFound rows look.Dump (content_of answer)) (λ tables given. tt)
 desk-found rows (look.Check proposal) =
     told-each (tried (published_of rows) proposal) (check_reply (published_of rows) proposal)
     (λ answer. DeskFound rows (look.Check proposal) (content_of answer)) (λ result given. plainly result)

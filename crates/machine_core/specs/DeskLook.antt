@@ -6,6 +6,7 @@ pub mod Region
 pub mod Bodies
 pub mod Contradictions
 pub mod Check
+pub mod Dump
 use Rattle.std.specs.Prelude.{ℕ, List, [], flat_map, Option, Some, None}
 use Rattle.desk_words.specs.declared.desk_look.DeskLook.{DeskLook}
 use Rattle.desk_words.specs.declared.desk_look.DeskLook.TheVariants as look
@@ -18,6 +19,7 @@ use Rattle.machine_core.specs.Deriving.{derived_sheet}
 use Rattle.machine_core.specs.DeskLook.Bodies.{body_of}
 use Rattle.machine_core.specs.DeskLook.Check.{check_reply, tried}
 use Rattle.machine_core.specs.DeskLook.Contradictions.{contradictions_shown}
+use Rattle.machine_core.specs.DeskLook.Dump.{dump}
 use Rattle.machine_core.specs.DeskLook.Edition.{edition_shown}
 use Rattle.machine_core.specs.DeskLook.Published.{catalogue}
 use Rattle.machine_core.specs.DeskLook.Region.{region_shown}
@@ -44,6 +46,7 @@ desk_look_at rows (look.Contradictions edition version rule) =
     told (contradictions_shown (published_of rows) edition version rule) reply.Contradictions
 desk_look_at rows (look.Check proposal) =
     told (tried (published_of rows) proposal) (check_reply (published_of rows) proposal)
+desk_look_at rows look.Dump = told (dump rows) reply.Dump
 
 -- what is replied to a look at the desk
 abbrev pub desk_reply : Rows → DeskLook → Checked Reply
@@ -99,3 +102,4 @@ desk_named_by (look.Body publication.Rulebook name version) =
 desk_named_by (look.Contradictions edition version rule) =
     record desk_names_nothing { edition = Some (edition, version); rule = Some rule }
 desk_named_by (look.Check proposal) = desk_names_nothing
+desk_named_by look.Dump = desk_names_nothing

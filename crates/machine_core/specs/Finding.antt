@@ -44,6 +44,10 @@ edition_named editions name version = place_of (λ row. row.name) (λ row. row.v
 abbrev pub newest_edition : List EditionRow → List ℕ → Option ℕ
 newest_edition editions name = newest_of (λ row. row.name) (λ row. row.version) editions name
 
+-- the place of the newest version of a master's name
+abbrev pub newest_master : List MasterRow → List ℕ → Option ℕ
+newest_master masters name = newest_of (λ row. row.name) (λ row. row.version) masters name
+
 -- the item with this number, counted from 1
 abbrev pub numbered : {T : Type 0} → List T → ℕ → Option T
 numbered items number = if number == 0 then None else slice_get items (number - 1)

@@ -6,6 +6,7 @@ pub mod Shelves
 pub mod Codes
 pub mod Finding
 pub mod Says
+pub mod Notes
 pub mod Sessions
 pub mod Versions
 pub mod Tests

@@ -8,6 +8,7 @@ ghost use Rattle.machine_core.specs.DeskLook.Check.{schema_fits};
 ghost use Rattle.machine_core.specs.Outcomes.{Finds};
 
 use crate::faults::{read_outline, read_rulebook, read_schema};
+use crate::noting::notes;
 use crate::saying::says;
 use crate::steward::{edition_entries, edition_row, master_row, rulebook_row, schema_row};
 use crate::stop::Stop;
@@ -17,8 +18,8 @@ use desk_words::{Fits, Proposal, Reply, Tables};
 use rule_text::RuleLine;
 use std::alloc::Global;
 
-/// What a proposal would be made to, or its refusal with what is said of it, where the masters so far have so many
-/// cells.
+/// What a proposal would be made to with the notes on it, or its refusal with what is said of it, where the masters so
+/// far have so many cells.
 pub fn checked(
     alloc: Global,
     tables: &Tables,
@@ -31,7 +32,10 @@ pub fn checked(
     ensures { Finds result (checked (published_of (rows_of tables.now)) proposal.now) }
 {
     match fits_of(alloc, tables, cells, proposal) {
-        Ok(fits) => Ok(Reply::Fits(fits)),
+        Ok(fits) => {
+            let notes = notes(alloc, tables, proposal)?;
+            Ok(Reply::Fits { fits, notes })
+        }
         Err(Stop::Refused(refusal)) => {
             let says = says(alloc, tables, proposal, &refusal)?;
             Ok(Reply::Unfit { refusal, says })

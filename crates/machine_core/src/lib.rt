@@ -21,6 +21,7 @@ mod limits;
 mod machine;
 mod making;
 mod naming;
+mod noting;
 mod own;
 mod saying;
 mod sessions;

@@ -1,8 +1,9 @@
 //! What is said to a person where a proposal is refused.
-ghost use Rattle.std.specs.Prelude.{◌≡◌, find, map, option_map, IfOk};
+ghost use Rattle.std.specs.Prelude.{◌≡◌, find, map, option_map, IfOk, IfSome};
 ghost use Rattle.desk_words.specs.Tables.{published_of, rows_of};
 ghost use Rattle.desk_valid.specs.Readings.{all_of};
 ghost use Rattle.desk_valid.specs.Valid.{AreValid};
+ghost use Rattle.schema_core.specs.Schemas.{IsSchema};
 ghost use Rattle.machine_core.specs.Says.{absent_among, absent_master, absent_part, absent_rulebook, absent_schema};
 ghost use Rattle.machine_core.specs.Says.{full_editions, full_masters, is_absent, list_with, master_for, on_edition, on_master};
 ghost use Rattle.machine_core.specs.Says.{on_rulebook, on_schema, parts_for, rules_for, said_of, schema_for, stands_twice};
@@ -143,14 +144,16 @@ fn absent_schema(
 }
 
 /// The schema of a version, if it is there.
-fn schema_for(
+pub(crate) fn schema_for(
     alloc: Global,
     tables: &Tables,
     name: &Str,
     version: u32,
 ) -> Result<Option<Schema>, NoMemory>
     requires { AreValid (rows_of tables.now) }
-    ensures { IfOk result (λ found. found ≡ schema_for (published_of (rows_of tables.now)) name.now version) }
+    ensures found { IfOk result (λ found.
+        found ≡ schema_for (published_of (rows_of tables.now)) name.now version) }
+    ensures sound { IfOk result (λ found. IfSome found IsSchema) }
 {
     match place_of(tables.schemas.as_slice(), name.as_str(), version) {
         Some(place) => Ok(Some(schema_of(alloc, tables, place as u32)?)),

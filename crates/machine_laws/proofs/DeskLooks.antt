@@ -8,7 +8,7 @@ use Rattle.desk_words.specs.declared.command.Command.{Command}
 use Rattle.desk_words.specs.declared.command.Command.TheVariants.{Desk}
 use Rattle.desk_words.specs.declared.desk_look.DeskLook.{DeskLook as DeskLookOf}
 use Rattle.desk_words.specs.declared.desk_look.DeskLook.TheVariants.{Report, Derive, Published, Edition, Row, Region}
-use Rattle.desk_words.specs.declared.desk_look.DeskLook.TheVariants.{Body, Check, Contradictions}
+use Rattle.desk_words.specs.declared.desk_look.DeskLook.TheVariants.{Body, Check, Contradictions, Dump}
 use Rattle.desk_words.specs.declared.desk_look.Publication.{Publication}
 use Rattle.desk_words.specs.declared.desk_look.Publication.TheVariants as publication
 use Rattle.desk_words.specs.declared.refusal.Kind.{Kind}
@@ -18,7 +18,7 @@ use Rattle.desk_words.specs.declared.refusal.Refusal.TheVariants.{NoSuch}
 use Rattle.desk_words.specs.declared.reply.Reply.{Reply}
 use Rattle.desk_words.specs.declared.reply.Reply.TheVariants as reply
 use Rattle.desk_words.specs.declared.rows.session.SessionRow.{SessionRow}
-use Rattle.desk_words.specs.Tables.{Published as PublishedOf, Rows, published_of}
+use Rattle.desk_words.specs.Tables.{Published as PublishedOf, Rows, published_of, tables_of}
 use Rattle.desk_valid.specs.Bindings.{bound_at}
 use Rattle.desk_valid.specs.Readings.{all_of, master_at, rules_at}
 use Rattle.desk_valid.specs.Valid.{AreValid}
@@ -31,6 +31,7 @@ use Rattle.machine_core.specs.DeskLook.{desk_reply}
 use Rattle.machine_core.specs.DeskLook.Bodies.{body_at, body_of}
 use Rattle.machine_core.specs.DeskLook.Check.{check_reply, fits_of, tried}
 use Rattle.machine_core.specs.DeskLook.Contradictions.{contradictions_shown}
+use Rattle.machine_core.specs.DeskLook.Dump.{dump}
 use Rattle.machine_core.specs.DeskLook.Edition.{edition_sheet, edition_shown, makings_at, sheet_at}
 use Rattle.machine_core.specs.DeskLook.Published.{catalogue, catalogue_of}
 use Rattle.machine_core.specs.DeskLook.Region.{region_shown, row_answers}
@@ -138,6 +139,7 @@ module _ (rows : Rows) (valid : AreValid rows) where
       (λ rule named. outcome-bind (outcome-contradictions bound.kit rule) (λ all told. outcome-done _)))))
   outcome-desk (Check proposal) =
       outcome-told (check_reply (published_of rows) proposal) (outcome-tried rows valid proposal)
+  outcome-desk Dump = outcome-told reply.Dump (outcome-done (tables_of rows))
 
 -- what an edition was made of is never refused
 sheet_at-why : (P : Refusal → Type 0) (published : PublishedOf) (place : ℕ) (refusal : Refusal)
@@ -278,3 +280,6 @@ desk-why rows (Check proposal) =
     told-why (Cause rows (Desk (Check proposal))) (tried (published_of rows) proposal)
     (check_reply (published_of rows) proposal) (λ refusal gives. absurd
     (tried-not_refused (run (fits_of (published_of rows) proposal)) refusal gives))
+desk-why rows Dump =
+    let P : Refusal → Type 0 = Cause rows (Desk Dump) in
+    told-why P (dump rows) reply.Dump (done-why P (tables_of rows))

@@ -31,7 +31,7 @@ made_for (fits.Edition name version entries) = made.Edition name version
 
 -- what publishing is answered, by what its check was
 abbrev pub IsToldBy : Reply → Reply → Type 0
-IsToldBy (reply.Fits found) answer = answer ≡ reply.Made (made_for found)
+IsToldBy (reply.Fits found notes) answer = answer ≡ reply.Made (made_for found)
 IsToldBy (reply.Unfit refusal says) answer = answer ≡ reply.Refused refusal
 IsToldBy told answer = ⊥
 

@@ -103,5 +103,6 @@ fn desk_reply(
             alloc, tables, shelf, edition, *version, rule,
         )?)),
         DeskLook::Check(proposal) => checked(alloc, tables, cells, proposal),
+        DeskLook::Dump => Ok(Reply::Dump(tables.copy_rows(alloc)?)),
     }
 }

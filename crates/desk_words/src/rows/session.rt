@@ -1,4 +1,7 @@
 //! The sessions of clerks.
+ghost use Rattle.std.specs.Prelude.{◌≡◌};
+ghost use Rattle.desk_words.specs.Words.{stage_word};
+
 use desk_base::{Duplicate, List, NoMemory, Text};
 
 /// How far a session has come.
@@ -7,6 +10,19 @@ pub enum Stage {
     Active,
     Committed,
     Abandoned,
+}
+
+impl Stage {
+    /// Its word.
+    pub fn word(self) -> &'static str
+        ensures { result.now ≡ stage_word self }
+    {
+        match self {
+            Stage::Active => "active",
+            Stage::Committed => "committed",
+            Stage::Abandoned => "abandoned",
+        }
+    }
 }
 
 /// A record that a clerk keys over an edition.

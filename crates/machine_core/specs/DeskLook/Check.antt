@@ -20,6 +20,7 @@ use Rattle.schema_core.specs.Reading.{schema_of}
 use Rattle.machine_core.specs.Checked.{Checked, Outcome, ◌>>=◌, asked, awaits, certainly, done, never, nothing}
 use Rattle.machine_core.specs.Checked.{run, told, value_or}
 use Rattle.machine_core.specs.Faults.{bind_refusal, rules_refusal, schema_refusal, sheet_refusal}
+use Rattle.machine_core.specs.Notes.{notes_of}
 use Rattle.machine_core.specs.Says.{said_of}
 use Rattle.machine_core.specs.Steward.AddEdition.{edition_row}
 use Rattle.machine_core.specs.Steward.AddMaster.{master_row}
@@ -77,9 +78,9 @@ result_of (awaits question more) = do
   result_of (more answer)
 result_of nothing = never
 
--- what is replied: what the proposal would be made to, or its refusal with what is said of it
+-- what is replied: what the proposal would be made to with the notes on it, or its refusal with what is said of it
 abbrev pub check_reply : Published → Proposal → Result Fits Refusal → Reply
-check_reply rows proposal (Ok made) = reply.Fits made
+check_reply rows proposal (Ok made) = reply.Fits made (notes_of rows proposal)
 check_reply rows proposal (Err refusal) = reply.Unfit refusal (said_of rows proposal refusal)
 
 -- what a proposal would be made to, or its refusal

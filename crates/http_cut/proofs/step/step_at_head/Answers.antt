@@ -59,6 +59,7 @@ returns c =
     let whole = c.if-bytes-end.false in (
       head,
       record {
+        stands = shows.stands;
         method_fits = (shows.method_fits.0, omega (arith, shows.method_fits.1, shows.fits));
         method = shows.method;
         target_fits = (shows.target_fits.0, omega (arith, shows.target_fits.1, shows.fits));

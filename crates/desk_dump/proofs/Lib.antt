@@ -1,0 +1,4 @@
+pub mod Bodies
+pub mod Written
+pub mod Listed
+pub mod Whole
