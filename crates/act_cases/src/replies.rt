@@ -4,14 +4,15 @@ ghost use Rattle.desk_sheets.specs.Derived.{IsFull as IsWide};
 ghost use Rattle.desk_sheets.specs.Records.{IsFull};
 
 use desk_base::List;
+use desk_dump::dump_text;
 use desk_json::{JsonFault, fault_text, text_of};
 use desk_sheets::{contradictions_text, derived_text, records_text, report_text};
 use desk_words::{DerivedSheet, RecordSheet, Reply};
 use std::alloc::Global;
 use std::test::Fail;
 
-/// A word for the reply, and its JSON text; a report, records, derived rows, contradictions and what was published are
-/// their text alone.
+/// A word for the reply, and its JSON text; a report, records, derived rows, contradictions, what was published and a
+/// dump are their text alone.
 pub fn tell(text: &mut String, alloc: Global, reply: &Reply) -> Result<(), Fail> {
     match reply {
         Reply::Report(sheet) => push(text, &report_text(alloc, sheet)?),
@@ -19,6 +20,7 @@ pub fn tell(text: &mut String, alloc: Global, reply: &Reply) -> Result<(), Fail>
         Reply::Derived(sheet) => tell_derived(text, alloc, sheet),
         Reply::Body(_, body) => push(text, body),
         Reply::Contradictions(sheet) => push(text, &contradictions_text(alloc, sheet)?),
+        Reply::Dump(tables) => push(text, &dump_text(alloc, tables)?),
         _ => {
             text.push_str(word_of(reply))?;
             push(text, &text_of(alloc, reply)?)
@@ -69,8 +71,9 @@ fn word_of(reply: &Reply) -> &'static str {
         Reply::Blocked(_) => "blocked ",
         Reply::Body(_, _) => "body ",
         Reply::Contradictions(_) => "contradictions ",
-        Reply::Fits(_) => "fits ",
+        Reply::Fits { .. } => "fits ",
         Reply::Unfit { .. } => "unfit ",
+        Reply::Dump(_) => "dump ",
         Reply::Refused(_) => "refused ",
     }
 }

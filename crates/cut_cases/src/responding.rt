@@ -17,6 +17,7 @@ pub fn responded(case: &Case, answer: &mut Answer) -> Result<(), Fail> {
 /// The response of a refusal before the machine.
 pub fn refused(case: &Case, answer: &mut Answer) -> Result<(), Fail> {
     let refusal = match case.text("refusal") {
+        Some("Origin") => Refused::Origin,
         Some("NoRoute") => Refused::NoRoute,
         Some("OtherMethod") => Refused::OtherMethod,
         Some("NoLength") => Refused::NoLength,
@@ -36,6 +37,7 @@ fn status(code: Option<u64>) -> Result<Status, Fail> {
     match code {
         Some(200) => Ok(Status::Ok),
         Some(201) => Ok(Status::Created),
+        Some(403) => Ok(Status::Forbidden),
         Some(409) => Ok(Status::Conflict),
         Some(422) => Ok(Status::UnprocessableContent),
         _ => Err(Fail::new("a case has no status that is known")),
@@ -48,6 +50,10 @@ fn kind(name: Option<&str>) -> Result<ContentType, Fail> {
         Some("text") => Ok(ContentType::Text),
         Some("csv") => Ok(ContentType::Csv),
         Some("toml") => Ok(ContentType::Toml),
+        Some("html") => Ok(ContentType::Html),
+        Some("css") => Ok(ContentType::Css),
+        Some("script") => Ok(ContentType::Script),
+        Some("lines") => Ok(ContentType::Lines),
         _ => Err(Fail::new("a case has no type that is known")),
     }
 }

@@ -12,6 +12,7 @@ use Rattle.http_cut.specs.Cut.{WholeRequest}
 use Rattle.http_desk.specs.Answered.{Answered, Answers, IsAsked, IsServed, Outcome, Declines, Replied, Unavailable}
 use Rattle.http_desk.specs.Answered.{NoMemory, Served, asks_head, last_tables, requests}
 use Rattle.http_desk.specs.Commands.{command_for}
+use Rattle.http_desk.specs.Fronts.{bare}
 use Rattle.machine_laws.proofs.Accepted.{step-valid}
 use Rattle.fixdesk_run.specs.Make.{AllAnswered, AreAccepted, IsAccepted, IsMade, IsSummary, IsTold, request_count}
 use Rattle.http_desk.proofs.Numbered.{command_for-numbered}
@@ -64,7 +65,7 @@ module _ (before : Rows) (valid : AreValid before) (request : WholeRequest) (clo
 
 module _ (limit : ℕ) where
   -- what one request became, and that it left valid tables
-  first : (count : ℕ) (before : Rows) (a : Answered) → IsServed before ((count + 1) == limit) a → AreValid before
+  first : (count : ℕ) (before : Rows) (a : Answered) → IsServed bare before ((count + 1) == limit) a → AreValid before
       → Became before a.request a.tables × AreValid a.tables
   first count before a served valid = (
     became before valid a.request ((count + 1) == limit) a.tables a.text a.outcome served,
@@ -72,7 +73,7 @@ module _ (limit : ℕ) where
   )
 
   -- the turn rises by one a request at most
-  few : (count : ℕ) (before : Rows) (answers : List Answered) → Served limit count before answers → AreValid before
+  few : (count : ℕ) (before : Rows) (answers : List Answered) → Served bare limit count before answers → AreValid before
       → turn (last_tables before answers) ≤ turn before + length answers
   few count before [] served valid = omega arith
   few count before (a ∷ answers) (served, rest) valid =
@@ -84,7 +85,7 @@ module _ (limit : ℕ) where
       ]
 
   -- and where it rose by one at each, each was accepted
-  pub all_accepted : (count : ℕ) (before : Rows) (answers : List Answered) → Served limit count before answers
+  pub all_accepted : (count : ℕ) (before : Rows) (answers : List Answered) → Served bare limit count before answers
       → AreValid before → turn before + length answers ≤ turn (last_tables before answers)
       → AreAccepted before (requests answers) (last_tables before answers)
   all_accepted count before [] served valid rose = refl

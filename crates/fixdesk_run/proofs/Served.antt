@@ -5,6 +5,7 @@ use Rattle.desk_words.specs.Tables.{Rows}
 use Rattle.machine_core.specs.Starting.{AreStarted}
 use Rattle.keeper_core.specs.Keeping.{LoadsHeld, Uses}
 use Rattle.http_desk.specs.declared.serving.Ended.{Ended}
+use Rattle.http_desk.specs.Fronts.{bare}
 use Rattle.http_desk.specs.Scenes.{Scene}
 use Rattle.http_desk.specs.Streams.{IsFaultless, Streams}
 use Rattle.once_run.specs.Status.{status_code}
@@ -34,7 +35,7 @@ begun old told used rows = scene_over (record old { told = told; uses = used }) 
 -- the stream was served
 pub pipes : (holds : Rows → Type 0) (limit : ℕ) (old new : World) (told : Option Rows) (used : Uses)
     (rows after : Rows) (end : Ended) → AreStarted old.told told rows → LoadsHeld holds told rows
-    → used ≡ loaded old.uses → Streams limit (begun old told used rows) (scene_over new after) end
+    → used ≡ loaded old.uses → Streams bare limit (begun old told used rows) (scene_over new after) end
     → Pipes holds limit old new (end_status end)
 pipes holds limit old new told used rows after end started held is streams = record {
   rows = rows;
@@ -43,14 +44,14 @@ pipes holds limit old new told used rows after end started held is streams = rec
   held = λ other holding some. held other holding (streams.later.told some);
   after = after;
   end = end;
-  streams = subst (λ (u : Uses). Streams limit (begun old told u rows) (scene_over new after) end) is streams;
+  streams = subst (λ (u : Uses). Streams bare limit (begun old told u rows) (scene_over new after) end) is streams;
   told = refl;
 }
 
 -- it was served without a fault
 pub pipes_faultless : (takes : ℕ → Type 0) (limit : ℕ) (old new : World) (told : Option Rows) (used : Uses)
     (rows after : Rows) (end : Ended) → AreStarted old.told told rows → used ≡ loaded old.uses
-    → IsFaultless takes limit (begun old told used rows) (scene_over new after) end
+    → IsFaultless bare takes limit (begun old told used rows) (scene_over new after) end
     → PipesFaultless takes limit old new (status_code (end_status end))
 pipes_faultless takes limit old new told used rows after end started is faultless = record {
   rows = rows;
@@ -59,6 +60,6 @@ pipes_faultless takes limit old new told used rows after end started is faultles
   after = after;
   end = end;
   faultless =
-      subst (λ (u : Uses). IsFaultless takes limit (begun old told u rows) (scene_over new after) end) is faultless;
+      subst (λ (u : Uses). IsFaultless bare takes limit (begun old told u rows) (scene_over new after) end) is faultless;
   told = refl;
 }

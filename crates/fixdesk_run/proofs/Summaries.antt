@@ -11,6 +11,7 @@ use Rattle.http_cut.specs.Cut.{IsCut, clean}
 use Rattle.http_desk.specs.declared.serving.Ended.{Ended}
 use Rattle.http_desk.specs.declared.serving.Ended.TheVariants as ended
 use Rattle.http_desk.specs.Answered.{Served, last_tables, requests}
+use Rattle.http_desk.specs.Fronts.{bare}
 use Rattle.http_desk.specs.Scenes.{Scene}
 use Rattle.http_desk.specs.Streams.{IfShown, Streams}
 use Rattle.machine_core.specs.declared.machine.Weighed.{Weighed}
@@ -21,10 +22,10 @@ use Rattle.fixdesk_run.proofs.Reports.{sheet_given}
 
 -- a stream that was served to its clean end: all its requests were answered
 pub all_served : (limit : ℕ) (bytes : List ℕ) (before : Rows) (old new : Scene) (end : Ended)
-    → Streams limit old new end → end ≡ ended.Clean → old.left ≡ Some bytes → old.tables ≡ before
+    → Streams bare limit old new end → end ≡ ended.Clean → old.left ≡ Some bytes → old.tables ≡ before
     → AreValid old.tables → AllServed limit bytes before new.tables
 all_served limit bytes before old new end ends clean_end left is valid =
-    let streams : Streams limit old new ended.Clean = subst (λ one. Streams limit old new one) clean_end ends in
+    let streams : Streams bare limit old new ended.Clean = subst (λ one. Streams bare limit old new one) clean_end ends in
     let answers = streams.answers in
     let whole : IsCut streams.bytes (requests answers) (streams.rest ++ streams.after) clean = streams.ends.0.0 in
     let shown : bytes ≡ streams.bytes = subst (λ told. IfShown told streams.bytes) left streams.left.had in
@@ -32,7 +33,7 @@ all_served limit bytes before old new end ends clean_end left is valid =
       answers = answers;
       cut = subst (λ (all : List ℕ). IsCut all (requests answers) [] clean) (sym shown)
           (subst (λ (rest : List ℕ). IsCut streams.bytes (requests answers) rest clean) whole.ends whole);
-      served = subst (λ (rows : Rows). Served limit 0 rows answers) is streams.progress.served;
+      served = subst (λ (rows : Rows). Served bare limit 0 rows answers) is streams.progress.served;
       few = streams.ends.0.1;
       valid = subst AreValid is valid;
       leaves = subst (λ (rows : Rows). new.tables ≡ last_tables rows answers) is streams.progress.tables;

@@ -9,6 +9,7 @@ use Rattle.desk_links.specs.Doors.{Closes, HandsOut, IsFresh, LinkSeen, one_more
 use Rattle.keeper_core.specs.Keeping.{TellsNoMore, Uses}
 use Rattle.http_desk.specs.declared.serving.Ended.{Ended}
 use Rattle.http_desk.specs.Answered.{all_most_calls, all_sure_calls, failures}
+use Rattle.http_desk.specs.Fronts.{Front}
 use Rattle.http_desk.specs.Scenes.{RoseBy, RoseWithin}
 use Rattle.http_desk.proofs.Progress.{RoseBy-then, RoseWithin-then, not_raised}
 use Rattle.desk_words.specs.Tables.{Rows}
@@ -28,10 +29,10 @@ with_keeper old told used = record old { world = record old.world { told = told;
 -- ---- one more link
 
 -- it is served over the desk that the others left
-AreVisits-push : (before : Standing) (visits : List Visit) (visit : Visit) → AreVisits before visits
-    → IsVisit (last_standing before visits) visit → AreVisits before (visits ++ visit ∷ [])
-AreVisits-push before [] visit are is = (is, tt)
-AreVisits-push before (first ∷ visits) visit are is = (are.0, AreVisits-push first.after visits visit are.1 is)
+AreVisits-push : (front : Front) (before : Standing) (visits : List Visit) (visit : Visit) → AreVisits front before visits
+    → IsVisit front (last_standing before visits) visit → AreVisits front before (visits ++ visit ∷ [])
+AreVisits-push front before [] visit are is = (is, tt)
+AreVisits-push front before (first ∷ visits) visit are is = (are.0, AreVisits-push front first.after visits visit are.1 is)
 
 -- and leaves the desk
 last_standing-push : (before : Standing) (visits : List Visit) (visit : Visit)
@@ -138,9 +139,9 @@ AreClosed-push (Some closed) now new visits visit are closes =
 -- ---- all links
 
 -- none was served yet
-PassesAll-none : (desk : Standing) (door : Door) → door.accepted ≡ Some 0 → door.live ≡ 0
-    → PassesAll desk desk door door []
-PassesAll-none desk door accepted live = record {
+PassesAll-none : (front : Front) (desk : Standing) (door : Door) → door.accepted ≡ Some 0 → door.live ≡ 0
+    → PassesAll front desk desk door door []
+PassesAll-none front desk door accepted live = record {
   are = tt;
   after_is = refl;
   failed = refl;
@@ -155,26 +156,26 @@ PassesAll-none desk door accepted live = record {
 }
 
 -- and none ended early
-pub PassesCount-none : (desk : Standing) (door : Door) → door.accepted ≡ Some 0 → door.live ≡ 0
-    → PassesCount desk desk door door 0 0
-PassesCount-none desk door accepted live =
-    record { visits = []; pass = PassesAll-none desk door accepted live; all = refl; early_is = refl }
+pub PassesCount-none : (front : Front) (desk : Standing) (door : Door) → door.accepted ≡ Some 0 → door.live ≡ 0
+    → PassesCount front desk desk door door 0 0
+PassesCount-none front desk door accepted live =
+    record { visits = []; pass = PassesAll-none front desk door accepted live; all = refl; early_is = refl }
 
 -- one more was served
-PassesAll-push : (before mid after : Standing) (old now new : Door) (end : Ended) (visits : List Visit)
-    → PassesAll before mid old now visits → (one : PassesOne mid after now new end)
-    → PassesAll before after old new (visits ++ one.visit ∷ [])
-PassesAll-push before mid after old now new end visits all one =
+PassesAll-push : (front : Front) (before mid after : Standing) (old now new : Door) (end : Ended) (visits : List Visit)
+    → PassesAll front before mid old now visits → (one : PassesOne front mid after now new end)
+    → PassesAll front before after old new (visits ++ one.visit ∷ [])
+PassesAll-push front before mid after old now new end visits all one =
     let visit = one.visit in
-    let is : IsVisit (last_standing before visits) visit =
-    subst (λ (desk : Standing). IsVisit desk visit) (sym all.after_is) one.is in
+    let is : IsVisit front (last_standing before visits) visit =
+    subst (λ (desk : Standing). IsVisit front desk visit) (sym all.after_is) one.is in
     let own : RoseBy (failures visit.answers) mid.uses.faults after.uses.faults =
     rw (one.is.answers, ← one.after_is) one.is.streams.progress.failed in
     let also : RoseWithin (all_sure_calls visit.answers) (all_most_calls visit.answers) mid.uses.calls
     after.uses.calls =
     rw (one.is.answers, ← one.after_is) one.is.streams.progress.called in
     record {
-      are = AreVisits-push before visits visit all.are is;
+      are = AreVisits-push front before visits visit all.are is;
       after_is = last_standing-push before visits visit ∙ one.after_is;
       failed = rw (refusals-push visits visit)
           (RoseBy-then (refusals visits) (failures visit.answers) before.uses.faults mid.uses.faults
@@ -194,12 +195,12 @@ PassesAll-push before mid after old now new end visits all one =
     }
 
 -- and counted
-pub PassesCount-push : (before mid after : Standing) (old now new : Door) (end : Ended) (count early : ℕ)
-    → PassesCount before mid old now count early → PassesOne mid after now new end
-    → PassesCount before after old new (count + 1) (early + from_bool (is_early end))
-PassesCount-push before mid after old now new end count early all one = record {
+pub PassesCount-push : (front : Front) (before mid after : Standing) (old now new : Door) (end : Ended) (count early : ℕ)
+    → PassesCount front before mid old now count early → PassesOne front mid after now new end
+    → PassesCount front before after old new (count + 1) (early + from_bool (is_early end))
+PassesCount-push front before mid after old now new end count early all one = record {
   visits = all.visits ++ one.visit ∷ [];
-  pass = PassesAll-push before mid after old now new end all.visits all.pass one;
+  pass = PassesAll-push front before mid after old now new end all.visits all.pass one;
   all = length_push all.visits one.visit ∙ ap (λ (n : ℕ). n + 1) all.all;
   early_is = ap (λ (n : ℕ). early + n) (early_byte (is_early end))
       ∙ ap (λ (e : Ended). early + cond (is_early e) 1 0) (sym one.end_is)
@@ -210,35 +211,35 @@ PassesCount-push before mid after old now new end count early all one = record {
 -- ---- a call
 
 -- what is left where a machine began does not speak of the keeper before
-pub EndsServing-before : (plan : Plan) (begun : Standing) (old : Site) (told : Option Rows) (used : Uses) (new : Site)
-    (end : ServeEnd) → EndsServing plan begun old new end
-    → EndsServing plan begun (with_keeper old told used) new end
-EndsServing-before plan begun old told used new Done ends = ends
-EndsServing-before plan begun old told used new WriteFault ends = ends
-EndsServing-before plan begun old told used new NoMemory ends = ends
-EndsServing-before plan begun old told used new DoorFault ends = ends
+pub EndsServing-before : (front : Front) (plan : Plan) (begun : Standing) (old : Site) (told : Option Rows) (used : Uses) (new : Site)
+    (end : ServeEnd) → EndsServing front plan begun old new end
+    → EndsServing front plan begun (with_keeper old told used) new end
+EndsServing-before front plan begun old told used new Done ends = ends
+EndsServing-before front plan begun old told used new WriteFault ends = ends
+EndsServing-before front plan begun old told used new NoMemory ends = ends
+EndsServing-before front plan begun old told used new DoorFault ends = ends
 
 -- ---- what the keeper tells
 
 -- no visit has it tell what it did not tell before
-visits_no_more : (before : Standing) (visits : List Visit) → AreVisits before visits
+visits_no_more : (front : Front) (before : Standing) (visits : List Visit) → AreVisits front before visits
     → TellsNoMore before.told (last_standing before visits).told
-visits_no_more before [] are = λ some. some
-visits_no_more before (visit ∷ visits) are =
-    λ some. are.0.streams.later.told (visits_no_more visit.after visits are.1 some)
+visits_no_more front before [] are = λ some. some
+visits_no_more front before (visit ∷ visits) are =
+    λ some. are.0.streams.later.told (visits_no_more front visit.after visits are.1 some)
 
-Serves-no_more : (port : ℕ) (begun : Standing) (old : Door) (new : Site) (visits : List Visit)
-    → Serves port begun old new visits → TellsNoMore begun.told new.world.told
-Serves-no_more port begun old new visits s =
-    λ some. visits_no_more begun visits s.are (subst IsSome s.told some)
+Serves-no_more : (front : Front) (port : ℕ) (begun : Standing) (old : Door) (new : Site) (visits : List Visit)
+    → Serves front port begun old new visits → TellsNoMore begun.told new.world.told
+Serves-no_more front port begun old new visits s =
+    λ some. visits_no_more front begun visits s.are (subst IsSome s.told some)
 
 -- so what is told in the end was told when the machine began
-pub EndsServing-no_more : (plan : Plan) (begun : Standing) (old new : Site) (end : ServeEnd)
-    → EndsServing plan begun old new end → TellsNoMore begun.told new.world.told
-EndsServing-no_more plan begun old new Done ends = Serves-no_more plan.port begun old.door new ends.0 ends.1
-EndsServing-no_more plan begun old new WriteFault ends = Serves-no_more plan.port begun old.door new ends.0 ends.1
-EndsServing-no_more plan begun old new NoMemory ends = λ some. subst IsSome ends.0.told some
-EndsServing-no_more plan begun old new DoorFault ends = elim ends.0 [
+pub EndsServing-no_more : (front : Front) (plan : Plan) (begun : Standing) (old new : Site) (end : ServeEnd)
+    → EndsServing front plan begun old new end → TellsNoMore begun.told new.world.told
+EndsServing-no_more front plan begun old new Done ends = Serves-no_more front plan.port begun old.door new ends.0 ends.1
+EndsServing-no_more front plan begun old new WriteFault ends = Serves-no_more front plan.port begun old.door new ends.0 ends.1
+EndsServing-no_more front plan begun old new NoMemory ends = λ some. subst IsSome ends.0.told some
+EndsServing-no_more front plan begun old new DoorFault ends = elim ends.0 [
   | inl idle ↦ λ some. subst IsSome idle.0.told some
-  | inr served ↦ Serves-no_more plan.port begun old.door new served.0 served.1
+  | inr served ↦ Serves-no_more front plan.port begun old.door new served.0 served.1
 ]

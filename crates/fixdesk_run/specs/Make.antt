@@ -19,6 +19,7 @@ use Rattle.desk_words.specs.Tables.{Rows, empty_rows}
 use Rattle.http_cut.specs.Cut.{IsCut, WholeRequest, clean}
 use Rattle.http_desk.specs.Answered.{Answered, IsAsked, Served, last_tables, requests}
 use Rattle.http_desk.specs.Commands.{command_for}
+use Rattle.http_desk.specs.Fronts.{bare}
 use Rattle.machine_core.specs.declared.machine.Weighed.{Weighed}
 use Rattle.machine_core.specs.Checked.{Gives}
 use Rattle.machine_core.specs.Machine.{machine}
@@ -101,7 +102,7 @@ EndsMake sessions start old new Limit = ⊥
 pub record AllServed (limit : ℕ) (bytes : List ℕ) (before after : Rows) : Type 0 where
   pub answers : List Answered
   pub cut : IsCut bytes (requests answers) [] clean
-  pub served : Served limit 0 before answers
+  pub served : Served bare limit 0 before answers
   pub few : length answers < limit
   pub valid : AreValid before
   pub leaves : after ≡ last_tables before answers

@@ -5,6 +5,7 @@ use Rattle.keeper_core.specs.Keeping.{LoadsHeld}
 use Rattle.machine_core.specs.Starting.{AreStarted}
 use Rattle.http_desk.specs.declared.serving.Ended.{Ended}
 use Rattle.http_desk.specs.declared.serving.Ended.TheVariants as ended
+use Rattle.http_desk.specs.Fronts.{bare}
 use Rattle.http_desk.specs.Scenes.{Scene}
 use Rattle.http_desk.specs.Streams.{IsFaultless, Streams}
 use Rattle.once_run.specs.declared.status.Status.{Status}
@@ -43,7 +44,7 @@ pub record Pipes (holds : Rows → Type 0) (limit : ℕ) (old new : World) (stat
   pub held : LoadsHeld holds new.told rows
   pub after : Rows
   pub end : Ended
-  pub streams : Streams limit (scene_begun old begun rows) (scene_over new after) end
+  pub streams : Streams bare limit (scene_begun old begun rows) (scene_over new after) end
   pub told : status ≡ end_status end
 
 -- what is left: the stream was served, or no machine began
@@ -58,5 +59,5 @@ pub record PipesFaultless (takes : ℕ → Type 0) (limit : ℕ) (old new : Worl
   pub started : AreStarted old.told begun rows
   pub after : Rows
   pub end : Ended
-  pub faultless : IsFaultless takes limit (scene_begun old begun rows) (scene_over new after) end
+  pub faultless : IsFaultless bare takes limit (scene_begun old begun rows) (scene_over new after) end
   pub told : code ≡ status_code (end_status end)

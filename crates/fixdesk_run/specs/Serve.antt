@@ -5,6 +5,7 @@ use Rattle.json_parts.specs.Shapes.{line}
 use Rattle.desk_words.specs.Tables.{Rows}
 use Rattle.keeper_core.specs.Keeping.{IfTold, LoadsHeld}
 use Rattle.machine_core.specs.Starting.{AreStarted}
+use Rattle.http_desk.specs.Fronts.{Front, bare}
 use Rattle.http_desk.specs.Scenes.{RoseBy, RoseWithin}
 use Rattle.once_run.specs.declared.status.Status.{Status}
 use Rattle.once_run.specs.Status.{status_code}
@@ -30,9 +31,9 @@ served_line count early = line (codes "served " ++ decimal count ++ codes " earl
 
 -- ---- where a machine began
 
--- these links were served over the desk that began, and the keeper tells the tables that are left after the last
-pub record Serves (port : ℕ) (begun : Standing) (old : Door) (new : Site) (visits : List Visit) : Type 0 where
-  pub are : AreVisits begun visits
+-- these links were served over a front and the desk that began, and the keeper tells the tables that are left after the last
+pub record Serves (front : Front) (port : ℕ) (begun : Standing) (old : Door) (new : Site) (visits : List Visit) : Type 0 where
+  pub are : AreVisits front begun visits
   pub told : new.world.told ≡ (last_standing begun visits).told
   pub uses : new.world.uses ≡ (last_standing begun visits).uses
   pub kept : IfTold new.world.told (last_standing begun visits).tables
@@ -47,17 +48,17 @@ pub record IsIdle (begun : Standing) (new : Site) : Type 0 where
 
 -- what is left, by how it ended: all links were served, and the line was written, or a part of it where the output
 -- failed; there was no memory, before the door was bound; or the door failed, as it was bound or before the last link
-abbrev pub EndsServing : Plan → Standing → Site → Site → ServeEnd → Type 0
-EndsServing plan begun old new Done = (visits : List Visit) × Serves plan.port begun old.door new visits
+abbrev pub EndsServing : Front → Plan → Standing → Site → Site → ServeEnd → Type 0
+EndsServing front plan begun old new Done = (visits : List Visit) × Serves front plan.port begun old.door new visits
     × (length visits ≡ plan.count)
     × Says (served_line plan.count (early_count visits)) old.world.link new.world.link
-EndsServing plan begun old new WriteFault = (visits : List Visit) × Serves plan.port begun old.door new visits
+EndsServing front plan begun old new WriteFault = (visits : List Visit) × Serves front plan.port begun old.door new visits
     × (length visits ≡ plan.count)
     × SaysPart (served_line plan.count (early_count visits)) old.world.link new.world.link
-EndsServing plan begun old new NoMemory =
+EndsServing front plan begun old new NoMemory =
     IsIdle begun new × (new.door ≡ old.door) × IsSilent old.world.link new.world.link
-EndsServing plan begun old new DoorFault = ((IsIdle begun new × IsUnchanged old.door new.door)
-    ⊎ ((visits : List Visit) × Serves plan.port begun old.door new visits × (length visits < plan.count)))
+EndsServing front plan begun old new DoorFault = ((IsIdle begun new × IsUnchanged old.door new.door)
+    ⊎ ((visits : List Visit) × Serves front plan.port begun old.door new visits × (length visits < plan.count)))
     × IsSilent old.world.link new.world.link × Rose old.door.faults new.door.faults
 
 -- the exit status of each
@@ -92,7 +93,7 @@ pub record ServesOver (holds : Rows → Type 0) (plan : Plan) (old new : Site) (
   pub called_once : begun.uses ≡ loaded old.world.uses
   pub end : ServeEnd
   pub told : code ≡ end_code end
-  pub ends : EndsServing plan begun old new end
+  pub ends : EndsServing bare plan begun old new end
 
 -- what is left by a plan, or by words that are none, with this exit status, over a keeper that held such tables
 abbrev pub EndsServe : (Rows → Type 0) → Option Plan → Site → Site → ℕ → Type 0

@@ -5,6 +5,7 @@ use Rattle.desk_links.specs.Doors.{Closes, HandsOut, LinkSeen, one_more}
 use Rattle.desk_words.specs.Tables.{Rows}
 use Rattle.keeper_core.specs.Keeping.{uses}
 use Rattle.http_desk.specs.declared.serving.Ended.{Ended}
+use Rattle.http_desk.specs.Fronts.{Front}
 use Rattle.http_desk.specs.Scenes.{RoseBy, RoseWithin}
 use Rattle.fixdesk_run.specs.Link.{link_with}
 use Rattle.fixdesk_run.specs.Standing.{Standing}
@@ -70,37 +71,37 @@ pub record IsPassed (port : Option ℕ) (old new : Door) (visits : List Visit) :
   pub waiting : AreHandedOut old.waiting new.waiting visits
   pub closed : AreClosed old.closed new.closed visits
 
--- the next link was handed out, served over the desk before, and closed
-pub record PassesOne (before after : Standing) (old new : Door) (end : Ended) : Type 0 where
+-- the next link was handed out, served over a front and the desk before, and closed
+pub record PassesOne (front : Front) (before after : Standing) (old new : Door) (end : Ended) : Type 0 where
   pub visit : Visit
   pub end_is : visit.end ≡ end
   pub after_is : visit.after ≡ after
-  pub is : IsVisit before visit
+  pub is : IsVisit front before visit
   pub port : new.port ≡ old.port
   pub accepted : new.accepted ≡ one_more old.accepted
   pub live : new.live ≡ 0
   pub waiting : HandsOut old.waiting new.waiting visit.opened
   pub closed : Closes old.closed new.closed visit.closed
 
--- these links were handed out, served one after another over the desk before, and closed
-pub record PassesAll (before after : Standing) (old new : Door) (visits : List Visit) : Type 0 where
-  pub are : AreVisits before visits
+-- these links were handed out, served one after another over a front and the desk before, and closed
+pub record PassesAll (front : Front) (before after : Standing) (old new : Door) (visits : List Visit) : Type 0 where
+  pub are : AreVisits front before visits
   pub after_is : last_standing before visits ≡ after
   pub failed : RoseBy (refusals visits) before.uses.faults after.uses.faults
   pub called : RoseWithin (sure_visits visits) (most_visits visits) before.uses.calls after.uses.calls
   pub door : IsPassed old.port old new visits
 
 -- so many links were, and so many of them ended early
-pub record PassesCount (before after : Standing) (old new : Door) (count early : ℕ) : Type 0 where
+pub record PassesCount (front : Front) (before after : Standing) (old new : Door) (count early : ℕ) : Type 0 where
   pub visits : List Visit
-  pub pass : PassesAll before after old new visits
+  pub pass : PassesAll front before after old new visits
   pub all : length visits ≡ count
   pub early_is : early ≡ early_count visits
 
 -- fewer links were, and the door failed
-pub record PassesFewer (before after : Standing) (old new : Door) (count : ℕ) : Type 0 where
+pub record PassesFewer (front : Front) (before after : Standing) (old new : Door) (count : ℕ) : Type 0 where
   pub visits : List Visit
-  pub pass : PassesAll before after old new visits
+  pub pass : PassesAll front before after old new visits
   pub few : length visits < count
   pub failed : Rose old.faults new.faults
 

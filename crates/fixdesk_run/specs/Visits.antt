@@ -6,6 +6,7 @@ use Rattle.http_desk.specs.declared.serving.Ended.{Ended}
 use Rattle.http_desk.specs.declared.serving.Ended.TheVariants.{Clean, Limit, BadHead, Chunked, BodyLong, Truncated}
 use Rattle.http_desk.specs.declared.serving.Ended.TheVariants.{ReadFault, WriteFault, NoMemory}
 use Rattle.http_desk.specs.Answered.{Answered, all_most_calls, all_sure_calls, failures}
+use Rattle.http_desk.specs.Fronts.{Front}
 use Rattle.http_desk.specs.Streams.{Streams}
 use Rattle.fixdesk_run.specs.Standing.{Standing, scene_at}
 
@@ -20,10 +21,10 @@ pub record Visit : Type 0 where
   pub answers : List Answered
   pub after : Standing
 
--- over this desk its stream was served, with at most one request
-pub record IsVisit (before : Standing) (visit : Visit) : Type 0 where
+-- over a front and this desk its stream was served, with at most one request
+pub record IsVisit (front : Front) (before : Standing) (visit : Visit) : Type 0 where
   pub fresh : IsFresh visit.opened
-  pub streams : Streams 1 (scene_at visit.opened before) (scene_at visit.closed visit.after) visit.end
+  pub streams : Streams front 1 (scene_at visit.opened before) (scene_at visit.closed visit.after) visit.end
   pub answers : visit.answers ≡ streams.answers
 
 -- the stream ended otherwise than after its request, or at once
@@ -40,10 +41,10 @@ is_early NoMemory = true
 
 -- ---- many links
 
--- the links were served, each over the desk that the one before it left, the first one over this
-abbrev pub AreVisits : Standing → List Visit → Type 0
-AreVisits before [] = ⊤
-AreVisits before (visit ∷ visits) = IsVisit before visit × AreVisits visit.after visits
+-- the links were served over a front, each over the desk that the one before it left, the first one over this
+abbrev pub AreVisits : Front → Standing → List Visit → Type 0
+AreVisits front before [] = ⊤
+AreVisits front before (visit ∷ visits) = IsVisit front before visit × AreVisits front visit.after visits
 
 -- the desk after the last of them
 abbrev pub last_standing : Standing → List Visit → Standing

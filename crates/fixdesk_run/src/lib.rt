@@ -21,6 +21,6 @@ mod top;
 mod visits;
 
 pub use desk_made::made;
-pub use once_run::{Status, tell};
+pub use once_run::{Said, Status, tell, tell_said};
 pub use serving::serve;
 pub use top::run;

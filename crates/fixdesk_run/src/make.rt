@@ -17,7 +17,7 @@ use desk_links::DropSink;
 use desk_made::made;
 use desk_words::{Command, DeskLook, Reply, ReportLine, ReportSheet, Tables};
 use http_cut::PIECE;
-use http_desk::{Ended, serve_stream};
+use http_desk::{Ended, Front, serve_stream};
 use keeper_core::MemKeeper;
 use machine_core::{Machine, Weighed};
 use once_run::Status;
@@ -94,7 +94,7 @@ fn serve_over<M: Machine + Drop>(
         AllServed limit link.old.source.left keeper.old.rows (M.rows machine)) }
 {
     let mut machine = begin::<M>(alloc, keeper)?;
-    match serve_stream(alloc, &mut machine, keeper, link, limit) {
+    match serve_stream(alloc, &Front::bare(), &mut machine, keeper, link, limit) {
         Ended::Clean => Ok(machine),
         _ => Err(NoMemory),
     }

@@ -8,7 +8,7 @@ ghost use Rattle.fixdesk_run.specs.declared.task.Task.TheVariants.{Pipe};
 
 use crate::opening::stay_shut;
 use desk_base::{Both, Sink, Source};
-use http_desk::{Ended, serve_stream};
+use http_desk::{Ended, Front, serve_stream};
 use keeper_core::Keeper;
 use machine_core::Machine;
 use once_run::Status;
@@ -33,7 +33,14 @@ pub fn pipe<M: Machine + Drop, K: Keeper, S: Source, W: Sink>(
         (world link.new keeper.new) (status_code result) }
 {
     match M::start(alloc, keeper) {
-        Ok(mut machine) => end_status(serve_stream(alloc, &mut machine, keeper, link, limit)),
+        Ok(mut machine) => end_status(serve_stream(
+            alloc,
+            &Front::bare(),
+            &mut machine,
+            keeper,
+            link,
+            limit,
+        )),
         Err(fail) => stay_shut(alloc, fail, &mut link.sink),
     }
 }

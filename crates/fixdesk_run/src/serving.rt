@@ -16,6 +16,7 @@ use crate::visits::serve_links;
 use desk_base::{Failed, NoMemory, Sink, write_all};
 use desk_links::Listener;
 use http_cut::Intake;
+use http_desk::Front;
 use keeper_core::Keeper;
 use machine_core::Machine;
 use once_run::Status;
@@ -84,15 +85,24 @@ pub fn serve<M: Machine + Drop, K: Keeper, L: Listener, W: Sink>(
         return tell_usage(out).code();
     };
     match M::start(alloc, keeper) {
-        Ok(mut machine) => serve_plan(alloc, plan, &mut machine, keeper, door, out).code(),
+        Ok(mut machine) => serve_plan(
+            alloc,
+            &Front::bare(),
+            plan,
+            &mut machine,
+            keeper,
+            door,
+            out,
+        ).code(),
         Err(fail) => stay_shut(alloc, fail, out).code(),
     }
 }
 
-/// Serves the links of a plan over a machine that began, with one intake for all of them, and writes the line that
+/// Serves the links of a plan over a front and a machine that began, with one intake for all of them, and writes the line that
 /// counts them.
 fn serve_plan<M: Machine + Drop, K: Keeper, L: Listener, W: Sink>(
     alloc: Global,
+    front: &Front<'_>,
     plan: Plan,
     machine: &mut M,
     keeper: &mut K,
@@ -104,7 +114,7 @@ fn serve_plan<M: Machine + Drop, K: Keeper, L: Listener, W: Sink>(
     requires told { IfTold (K.tables keeper.old) (M.rows machine.old) }
     ensures ends { let site = site W.written W.write_faults K.tables K.calls K.faults L.door_faults L.port L.accepted
         L.live L.waiting L.closed in
-        EndsServing plan (standing M.rows K.tables K.calls K.faults machine.old keeper.old) (site out.old keeper.old
+        EndsServing front.now plan (standing M.rows K.tables K.calls K.faults machine.old keeper.old) (site out.old keeper.old
         door.old)
         (site out.new keeper.new door.new) result }
     ensures later { let site = site W.written W.write_faults K.tables K.calls K.faults L.door_faults L.port
@@ -118,7 +128,7 @@ fn serve_plan<M: Machine + Drop, K: Keeper, L: Listener, W: Sink>(
         Ok(intake) => intake,
         Err(NoMemory) => return ServeEnd::NoMemory,
     };
-    let end = serve_all(alloc, plan, &mut intake, machine, keeper, door, out);
+    let end = serve_all(alloc, front, plan, &mut intake, machine, keeper, door, out);
     drop(intake);
     end
 }
@@ -126,6 +136,7 @@ fn serve_plan<M: Machine + Drop, K: Keeper, L: Listener, W: Sink>(
 /// The same with this intake.
 fn serve_all<M: Machine + Drop, K: Keeper, L: Listener, W: Sink>(
     alloc: Global,
+    front: &Front<'_>,
     plan: Plan,
     intake: &mut Intake,
     machine: &mut M,
@@ -138,7 +149,7 @@ fn serve_all<M: Machine + Drop, K: Keeper, L: Listener, W: Sink>(
     requires told { IfTold (K.tables keeper.old) (M.rows machine.old) }
     ensures ends { let site = site W.written W.write_faults K.tables K.calls K.faults L.door_faults L.port L.accepted
         L.live L.waiting L.closed in
-        EndsServing plan (standing M.rows K.tables K.calls K.faults machine.old keeper.old) (site out.old keeper.old
+        EndsServing front.now plan (standing M.rows K.tables K.calls K.faults machine.old keeper.old) (site out.old keeper.old
         door.old)
         (site out.new keeper.new door.new) result }
     ensures later { let site = site W.written W.write_faults K.tables K.calls K.faults L.door_faults L.port
@@ -155,7 +166,9 @@ fn serve_all<M: Machine + Drop, K: Keeper, L: Listener, W: Sink>(
     if let Err(Failed) = door.bind(plan.port) {
         return ServeEnd::DoorFault;
     }
-    let early = match serve_links::<M, K, L>(alloc, plan.count, intake, machine, keeper, door) {
+    let early = match serve_links::<M, K, L>(
+        alloc, front, plan.count, intake, machine, keeper, door,
+    ) {
         Ok(early) => early,
         Err(Failed) => return ServeEnd::DoorFault,
     };

@@ -14,7 +14,7 @@ use crate::task::{Task, task_of};
 use desk_base::{Both, Failed, Sink, Source, write_all};
 use keeper_core::Keeper;
 use machine_core::Machine;
-use once_run::{Status, once};
+use once_run::{Said, Status, once};
 use std::alloc::Global;
 
 /// The line that answers words which are no command.
@@ -31,12 +31,13 @@ const USAGE: &[u8] = b"usage: fixdesk once | pipe [--limit N] | report | make N 
 /// sessions, over an empty desk in memory, and writes how these sessions stand, with status 0; it touches neither the
 /// keeper nor what the link has left. All other words are answered with the usage line, with status 1. A link that
 /// fails gives 2 or 3, a keeper that fails at the beginning 4, want of memory 5, and damaged tables a line that names
-/// the first damaged row, with status 6.
+/// the first damaged row, with status 6. What else is to be said of the end is left in `said`.
 pub fn run<M: Machine + Drop, K: Keeper, S: Source, W: Sink>(
     alloc: Global,
     words: &[String],
     keeper: &mut K,
     link: &mut Both<S, W>,
+    said: &mut Said,
 ) -> u8
     ensures leaves { let world = world S.left S.read_faults W.written W.write_faults K.tables K.calls K.faults in
         Leaves (K.holds keeper.old) (map string_bytes words.now) (world link.old keeper.old)
@@ -47,7 +48,7 @@ pub fn run<M: Machine + Drop, K: Keeper, S: Source, W: Sink>(
         → TakesText (W.takes link.old.sink) task (world link.old keeper.old)
         → IsFaultless (W.takes link.old.sink) task (world link.old keeper.old) (world link.new keeper.new) result }
 {
-    perform::<M, K, S, W>(alloc, task_of(words), keeper, link).code()
+    perform::<M, K, S, W>(alloc, task_of(words), keeper, link, said).code()
 }
 
 /// Performs a task, or tells the usage where there is none.
@@ -56,6 +57,7 @@ fn perform<M: Machine + Drop, K: Keeper, S: Source, W: Sink>(
     task: Option<Task>,
     keeper: &mut K,
     link: &mut Both<S, W>,
+    said: &mut Said,
 ) -> Status
     requires { IsLimited task }
     ensures ended { let world = world S.left S.read_faults W.written W.write_faults K.tables K.calls K.faults in
@@ -69,7 +71,7 @@ fn perform<M: Machine + Drop, K: Keeper, S: Source, W: Sink>(
         (status_code result) }
 {
     match task {
-        Some(Task::Once) => once(alloc, link),
+        Some(Task::Once) => once(alloc, link, said),
         Some(Task::Pipe(limit)) => pipe::<M, K, S, W>(alloc, limit, keeper, link),
         Some(Task::Report) => report::<M, K, S, W>(alloc, keeper, link),
         Some(Task::Make { sessions, start }) => make::<M, S, W>(alloc, sessions, start, link),

@@ -10,15 +10,16 @@ ghost use Rattle.fixdesk_run.specs.Visits.{is_early};
 use desk_base::Failed;
 use desk_links::Listener;
 use http_cut::Intake;
-use http_desk::{Ended, serve_link};
+use http_desk::{Ended, Front, serve_link};
 use keeper_core::Keeper;
 use machine_core::Machine;
 use std::alloc::Global;
 
-/// Serves so many links of a door that was bound, one after another, with one intake for all of them, and answers how
+/// Serves so many links of a door that was bound, over a front, one after another, with one intake for all of them, and answers how
 /// many of them ended early.
 pub fn serve_links<M: Machine + Drop, K: Keeper, L: Listener>(
     alloc: Global,
+    front: &Front<'_>,
     count: u32,
     intake: &mut Intake,
     machine: &mut M,
@@ -31,11 +32,11 @@ pub fn serve_links<M: Machine + Drop, K: Keeper, L: Listener>(
     requires told { IfTold (K.tables keeper.old) (M.rows machine.old) }
     ensures passed { let desk = standing M.rows K.tables K.calls K.faults in
         let seen = door_seen L.door_faults L.port L.accepted L.live L.waiting L.closed in
-        IfOk result (PassesCount (desk machine.old keeper.old) (desk machine.new keeper.new) (seen door.old)
+        IfOk result (PassesCount front.now (desk machine.old keeper.old) (desk machine.new keeper.new) (seen door.old)
         (seen door.new) count) }
     ensures refused { let desk = standing M.rows K.tables K.calls K.faults in
         let seen = door_seen L.door_faults L.port L.accepted L.live L.waiting L.closed in
-        OnErr result (PassesFewer (desk machine.old keeper.old) (desk machine.new keeper.new) (seen door.old)
+        OnErr result (PassesFewer front.now (desk machine.old keeper.old) (desk machine.new keeper.new) (seen door.old)
         (seen door.new) count) }
     ensures told { IfTold (K.tables keeper.new) (M.rows machine.new) }
     ensures later { L.door_faults door.old ≤ L.door_faults door.new }
@@ -45,16 +46,17 @@ pub fn serve_links<M: Machine + Drop, K: Keeper, L: Listener>(
     let mut served: u32 = 0;
     let mut early: u32 = 0;
     'links: while served < count {
-        let end = serve_next::<M, K, L>(alloc, intake, machine, keeper, door)?;
+        let end = serve_next::<M, K, L>(alloc, front, intake, machine, keeper, door)?;
         early += u32::from(is_early(end));
         served += 1;
     }
     Ok(early)
 }
 
-/// Serves the next link of a door, with at most one request, and closes it. Answers how its stream ended.
+/// Serves the next link of a door over a front, with at most one request, and closes it. Answers how its stream ended.
 fn serve_next<M: Machine + Drop, K: Keeper, L: Listener>(
     alloc: Global,
+    front: &Front<'_>,
     intake: &mut Intake,
     machine: &mut M,
     keeper: &mut K,
@@ -65,7 +67,7 @@ fn serve_next<M: Machine + Drop, K: Keeper, L: Listener>(
     requires told { IfTold (K.tables keeper.old) (M.rows machine.old) }
     ensures passed { let desk = standing M.rows K.tables K.calls K.faults in
         let seen = door_seen L.door_faults L.port L.accepted L.live L.waiting L.closed in
-        IfOk result (PassesOne (desk machine.old keeper.old) (desk machine.new keeper.new) (seen door.old)
+        IfOk result (PassesOne front.now (desk machine.old keeper.old) (desk machine.new keeper.new) (seen door.old)
         (seen door.new)) }
     ensures refused { let desk = standing M.rows K.tables K.calls K.faults in
         let seen = door_seen L.door_faults L.port L.accepted L.live L.waiting L.closed in
@@ -76,7 +78,7 @@ fn serve_next<M: Machine + Drop, K: Keeper, L: Listener>(
     ensures offers { (count : ℕ) → L.offers door.old (count + 1) → IsOk result × L.offers door.new count }
 {
     let mut link = door.accept()?;
-    let end = serve_link(alloc, intake, machine, keeper, &mut link, 1);
+    let end = serve_link(alloc, front, intake, machine, keeper, &mut link, 1);
     door.close(link);
     Ok(end)
 }

@@ -19,7 +19,7 @@ use Rattle.http_desk.specs.declared.serving.Ended.TheVariants as ended
 use Rattle.http_desk.specs.Answered.{Answered, Outcome, Declines, Replied, Unavailable, NoMemory, Answers, IsAsked}
 use Rattle.http_desk.specs.Answered.{Served, IsDue, AreDue, asks_head, requests}
 use Rattle.http_desk.specs.Checked.{Checked}
-use Rattle.http_desk.specs.Commands.{command_for}
+use Rattle.http_desk.specs.Fronts.{Front, command_over}
 use Rattle.http_desk.specs.Replies.{declined_text, reply_text}
 use Rattle.http_desk.specs.Scenes.{Scene}
 use Rattle.http_desk.specs.Streams.{Streams, IsOwnEnd, AnswersAll, bad_end}
@@ -81,24 +81,24 @@ Answers-one before asks closing asks_head (Replied reply changes) Unavailable af
 Answers-one before asks closing asks_head (Replied reply changes) NoMemory after then text words m n h k = absurd n
 
 -- and so are requests one after another
-Served-one : (limit count : ℕ) (before : Rows) (answers others : List Answered) → requests answers ≡ requests others
-    → AreDue answers → AreDue others → Served limit count before answers → Served limit count before others
+Served-one : (front : Front) (limit count : ℕ) (before : Rows) (answers others : List Answered) → requests answers ≡ requests others
+    → AreDue answers → AreDue others → Served front limit count before answers → Served front limit count before others
     → answers ≡ others
-Served-one limit count before [] [] same m n h k = refl
-Served-one limit count before [] (b ∷ others) same m n h k = absurd (cc)
-Served-one limit count before (a ∷ answers) [] same m n h k = absurd (cc)
-Served-one limit count before (a ∷ answers) (b ∷ others) same m n h k =
+Served-one front limit count before [] [] same m n h k = refl
+Served-one front limit count before [] (b ∷ others) same m n h k = absurd (cc)
+Served-one front limit count before (a ∷ answers) [] same m n h k = absurd (cc)
+Served-one front limit count before (a ∷ answers) (b ∷ others) same m n h k =
     let first : a.request ≡ b.request = cc in
     let tail : requests answers ≡ requests others = cc in
     let closing : Bool = (count + 1) == limit in
-    let moved = subst (λ (r : WholeRequest). Answers before (command_for r) closing (asks_head r) b.outcome b.tables
+    let moved = subst (λ (r : WholeRequest). Answers before (command_over front r) closing (asks_head r) b.outcome b.tables
     b.text)
     (sym first) k.0 in
-    let (outcomes, tables, words) = Answers-one before (command_for a.request) closing (asks_head a.request) a.outcome
+    let (outcomes, tables, words) = Answers-one before (command_over front a.request) closing (asks_head a.request) a.outcome
     b.outcome a.tables b.tables a.text b.text m.0 n.0 h.0 moved in
     let head : a ≡ b = λ i. record { request = first i; outcome = outcomes i; tables = tables i; text = words i } in
-    let others_are = Served-one limit (count + 1) a.tables answers others tail m.1 n.1 h.1
-    (subst (λ (t : Rows). Served limit (count + 1) t others) (sym tables) k.1) in
+    let others_are = Served-one front limit (count + 1) a.tables answers others tail m.1 n.1 h.1
+    (subst (λ (t : Rows). Served front limit (count + 1) t others) (sym tables) k.1) in
     ap (λ (x : Answered). x ∷ answers) head ∙ ap (λ (l : List Answered). b ∷ l) others_are
 
 -- ---- ends
@@ -133,27 +133,27 @@ ended_of-cut_end ended.WriteFault own other = absurd own
 ended_of-cut_end ended.NoMemory own other = absurd own
 
 -- an end of its own is the limit, or that of all bytes
-abbrev Whole : (limit : ℕ) (old new : Scene) (end : Ended) → Streams limit old new end → Type 0
-Whole limit old new end s =
+abbrev Whole : (front : Front) (limit : ℕ) (old new : Scene) (end : Ended) → Streams front limit old new end → Type 0
+Whole front limit old new end s =
     ((end ≡ ended.Limit) × (length s.answers ≡ limit))
     ⊎ ((¬ (end ≡ ended.Limit)) × AnswersAll limit old new s.bytes s.taken s.answers s.rest s.after (cut_end end))
 
-whole : (limit : ℕ) (old new : Scene) (end : Ended) (s : Streams limit old new end) → IsOwnEnd end
-    → Whole limit old new end s
-whole limit old new ended.Clean s own = inr ((λ e. cc), s.ends.0)
-whole limit old new ended.Limit s own = inl (refl, s.ends.0)
-whole limit old new ended.BadHead s own = let ((all, few), text) = s.ends in inr ((λ e. cc), all)
-whole limit old new ended.Chunked s own = let ((all, few), text) = s.ends in inr ((λ e. cc), all)
-whole limit old new ended.BodyLong s own = let ((all, few), text) = s.ends in inr ((λ e. cc), all)
-whole limit old new (ended.Truncated count) s own = inr ((λ e. cc), s.ends.0)
-whole limit old new ended.ReadFault s own = absurd own
-whole limit old new ended.WriteFault s own = absurd own
-whole limit old new ended.NoMemory s own = absurd own
+whole : (front : Front) (limit : ℕ) (old new : Scene) (end : Ended) (s : Streams front limit old new end) → IsOwnEnd end
+    → Whole front limit old new end s
+whole front limit old new ended.Clean s own = inr ((λ e. cc), s.ends.0)
+whole front limit old new ended.Limit s own = inl (refl, s.ends.0)
+whole front limit old new ended.BadHead s own = let ((all, few), text) = s.ends in inr ((λ e. cc), all)
+whole front limit old new ended.Chunked s own = let ((all, few), text) = s.ends in inr ((λ e. cc), all)
+whole front limit old new ended.BodyLong s own = let ((all, few), text) = s.ends in inr ((λ e. cc), all)
+whole front limit old new (ended.Truncated count) s own = inr ((λ e. cc), s.ends.0)
+whole front limit old new ended.ReadFault s own = absurd own
+whole front limit old new ended.WriteFault s own = absurd own
+whole front limit old new ended.NoMemory s own = absurd own
 
 -- the requests stand at the front of all bytes
-front : (limit : ℕ) (old new : Scene) (end : Ended) (s : Streams limit old new end)
+at_front : (front : Front) (limit : ℕ) (old new : Scene) (end : Ended) (s : Streams front limit old new end)
     → Begins s.bytes (requests s.answers) (s.rest ++ s.after)
-front limit old new end s =
+at_front front limit old new end s =
     rw s.left.split (Begins-more s.taken (requests s.answers) s.rest s.after s.progress.begins)
 
 -- who stops at the limit has answered requests that who goes on answers too
@@ -169,32 +169,32 @@ not_both limit bytes few many rest last end size begins cut below =
     omega arith
 
 -- the requests and the end are those of the bytes and the limit
-same_requests : (limit : ℕ) (old new early late : Scene) (end other : Ended) (one : Streams limit old new end)
-    (two : Streams limit early late other) → IsOwnEnd end → IsOwnEnd other → one.bytes ≡ two.bytes
+same_requests : (front : Front) (limit : ℕ) (old new early late : Scene) (end other : Ended) (one : Streams front limit old new end)
+    (two : Streams front limit early late other) → IsOwnEnd end → IsOwnEnd other → one.bytes ≡ two.bytes
     → (requests one.answers ≡ requests two.answers) × (end ≡ other)
-same_requests limit old new early late end other one two own its same =
+same_requests front limit old new early late end other one two own its same =
     let following : List ℕ = one.rest ++ one.after in
     let following_too : List ℕ = two.rest ++ two.after in
     let begins : Begins one.bytes (requests two.answers) following_too =
     subst (λ (b : List ℕ). Begins b (requests two.answers) following_too) (sym same)
-    (front limit early late other two) in
+    (at_front front limit early late other two) in
     let begins_too : Begins two.bytes (requests one.answers) following =
-    subst (λ (b : List ℕ). Begins b (requests one.answers) following) same (front limit old new end one) in
-    elim (whole limit old new end one own) [
-      | inl reached ↦ elim (whole limit early late other two its) [
+    subst (λ (b : List ℕ). Begins b (requests one.answers) following) same (at_front front limit old new end one) in
+    elim (whole front limit old new end one own) [
+      | inl reached ↦ elim (whole front limit early late other two its) [
         | inl too ↦
             let sizes : length (requests one.answers) ≡ length (requests two.answers) =
             length-map one.answers (λ a. a.request) ∙ reached.1 ∙ sym too.1
             ∙ sym (length-map two.answers (λ a. a.request)) in (
               Begins-one one.bytes (requests one.answers) (requests two.answers) following following_too sizes
-                  (front limit old new end one) begins,
+                  (at_front front limit old new end one) begins,
               reached.0 ∙ sym too.0,
             )
         | inr (other_end, (cut, few)) ↦
             absurd (not_both limit two.bytes one.answers two.answers following following_too (cut_end other) reached.1
             begins_too cut few)
       ]
-      | inr (other_end, (cut, few)) ↦ elim (whole limit early late other two its) [
+      | inr (other_end, (cut, few)) ↦ elim (whole front limit early late other two its) [
         | inl reached ↦
             absurd (not_both limit one.bytes two.answers one.answers following_too following
             (cut_end end) reached.1 begins
@@ -211,13 +211,13 @@ same_requests limit old new early late end other one two own its same =
     ]
 
 -- and so are the answers, where none is for a failure of the keeper or want of memory
-pub alike : (limit : ℕ) (old new early late : Scene) (end other : Ended) (one : Streams limit old new end)
-    (two : Streams limit early late other) → IsOwnEnd end → IsOwnEnd other → one.bytes ≡ two.bytes
+pub alike : (front : Front) (limit : ℕ) (old new early late : Scene) (end other : Ended) (one : Streams front limit old new end)
+    (two : Streams front limit early late other) → IsOwnEnd end → IsOwnEnd other → one.bytes ≡ two.bytes
     → old.tables ≡ early.tables → AreDue one.answers → AreDue two.answers
     → (one.answers ≡ two.answers) × (end ≡ other)
-alike limit old new early late end other one two own its same tables due too =
-    let requests_are = same_requests limit old new early late end other one two own its same in (
-      Served-one limit 0 old.tables one.answers two.answers requests_are.0 due too one.progress.served
-          (subst (λ (t : Rows). Served limit 0 t two.answers) (sym tables) two.progress.served),
+alike front limit old new early late end other one two own its same tables due too =
+    let requests_are = same_requests front limit old new early late end other one two own its same in (
+      Served-one front limit 0 old.tables one.answers two.answers requests_are.0 due too one.progress.served
+          (subst (λ (t : Rows). Served front limit 0 t two.answers) (sym tables) two.progress.served),
       requests_are.1,
     )

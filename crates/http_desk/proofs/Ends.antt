@@ -25,7 +25,7 @@ use Rattle.http_cut.proofs.Cuts.{IsBadRest-append, Begins-more, open_end}
 use Rattle.http_desk.specs.declared.serving.Ended.{Ended}
 use Rattle.http_desk.specs.declared.serving.Ended.TheVariants as ended
 use Rattle.http_desk.specs.Answered.{Answered, HasNoRoom, IsAnswered, asks_head, requests, texts}
-use Rattle.http_desk.specs.Commands.{command_for}
+use Rattle.http_desk.specs.Fronts.{Front, command_over}
 use Rattle.http_desk.specs.Refusals.{refused_rest, refusal_text}
 use Rattle.http_desk.specs.Scenes.{Scene, Later}
 use Rattle.http_desk.specs.Turns.{EndsTurns, FindsBad, Serves}
@@ -37,9 +37,9 @@ use Rattle.http_desk.proofs.Underway.{Serving, Serving-none, Serving-takes, Serv
 use Rattle.http_desk.proofs.Taking.{HasNoRoom-following, some_left, none_left}
 
 -- what a stream leaves of which these bytes were left, and of which so many were taken
-abbrev streams_from : {limit : ℕ} {old new : Scene} {end : Ended} {bytes after taken rest : List ℕ}
-    {answers : List Answered} → Left old.left new.left taken bytes after → Progress limit old new taken answers rest
-    → Later old new → EndsStream limit old new bytes taken answers rest after end → Streams limit old new end
+abbrev streams_from : {front : Front} {limit : ℕ} {old new : Scene} {end : Ended} {bytes after taken rest : List ℕ}
+    {answers : List Answered} → Left old.left new.left taken bytes after → Progress front limit old new taken answers rest
+    → Later old new → EndsStream limit old new bytes taken answers rest after end → Streams front limit old new end
 streams_from {bytes} {after} {taken} {rest} {answers} left progress later ends = record {
   bytes = bytes;
   after = after;
@@ -120,16 +120,16 @@ no_fault bad_rest.BodyLong = ((λ e. cc), λ e. cc)
 
 -- ---- a stream that is served
 
-module _ {S : Type 0} {calls : S → S → ℕ → Result ℕ Failed → Type 0} {source : S} where
+module _ {S : Type 0} {front : Front} {calls : S → S → ℕ → Result ℕ Failed → Type 0} {source : S} where
   -- it ends after the requests that were answered
   ends_after : {last at : S} {held : List ℕ} {reads : Type 0} {takes taking : ℕ → Type 0} {keeps : Type 0} {limit : ℕ}
       {old new : Scene} {count : ℕ} {window bytes after : List ℕ} (end : Ended)
-      (s : Serving calls source last held keeps takes taking limit old new count window)
+      (s : Serving front calls source last held keeps takes taking limit old new count window)
       → Left old.left new.left s.taken bytes after
       → EndsStream limit old new bytes s.taken s.answers window after end
       → EndsTurns calls old new s.answers last held at window end
       → (reads → ¬ (end ≡ ended.ReadFault)) → ¬ (end ≡ ended.WriteFault)
-      → Serves calls source at reads takes keeps limit old new end
+      → Serves calls front source at reads takes keeps limit old new end
   ends_after {last} {held} end s left ends found read written = record {
     streams = streams_from left s.progress s.later ends;
     prompt = record { last = last; held = held; turns = s.turns; ends = found };
@@ -141,8 +141,8 @@ module _ {S : Type 0} {calls : S → S → ℕ → Result ℕ Failed → Type 0}
   -- as many requests were answered as may be
   pub ends_limit : {at : S} {reads : Type 0} {takes taking : ℕ → Type 0} {keeps : Type 0} {limit : ℕ}
       {old new : Scene} {count : ℕ} {window : List ℕ}
-      → Serving calls source at window keeps takes taking limit old new count window
-      → count ≡ limit → length window < PIECE → Serves calls source at reads takes keeps limit old new ended.Limit
+      → Serving front calls source at window keeps takes taking limit old new count window
+      → count ≡ limit → length window < PIECE → Serves calls front source at reads takes keeps limit old new ended.Limit
   ends_limit {old} {new} s reached few =
       let (bytes, after, left) = some_left old.left new.left s.taken s.progress.took in
       ends_after ended.Limit s left (s.counted ∙ reached, few, s.written) refl (λ _ e. cc) (λ e. cc)
@@ -150,7 +150,7 @@ module _ {S : Type 0} {calls : S → S → ℕ → Result ℕ Failed → Type 0}
   -- at the end of the source the cut is that of what was taken
   at_end : {last : S} {held : List ℕ} {keeps : Type 0} {takes taking : ℕ → Type 0} {limit : ℕ} {old new : Scene}
       {count : ℕ} {window : List ℕ} {end : End}
-      (s : Serving calls source last held keeps takes taking limit old new count window) → count < limit
+      (s : Serving front calls source last held keeps takes taking limit old new count window) → count < limit
       → IsEnd window end → AnswersAll limit old new s.taken s.taken s.answers window [] end
   at_end {window} {end} s below ends =
       let whole : IsCut s.taken (requests s.answers) window end = record { begins = s.progress.begins; ends = ends } in
@@ -160,9 +160,9 @@ module _ {S : Type 0} {calls : S → S → ℕ → Result ℕ Failed → Type 0}
   -- the source ended
   pub ends_source : {last at : S} {held : List ℕ} {reads : Type 0} {takes taking : ℕ → Type 0} {keeps : Type 0}
       {limit : ℕ} {old new : Scene} {count : ℕ} {window : List ℕ} (end : Ended) (least : ℕ)
-      → Serving calls source last held keeps takes taking limit old new count window → count < limit
+      → Serving front calls source last held keeps takes taking limit old new count window → count < limit
       → IsOpen window → IsAtEnd new.left → ReadsNoFurther calls last at held window (Ok (step.NeedMore least))
-      → IsEndOf window end → Serves calls source at reads takes keeps limit old new end
+      → IsEndOf window end → Serves calls front source at reads takes keeps limit old new end
   ends_source {old} {new} ended.Clean least s below is_open end found is =
       ends_after ended.Clean s (none_left old.left new.left s.taken s.progress.took end)
       (at_end {end = clean} s below is, s.written) (least, found) (λ _ e. cc) (λ e. cc)
@@ -180,10 +180,10 @@ module _ {S : Type 0} {calls : S → S → ℕ → Result ℕ Failed → Type 0}
   -- a read failed
   ends_read_fault : {last at : S} {held : List ℕ} {reads : Type 0} {takes taking : ℕ → Type 0} {keeps : Type 0}
       {limit : ℕ} {old new : Scene} {count : ℕ} {window : List ℕ}
-      → Serving calls source last held keeps takes taking limit old new count window → count < limit
+      → Serving front calls source last held keeps takes taking limit old new count window → count < limit
       → IsOpen window → Rose old.read_faults new.read_faults → ¬ reads
       → ReadsNoFurther calls last at held window (Err intake.Failed)
-      → Serves calls source at reads takes keeps limit old new ended.ReadFault
+      → Serves calls front source at reads takes keeps limit old new ended.ReadFault
   ends_read_fault {old} {new} {window} s below is_open rose unsteady found =
       let (bytes, after, left) = some_left old.left new.left s.taken s.progress.took in
       let (end, ends) = open_end window is_open in
@@ -194,11 +194,11 @@ module _ {S : Type 0} {calls : S → S → ℕ → Result ℕ Failed → Type 0}
   -- bytes that were taken may be lost where there was no memory
   ends_no_memory : {last at : S} {held : List ℕ} {reads : Type 0} {takes taking : ℕ → Type 0} {keeps : Type 0}
       {limit : ℕ} {old mid new : Scene} {count : ℕ} {window now : List ℕ}
-      → Serving calls source last held keeps takes taking limit old mid count window → count < limit
+      → Serving front calls source last held keeps takes taking limit old mid count window → count < limit
       → HasTaken mid.left new.left → (at ≡ last) ⊎ ReadsNoFurther calls last at held now (Err intake.NoMemory)
       → mid.read_faults ≤ new.read_faults → new.written ≡ mid.written → new.write_faults ≡ mid.write_faults
       → new.tables ≡ mid.tables → new.told ≡ mid.told → new.uses ≡ mid.uses
-      → Serves calls source at reads takes keeps limit old new ended.NoMemory
+      → Serves calls front source at reads takes keeps limit old new ended.NoMemory
   ends_no_memory {old} {mid} {new} {window} before below loses found later written write_faults tables told uses =
       let taken : Takes mid.left new.left window (window ++ loses.bytes) =
       record { bytes = loses.bytes; taken = loses.taken; joined = refl } in
@@ -210,21 +210,21 @@ module _ {S : Type 0} {calls : S → S → ℕ → Result ℕ Failed → Type 0}
 
   -- there was no memory to begin
   pub ends_at_once : {reads : Type 0} {takes : ℕ → Type 0} {keeps : Type 0} {limit : ℕ} {old : Scene} → 1 ≤ limit
-      → IfTold old.told old.tables → Serves calls source source reads takes keeps limit old old ended.NoMemory
+      → IfTold old.told old.tables → Serves calls front source source reads takes keeps limit old old ended.NoMemory
   ends_at_once {takes} {keeps} {limit} {old} some told =
-      let s : Serving calls source source [] keeps takes takes limit old old 0 [] = Serving-none told in
+      let s : Serving front calls source source [] keeps takes takes limit old old 0 [] = Serving-none told in
       ends_no_memory {now = []} s some (record { bytes = []; taken = Consumes-nil old.left }) (inl refl) (omega arith)
       refl refl refl refl refl
 
   -- no more could be taken
   pub ends_intake : {last at : S} {held : List ℕ} {reads : Type 0} {takes taking : ℕ → Type 0} {keeps : Type 0}
       {limit : ℕ} {old mid new : Scene} {count : ℕ} {window now : List ℕ} (fault : IntakeFault)
-      → Serving calls source last held keeps takes taking limit old mid count window → count < limit
+      → Serving front calls source last held keeps takes taking limit old mid count window → count < limit
       → Fetches mid.left new.left window now (Err fault) → ReadsNoFurther calls last at held now (Err fault)
       → (fault ≡ intake.Failed → Rose mid.read_faults new.read_faults) → (reads → ¬ (fault ≡ intake.Failed))
       → mid.read_faults ≤ new.read_faults → new.written ≡ mid.written → new.write_faults ≡ mid.write_faults
       → new.tables ≡ mid.tables → new.told ≡ mid.told → new.uses ≡ mid.uses
-      → Serves calls source at reads takes keeps limit old new (fault_end fault)
+      → Serves calls front source at reads takes keeps limit old new (fault_end fault)
   ends_intake {new} intake.Failed s below fetched found cause steady later written write_faults tables told uses =
       let serving = Serving-takes new s fetched.0 later written write_faults tables told uses in
       let before = s.later.read_faults in
@@ -238,7 +238,7 @@ module _ {S : Type 0} {calls : S → S → ℕ → Result ℕ Failed → Type 0}
   -- the bytes go on after a bad rest
   bad_cut : {last : S} {held : List ℕ} {keeps : Type 0} {takes taking : ℕ → Type 0} {limit : ℕ} {old mid : Scene}
       (new : Scene) {count : ℕ} {window : List ℕ} (bytes after : List ℕ) (kind : BadRest)
-      (s : Serving calls source last held keeps takes taking limit old mid count window)
+      (s : Serving front calls source last held keeps takes taking limit old mid count window)
       → count < limit → IsBadRest window kind → bytes ≡ s.taken ++ after
       → AnswersAll limit old new bytes s.taken s.answers window after (bad kind)
   bad_cut new {window} bytes after kind s below wrong split =
@@ -250,13 +250,13 @@ module _ {S : Type 0} {calls : S → S → ℕ → Result ℕ Failed → Type 0}
   -- a bad rest is refused, in full or in part
   pub ends_refused : {last at : S} {held : List ℕ} {reads : Type 0} {takes taking : ℕ → Type 0} {keeps : Type 0}
       {limit : ℕ} {old mid new : Scene} {count : ℕ} {window : List ℕ} (kind : BadRest) (asks : Bool) {end : Ended}
-      → Serving calls source last held keeps takes taking limit old mid count window → count < limit
+      → Serving front calls source last held keeps takes taking limit old mid count window → count < limit
       → length window < MAX_HEAD + PIECE → ReadsNoFurther calls last at held window (Ok (step.Bad kind asks))
       → IsBadRest window kind → (IsTrue asks ↔ AsksHead window)
       → RefusesRest taking mid.written new.written mid.write_faults new.write_faults kind
       (refusal_text (refused_rest kind) true asks) end
       → new.left ≡ mid.left → new.read_faults ≡ mid.read_faults → new.tables ≡ mid.tables → new.told ≡ mid.told
-      → new.uses ≡ mid.uses → Serves calls source at reads takes keeps limit old new end
+      → new.uses ≡ mid.uses → Serves calls front source at reads takes keeps limit old new end
   ends_refused {last} {at} {held} {takes} {taking} {limit} {old} {mid} {new} {window} kind asks s below few found
       wrong is refuses same read_faults tables told uses =
       let text : List ℕ = refusal_text (refused_rest kind) true asks in
@@ -270,7 +270,7 @@ module _ {S : Type 0} {calls : S → S → ℕ → Result ℕ Failed → Type 0}
         write_faults = omega (arith, s.later.write_faults, refuses.later);
         told = rw told s.later.told;
       } in
-      let progress : Progress limit old new s.taken s.answers window = record {
+      let progress : Progress front limit old new s.taken s.answers window = record {
         took = rw same s.progress.took;
         begins = s.progress.begins;
         served = s.progress.served;
@@ -327,15 +327,15 @@ module _ {S : Type 0} {calls : S → S → ℕ → Result ℕ Failed → Type 0}
   pub ends_write_fault : {last at : S} {held : List ℕ} (given : List (Reading S)) {reads : Type 0}
       {takes taking : ℕ → Type 0} {keeps keeping : Type 0} {limit : ℕ} {old mid new : Scene} {count : ℕ}
       {window : List ℕ} (request : WholeRequest) {following text : List ℕ}
-      → Serving calls source last held keeps takes taking limit old mid count window → count < limit
+      → Serving front calls source last held keeps takes taking limit old mid count window → count < limit
       → ReadsOn calls last held given at window → BeginsRequest window request.0 request.1 following
-      → IsAnswered keeping mid.tables (command_for request) ((count + 1) == limit) (asks_head request) new.tables text
+      → IsAnswered keeping mid.tables (command_over front request) ((count + 1) == limit) (asks_head request) new.tables text
       mid.uses new.uses
       → IfTold new.told new.tables → TellsNoMore mid.told new.told → new.left ≡ mid.left
       → AppendsPart mid.written new.written text
       → Rose mid.write_faults new.write_faults → HasNoRoom taking text → (keeps → keeping)
       → new.read_faults ≡ mid.read_faults → mid.write_faults ≤ new.write_faults
-      → Serves calls source at reads takes keeps limit old new ended.WriteFault
+      → Serves calls front source at reads takes keeps limit old new ended.WriteFault
   ends_write_fault {last} {at} {held} given {takes} {taking} {limit} {old} {mid} {new} {window} request {following}
       {text} s below on whole h told no_more same (size, short, added) rose full keeping_it read_faults write_faults =
       let last_one : Answered = answered request h in
@@ -378,9 +378,9 @@ module _ {S : Type 0} {calls : S → S → ℕ → Result ℕ Failed → Type 0}
 -- ---- steady devices
 
 -- over devices that do not fail no fault comes, but for want of room
-pub faultless : {S : Type 0} {calls : S → S → ℕ → Result ℕ Failed → Type 0} {source at : S} {reads : Type 0}
+pub faultless : {S : Type 0} {front : Front} {calls : S → S → ℕ → Result ℕ Failed → Type 0} {source at : S} {reads : Type 0}
     {takes : ℕ → Type 0} {keeps : Type 0} {limit : ℕ} {old new : Scene} {end : Ended}
-    → Serves calls source at reads takes keeps limit old new end → reads → keeps → IsFaultless takes limit old new end
+    → Serves calls front source at reads takes keeps limit old new end → reads → keeps → IsFaultless front takes limit old new end
 faultless s steady settled = record {
   streams = s.streams;
   available = s.available settled;

@@ -5,6 +5,8 @@ pub mod Counting
 pub mod Cutting
 pub mod Declining
 pub mod Ends
+pub mod Fronts
+pub mod Guarding
 pub mod Lengths
 pub mod Named
 pub mod Numbered

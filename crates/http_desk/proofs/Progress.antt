@@ -13,23 +13,24 @@ use Rattle.http_cut.specs.Cut.{BeginsRequest}
 use Rattle.http_cut.proofs.Cuts.{Begins-push, Begins-more}
 use Rattle.http_desk.specs.Answered.{Answered, IsServed, Served, requests, texts, last_tables, failures, failure}
 use Rattle.http_desk.specs.Answered.{all_most_calls, all_sure_calls, most_calls, sure_calls}
+use Rattle.http_desk.specs.Fronts.{Front}
 use Rattle.http_desk.specs.Scenes.{RoseBy, RoseWithin, Scene, risen_by}
 use Rattle.desk_base.specs.Counts.{risen}
 use Rattle.http_desk.specs.Streams.{Progress}
 
 -- one more request is answered
-pub Served-push : (limit count : ℕ) (before : Rows) (answers : List Answered) (a : Answered)
-    → Served limit count before answers
-    → IsServed (last_tables before answers) ((count + length answers + 1) == limit) a
-    → Served limit count before (answers ++ a ∷ [])
-Served-push limit count before [] a served h =
+pub Served-push : (front : Front) (limit count : ℕ) (before : Rows) (answers : List Answered) (a : Answered)
+    → Served front limit count before answers
+    → IsServed front (last_tables before answers) ((count + length answers + 1) == limit) a
+    → Served front limit count before (answers ++ a ∷ [])
+Served-push front limit count before [] a served h =
     let place : count + 0 + 1 ≡ count + 1 = omega arith in
-    (subst (λ (n : ℕ). IsServed before (n == limit) a) place h, tt)
-Served-push limit count before (first ∷ answers) a served h =
+    (subst (λ (n : ℕ). IsServed front before (n == limit) a) place h, tt)
+Served-push front limit count before (first ∷ answers) a served h =
     let place : count + length (first ∷ answers) + 1 ≡ count + 1 + length answers + 1 = omega arith in (
       served.0,
-      Served-push limit (count + 1) first.tables answers a served.1
-          (subst (λ (n : ℕ). IsServed (last_tables first.tables answers) (n == limit) a) place h),
+      Served-push front limit (count + 1) first.tables answers a served.1
+          (subst (λ (n : ℕ). IsServed front (last_tables first.tables answers) (n == limit) a) place h),
     )
 
 -- the tables after it are those after all
@@ -88,8 +89,8 @@ pub raised_once : (least before now : ℕ) → least ≤ 1 → now ≡ risen bef
 raised_once least before now few is = record { times = 1; enough = few; few = omega arith; rose = is }
 
 -- nothing was done yet
-pub Progress-none : (limit : ℕ) (old : Scene) → IfTold old.told old.tables → Progress limit old old [] [] []
-Progress-none limit old told = record {
+pub Progress-none : (front : Front) (limit : ℕ) (old : Scene) → IfTold old.told old.tables → Progress front limit old old [] [] []
+Progress-none front limit old told = record {
   took = Consumes-nil old.left;
   begins = refl;
   served = tt;
@@ -100,10 +101,10 @@ Progress-none limit old told = record {
 }
 
 -- bytes are taken
-pub Progress-takes : (limit : ℕ) (old mid new : Scene) (taken : List ℕ) (answers : List Answered) (rest more : List ℕ)
-    → Progress limit old mid taken answers rest → Consumes mid.left new.left more → new.tables ≡ mid.tables
-    → new.told ≡ mid.told → new.uses ≡ mid.uses → Progress limit old new (taken ++ more) answers (rest ++ more)
-Progress-takes limit old mid new taken answers rest more p took tables told uses = record {
+pub Progress-takes : (front : Front) (limit : ℕ) (old mid new : Scene) (taken : List ℕ) (answers : List Answered)
+    (rest more : List ℕ) → Progress front limit old mid taken answers rest → Consumes mid.left new.left more → new.tables ≡ mid.tables
+    → new.told ≡ mid.told → new.uses ≡ mid.uses → Progress front limit old new (taken ++ more) answers (rest ++ more)
+Progress-takes front limit old mid new taken answers rest more p took tables told uses = record {
   took = Consumes-trans old.left mid.left new.left taken more p.took took;
   begins = Begins-more taken (requests answers) rest more p.begins;
   served = p.served;
@@ -114,19 +115,19 @@ Progress-takes limit old mid new taken answers rest more p took tables told uses
 }
 
 -- a request at the front is answered
-pub Progress-answers : (limit : ℕ) (old mid new : Scene) (taken : List ℕ) (answers : List Answered) (rest : List ℕ)
-    (a : Answered) (following : List ℕ) → Progress limit old mid taken answers rest
-    → BeginsRequest rest a.request.0 a.request.1 following → IsServed mid.tables ((length answers + 1) == limit) a
+pub Progress-answers : (front : Front) (limit : ℕ) (old mid new : Scene) (taken : List ℕ) (answers : List Answered)
+    (rest : List ℕ) (a : Answered) (following : List ℕ) → Progress front limit old mid taken answers rest
+    → BeginsRequest rest a.request.0 a.request.1 following → IsServed front mid.tables ((length answers + 1) == limit) a
     → RoseBy (failure a.outcome) mid.uses.faults new.uses.faults
     → RoseWithin (sure_calls a.outcome) (most_calls a.outcome) mid.uses.calls new.uses.calls → new.left ≡ mid.left →
     new.tables ≡ a.tables
-    → IfTold new.told new.tables → Progress limit old new taken (answers ++ a ∷ []) following
-Progress-answers limit old mid new taken answers rest a following p whole is failed called left tables told = record {
+    → IfTold new.told new.tables → Progress front limit old new taken (answers ++ a ∷ []) following
+Progress-answers front limit old mid new taken answers rest a following p whole is failed called left tables told = record {
   took = rw left p.took;
   begins = rw (requests-push answers a)
       (Begins-push taken (requests answers) rest a.request following p.begins whole);
-  served = Served-push limit 0 old.tables answers a p.served
-      (rw (zero-add (length answers)) (subst (λ (t : Rows). IsServed t ((length answers + 1) == limit) a) p.tables is));
+  served = Served-push front limit 0 old.tables answers a p.served
+      (rw (zero-add (length answers)) (subst (λ (t : Rows). IsServed front t ((length answers + 1) == limit) a) p.tables is));
   tables = tables ∙ sym (last_tables-push old.tables answers a);
   told = told;
   failed = rw (failures-push answers a)

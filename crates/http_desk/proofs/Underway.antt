@@ -5,6 +5,7 @@ use Rattle.std.proofs.lemmas.List.{map-append}
 use Rattle.desk_base.specs.declared.error.Failed.{Failed}
 use Rattle.std.specs.Io.KnownBytes.{Appends}
 use Rattle.desk_base.proofs.Growth.{Appends-then}
+use Rattle.desk_words.specs.declared.command.Command.{Command}
 use Rattle.desk_words.specs.Tables.{Rows}
 use Rattle.keeper_core.specs.Keeping.{IfTold, TellsNoMore, Uses}
 use Rattle.http_cut.specs.Cut.{WholeRequest, BeginsRequest}
@@ -12,7 +13,8 @@ use Rattle.http_cut.specs.declared.step.Step.{Step}
 use Rattle.http_cut.specs.Looks.{IsStep}
 use Rattle.http_cut.specs.Taking.{Fetches, Reading, ReadsNoFurther, ReadsOn, Takes}
 use Rattle.http_desk.specs.Answered.{Answered, IsAnswered, TakesRest, asks_head, failures, texts}
-use Rattle.http_desk.specs.Commands.{command_for}
+use Rattle.http_desk.specs.Checked.{Checked}
+use Rattle.http_desk.specs.Fronts.{Front, command_over}
 use Rattle.http_desk.specs.Scenes.{Scene, Later}
 use Rattle.http_desk.specs.Streams.{Progress}
 use Rattle.http_desk.specs.Turns.{AreTurns, TakesTurns, Turn}
@@ -20,9 +22,9 @@ use Rattle.http_desk.proofs.Progress.{Progress-none, Progress-takes, Progress-an
 use Rattle.http_desk.proofs.Taking.{Appends-none, TakesRest-none, TakesRest-then}
 
 -- the request at the front, as it was answered
-abbrev pub answered : {steady : Type 0} {before after : Rows} {closing : Bool} {text : List ℕ} {used now : Uses}
+abbrev pub answered : {steady : Type 0} {asks : Checked Command} {before after : Rows} {closing : Bool} {text : List ℕ} {used now : Uses}
     (request : WholeRequest)
-    → IsAnswered steady before (command_for request) closing (asks_head request) after text used now → Answered
+    → IsAnswered steady before asks closing (asks_head request) after text used now → Answered
 answered {after} {text} request h = record { request = request; outcome = h.outcome; tables = after; text = text }
 
 module _ {S : Type 0} (calls : S → S → ℕ → Result ℕ Failed → Type 0) (source : S) where
@@ -67,13 +69,15 @@ module _ {S : Type 0} (calls : S → S → ℕ → Result ℕ Failed → Type 0)
         in_turn = AreTurns-push source last read [] held t.turns turn window following t.in_turn on whole;
       }
 
-  -- so many requests were answered in full, and the window holds what was taken after them
+-- calls says what a read of the source may do
+module _ {S : Type 0} (front : Front) (calls : S → S → ℕ → Result ℕ Failed → Type 0) (source : S) where
+  -- so many requests were answered in full over the front, and the window holds what was taken after them
   pub record Serving (last : S) (held : List ℕ) (steady : Type 0) (takes taking : ℕ → Type 0) (limit : ℕ) (old new :
       Scene) (count : ℕ)
       (window : List ℕ) : Type 0 where
     pub taken : List ℕ
     pub answers : List Answered
-    pub progress : Progress limit old new taken answers window
+    pub progress : Progress front limit old new taken answers window
     pub counted : length answers ≡ count
     pub written : Appends old.written new.written (texts answers)
     pub later : Later old new
@@ -86,14 +90,14 @@ abbrev pub read_to : Scene → Option (List ℕ) → ℕ → Scene
 read_to scene left faults = record scene { left = left; read_faults = faults }
 
 -- how the serving of a stream goes on, whatever it is that is served
-module _ {S : Type 0} {calls : S → S → ℕ → Result ℕ Failed → Type 0} {source : S} where
+module _ {S : Type 0} {front : Front} {calls : S → S → ℕ → Result ℕ Failed → Type 0} {source : S} where
   -- nothing was done yet
   pub Serving-none : {steady : Type 0} {takes : ℕ → Type 0} {limit : ℕ} {old : Scene} → IfTold old.told old.tables
-      → Serving calls source source [] steady takes takes limit old old 0 []
+      → Serving front calls source source [] steady takes takes limit old old 0 []
   Serving-none {takes} {limit} {old} told = record {
     taken = [];
     answers = [];
-    progress = Progress-none limit old told;
+    progress = Progress-none front limit old told;
     counted = refl;
     written = Appends-none old.written;
     later = record { read_faults = omega arith; write_faults = omega arith; told = λ some. some };
@@ -105,16 +109,16 @@ module _ {S : Type 0} {calls : S → S → ℕ → Result ℕ Failed → Type 0}
   -- bytes are taken
   pub Serving-takes : {last : S} {held : List ℕ} {steady : Type 0} {takes taking : ℕ → Type 0} {limit : ℕ}
       {old mid : Scene} (new : Scene) {count : ℕ} {window now : List ℕ}
-      → Serving calls source last held steady takes taking limit old mid count window
+      → Serving front calls source last held steady takes taking limit old mid count window
       → Takes mid.left new.left window now
       → mid.read_faults ≤ new.read_faults → new.written ≡ mid.written → new.write_faults ≡ mid.write_faults
       → new.tables ≡ mid.tables → new.told ≡ mid.told → new.uses ≡ mid.uses
-      → Serving calls source last held steady takes taking limit old new count now
+      → Serving front calls source last held steady takes taking limit old new count now
   Serving-takes {limit} {old} {mid} new {window} s taken later written write_faults tables told uses = record {
     taken = s.taken ++ taken.bytes;
     answers = s.answers;
-    progress = subst (λ (w : List ℕ). Progress limit old new (s.taken ++ taken.bytes) s.answers w) (sym taken.joined)
-        (Progress-takes limit old mid new s.taken s.answers window taken.bytes s.progress taken.taken tables told uses);
+    progress = subst (λ (w : List ℕ). Progress front limit old new (s.taken ++ taken.bytes) s.answers w) (sym taken.joined)
+        (Progress-takes front limit old mid new s.taken s.answers window taken.bytes s.progress taken.taken tables told uses);
     counted = s.counted;
     written = rw written s.written;
     later = record {
@@ -130,10 +134,10 @@ module _ {S : Type 0} {calls : S → S → ℕ → Result ℕ Failed → Type 0}
   -- the source is read up to this step
   pub Serving-reads : {last at : S} {held : List ℕ} {steady : Type 0} {takes taking : ℕ → Type 0} {limit : ℕ}
       {old mid : Scene} {left : Option (List ℕ)} (faults : ℕ) {count : ℕ} {window now : List ℕ} {one step : Step}
-      → one ≡ step → Serving calls source last held steady takes taking limit old mid count window
+      → one ≡ step → Serving front calls source last held steady takes taking limit old mid count window
       → Fetches mid.left left window now (Ok one) → ReadsNoFurther calls last at window now (Ok one)
       → mid.read_faults ≤ faults
-      → Serving calls source last held steady takes taking limit old (read_to mid left faults) count now
+      → Serving front calls source last held steady takes taking limit old (read_to mid left faults) count now
       × IsStep now step × ReadsNoFurther calls last at window now (Ok step)
   Serving-reads {last} {at} {mid} {left} faults {window} {now} is s fetched order later = (
     Serving-takes (read_to mid left faults) s fetched.0 later refl refl refl refl refl,
@@ -144,30 +148,30 @@ module _ {S : Type 0} {calls : S → S → ℕ → Result ℕ Failed → Type 0}
   -- a request is answered, and its text is still to be written
   pub Serving-weighs : {last : S} {held : List ℕ} {steady : Type 0} {takes taking : ℕ → Type 0} {limit : ℕ}
       {old mid : Scene} (new : Scene) {count : ℕ} {window : List ℕ} (request : WholeRequest) {following text : List ℕ}
-      {keeps : Type 0} (s : Serving calls source last held steady takes taking limit old mid count window)
+      {keeps : Type 0} (s : Serving front calls source last held steady takes taking limit old mid count window)
       → BeginsRequest window request.0 request.1 following
-      → (h : IsAnswered keeps mid.tables (command_for request) ((count + 1) == limit) (asks_head request) new.tables
+      → (h : IsAnswered keeps mid.tables (command_over front request) ((count + 1) == limit) (asks_head request) new.tables
       text mid.uses new.uses)
       → IfTold new.told new.tables → new.left ≡ mid.left
-      → Progress limit old new s.taken (s.answers ++ answered request h ∷ []) following
+      → Progress front limit old new s.taken (s.answers ++ answered request h ∷ []) following
   Serving-weighs {limit} {old} {mid} new {window} request {following} s whole h told left =
-      Progress-answers limit old mid new s.taken s.answers window (answered request h) following s.progress whole
+      Progress-answers front limit old mid new s.taken s.answers window (answered request h) following s.progress whole
       (rw s.counted h.answers) h.failed h.called left refl told
 
   -- a request is answered, and its text is written
   pub Serving-answers : {last read : S} {held : List ℕ} (given : List (Reading S)) {steady keeps : Type 0}
       {takes taking took : ℕ → Type 0} {limit : ℕ} {old mid new : Scene} {count : ℕ} {window : List ℕ}
       (request : WholeRequest) {following text : List ℕ}
-      → Serving calls source last held steady takes taking limit old mid count window
+      → Serving front calls source last held steady takes taking limit old mid count window
       → ReadsOn calls last held given read window
       → BeginsRequest window request.0 request.1 following
-      → IsAnswered keeps mid.tables (command_for request) ((count + 1) == limit) (asks_head request) new.tables text
+      → IsAnswered keeps mid.tables (command_over front request) ((count + 1) == limit) (asks_head request) new.tables text
       mid.uses new.uses
       → IfTold new.told new.tables → TellsNoMore mid.told new.told → new.left ≡ mid.left
       → Appends mid.written new.written text
       → new.read_faults ≡ mid.read_faults → mid.write_faults ≤ new.write_faults → (steady → keeps)
       → TakesRest taking took (length text)
-      → Serving calls source read following steady takes took limit old new (count + 1) following
+      → Serving front calls source read following steady takes took limit old new (count + 1) following
   Serving-answers {last} {read} {held} given {takes} {taking} {took} {old} {mid} {new} {window} request {following}
       {text} s on whole h told no_more left written read_faults later keeping room = record {
         taken = s.taken;

@@ -19,7 +19,7 @@ use Rattle.http_desk.specs.declared.refusal.Refused.TheVariants as refused
 use Rattle.http_desk.specs.declared.text.Text.{Text}
 use Rattle.http_desk.specs.declared.text.Text.TheVariants.{Made, Fixed}
 use Rattle.http_desk.specs.Checked.{Checked}
-use Rattle.http_desk.specs.Commands.{command_for}
+use Rattle.http_desk.specs.Fronts.{Front, command_over}
 use Rattle.http_desk.specs.Refusals.{refusal_text}
 use Rattle.http_desk.specs.Replies.{declined_text, reply_text}
 use Rattle.http_desk.specs.Scenes.{RoseBy, RoseWithin}
@@ -106,12 +106,13 @@ TakesRest old new count = (room : ℕ) → old room → count ≤ room → new (
 abbrev pub HasNoRoom : (ℕ → Type 0) → List ℕ → Type 0
 HasNoRoom takes text = (room : ℕ) → takes room → room < length text
 
--- a request was answered and its text written, or a part of it where the sink failed, which had no room for all of it
-pub record Responds (steady : Type 0) (takes taking : ℕ → Type 0) (before : Rows) (closing : Bool)
+-- over a front a request was answered and its text written, or a part of it where the sink failed, which had no room for all of it
+pub record Responds (front : Front) (steady : Type 0) (takes taking : ℕ → Type 0) (before : Rows) (closing : Bool)
     (request : WholeRequest) (after : Rows) (used now : Uses) (old new : Option (List ℕ))
     (result : Result (Unit {0}) Failed) : Type 0 where
   pub text : List ℕ
-  pub answered : IsAnswered steady before (command_for request) closing (asks_head request) after text used now
+  pub answered : IsAnswered steady before (command_over front request) closing (asks_head request) after text used
+      now
   pub written : OnOk result (Appends old new text)
   pub part : OnErr result (AppendsPart old new text)
   pub full : OnErr result (HasNoRoom takes text)
@@ -126,16 +127,16 @@ pub record Answered : Type 0 where
   pub tables : Rows
   pub text : List ℕ
 
--- it was answered so over these tables; closing says whether the stream is closed after it
-abbrev pub IsServed : Rows → Bool → Answered → Type 0
-IsServed before closing a =
-    Answers before (command_for a.request) closing (asks_head a.request) a.outcome a.tables a.text
+-- over a front it was answered so over these tables; closing says whether the stream is closed after it
+abbrev pub IsServed : Front → Rows → Bool → Answered → Type 0
+IsServed front before closing a =
+    Answers before (command_over front a.request) closing (asks_head a.request) a.outcome a.tables a.text
 
--- so many were answered before, and then these, from these tables on. The one that reaches the limit is the last
-abbrev pub Served : ℕ → ℕ → Rows → List Answered → Type 0
-Served limit count before [] = ⊤
-Served limit count before (a ∷ answers) =
-    IsServed before ((count + 1) == limit) a × Served limit (count + 1) a.tables answers
+-- so many were answered before over a front, and then these, from these tables on. The one that reaches the limit is the last
+abbrev pub Served : Front → ℕ → ℕ → Rows → List Answered → Type 0
+Served front limit count before [] = ⊤
+Served front limit count before (a ∷ answers) =
+    IsServed front before ((count + 1) == limit) a × Served front limit (count + 1) a.tables answers
 
 -- the requests
 abbrev pub requests : List Answered → List WholeRequest

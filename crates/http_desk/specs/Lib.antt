@@ -1,6 +1,7 @@
 pub mod Answered
 pub mod Checked
 pub mod Commands
+pub mod Fronts
 pub mod Parameters
 pub mod Refusals
 pub mod Replies

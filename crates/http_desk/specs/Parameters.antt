@@ -23,6 +23,7 @@ use Rattle.desk_json.specs.declared.route.Route.TheVariants.{Explain, DeskDerive
 use Rattle.desk_json.specs.declared.route.Route.TheVariants.{DeskPublished, DeskEdition, DeskRow, DeskRegion}
 use Rattle.desk_json.specs.declared.route.Route.TheVariants.{Body, Choices, Blocked, DeskContradictions}
 use Rattle.desk_json.specs.declared.route.Route.TheVariants.{CheckSchema, CheckMaster, CheckRulebook, CheckEdition}
+use Rattle.desk_json.specs.declared.route.Route.TheVariants.{DeskDump}
 use Rattle.desk_json.specs.Checked.{◌>>=◌}
 use Rattle.http_desk.specs.Checked.{Checked, or_no_route}
 
@@ -187,6 +188,7 @@ desk_form of_desk.CheckSchema = form [] CheckSchema
 desk_form of_desk.CheckMaster = form (name ∷ []) CheckMaster
 desk_form of_desk.CheckRulebook = form (name ∷ schema ∷ version ∷ []) CheckRulebook
 desk_form of_desk.CheckEdition = form (name ∷ []) CheckEdition
+desk_form of_desk.DeskDump = form [] DeskDump
 
 -- the route that a target asks for, with its parameters
 abbrev pub route_in : Target → Parts → Checked Route

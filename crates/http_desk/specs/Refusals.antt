@@ -63,6 +63,7 @@ refused_rest rest.BodyLong = refused.BodyLong
 
 -- the status of a refusal's response
 abbrev pub status_of : Refused → Status
+status_of refused.Origin = status.Forbidden
 status_of refused.NoRoute = status.NotFound
 status_of refused.OtherMethod = status.MethodNotAllowed
 status_of refused.NoLength = status.LengthRequired
@@ -74,6 +75,7 @@ status_of refused.NoMemory = status.InsufficientStorage
 
 -- the word for a refusal
 abbrev pub word_of : Refused → List ℕ
+word_of refused.Origin = codes "origin"
 word_of refused.NoRoute = codes "no_route"
 word_of refused.OtherMethod = codes "method"
 word_of refused.NoLength = codes "length"

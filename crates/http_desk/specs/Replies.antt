@@ -8,7 +8,9 @@ use Rattle.desk_words.specs.declared.refusal.Refusal.{Refusal}
 use Rattle.desk_words.specs.declared.refusal.Refusal.TheVariants as refusal
 use Rattle.desk_words.specs.declared.reply.Reply.{Reply}
 use Rattle.desk_words.specs.declared.reply.Reply.TheVariants.{Made, Opened, Committed, Batched, Report, Records}
-use Rattle.desk_words.specs.declared.reply.Reply.TheVariants.{Body, Contradictions, Derived, Refused, Unfit}
+use Rattle.desk_words.specs.declared.reply.Reply.TheVariants.{Body, Contradictions, Derived, Dump, Refused, Unfit}
+use Rattle.desk_words.specs.Tables.{rows_of}
+use Rattle.desk_dump.specs.Dumps.{dump_of}
 use Rattle.desk_json.specs.Faults.{fault_shown}
 use Rattle.desk_json.specs.Replies.{reply_shown}
 use Rattle.desk_sheets.specs.Contradictions.{contradictions_text}
@@ -18,7 +20,7 @@ use Rattle.desk_sheets.specs.Report.{report_text}
 use Rattle.http_desk.specs.declared.declined.Declined.{Declined}
 use Rattle.http_desk.specs.declared.declined.Declined.TheVariants as declined
 use Rattle.http_desk.specs.declared.status.ContentType.{ContentType}
-use Rattle.http_desk.specs.declared.status.ContentType.TheVariants.{Json, Text, Csv, Toml}
+use Rattle.http_desk.specs.declared.status.ContentType.TheVariants.{Json, Text, Csv, Toml, Lines}
 use Rattle.http_desk.specs.declared.status.Status.{Status}
 use Rattle.http_desk.specs.declared.status.Status.TheVariants as status
 use Rattle.http_desk.specs.Refusals.{refusal_text}
@@ -64,6 +66,7 @@ reply_type (Records sheet) = Csv
 reply_type (Derived sheet) = Csv
 reply_type (Body what body) = published_type what
 reply_type (Contradictions sheet) = Csv
+reply_type (Dump tables) = Lines
 reply_type reply = Json
 
 -- the text of a value
@@ -78,6 +81,7 @@ reply_body (Records sheet) = records_text sheet
 reply_body (Derived sheet) = derived_text sheet
 reply_body (Body what body) = body
 reply_body (Contradictions sheet) = contradictions_text sheet
+reply_body (Dump tables) = dump_of (rows_of tables)
 reply_body reply = json_text (reply_shown reply)
 
 -- the response to a request that the machine replies to, which closes the stream or not, and whose method may be HEAD
@@ -90,5 +94,6 @@ reply_text reply closing asks_head =
 -- the response to a request that the machine is not asked about
 abbrev pub declined_text : Declined → Bool → Bool → List ℕ
 declined_text (declined.Refused refusal) closing asks_head = refusal_text refusal closing asks_head
+declined_text (declined.Shown page) closing asks_head = response status.Ok page.kind page.text.now closing asks_head
 declined_text (declined.BadBody fault) closing asks_head =
     response status.BadRequest Json (compact_text (fault_shown fault)) closing asks_head

@@ -2,12 +2,12 @@
 use Rattle.std.specs.Prelude.{ℕ, Bool, List, [], ◌++◌, length, codes, decimal, if◌then◌else◌}
 use Rattle.httparse.specs.Ascii.{crlf_bytes}
 use Rattle.http_desk.specs.declared.status.Status.{Status}
-use Rattle.http_desk.specs.declared.status.Status.TheVariants.{Ok, Created, BadRequest, NotFound, MethodNotAllowed}
-use Rattle.http_desk.specs.declared.status.Status.TheVariants.{Conflict, LengthRequired, ContentTooLarge}
-use Rattle.http_desk.specs.declared.status.Status.TheVariants.{UnprocessableContent, NotImplemented}
+use Rattle.http_desk.specs.declared.status.Status.TheVariants.{Ok, Created, BadRequest, Forbidden, NotFound}
+use Rattle.http_desk.specs.declared.status.Status.TheVariants.{MethodNotAllowed, Conflict, LengthRequired}
+use Rattle.http_desk.specs.declared.status.Status.TheVariants.{ContentTooLarge, UnprocessableContent, NotImplemented}
 use Rattle.http_desk.specs.declared.status.Status.TheVariants.{ServiceUnavailable, InsufficientStorage}
 use Rattle.http_desk.specs.declared.status.ContentType.{ContentType}
-use Rattle.http_desk.specs.declared.status.ContentType.TheVariants.{Json, Text, Csv, Toml}
+use Rattle.http_desk.specs.declared.status.ContentType.TheVariants.{Json, Text, Csv, Toml, Html, Css, Script, Lines}
 
 -- ---- the status line
 
@@ -16,6 +16,7 @@ abbrev pub code_of : Status → ℕ
 code_of Ok = 200
 code_of Created = 201
 code_of BadRequest = 400
+code_of Forbidden = 403
 code_of NotFound = 404
 code_of MethodNotAllowed = 405
 code_of Conflict = 409
@@ -31,6 +32,7 @@ abbrev pub reason_of : Status → List ℕ
 reason_of Ok = codes "OK"
 reason_of Created = codes "Created"
 reason_of BadRequest = codes "Bad Request"
+reason_of Forbidden = codes "Forbidden"
 reason_of NotFound = codes "Not Found"
 reason_of MethodNotAllowed = codes "Method Not Allowed"
 reason_of Conflict = codes "Conflict"
@@ -49,6 +51,10 @@ type_of Json = codes "application/json"
 type_of Text = codes "text/plain"
 type_of Csv = codes "text/csv"
 type_of Toml = codes "application/toml"
+type_of Html = codes "text/html"
+type_of Css = codes "text/css"
+type_of Script = codes "text/javascript"
+type_of Lines = codes "application/jsonl"
 
 -- the first line: the version of HTTP, the number of the status and its reason phrase
 abbrev pub status_line : Status → List ℕ

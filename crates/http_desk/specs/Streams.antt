@@ -17,19 +17,20 @@ use Rattle.http_desk.specs.declared.serving.Ended.TheVariants as ended
 use Rattle.http_desk.specs.Answered.{Answered, HasNoRoom, Served, requests, texts, last_tables, failures}
 use Rattle.http_desk.specs.Answered.{all_most_calls}
 use Rattle.http_desk.specs.Answered.{all_sure_calls}
+use Rattle.http_desk.specs.Fronts.{Front}
 use Rattle.http_desk.specs.Refusals.{refused_rest, refusal_text}
 use Rattle.http_desk.specs.Scenes.{Scene, Later, RoseBy, RoseWithin}
 
--- these bytes were taken, and these requests at their front answered, up to a rest
-pub record Progress (limit : ℕ) (old new : Scene) (taken : List ℕ) (answers : List Answered) (rest : List ℕ) : Type 0
-  where
-    pub took : Consumes old.left new.left taken
-    pub begins : Begins taken (requests answers) rest
-    pub served : Served limit 0 old.tables answers
-    pub tables : new.tables ≡ last_tables old.tables answers
-    pub told : IfTold new.told new.tables
-    pub failed : RoseBy (failures answers) old.uses.faults new.uses.faults
-    pub called : RoseWithin (all_sure_calls answers) (all_most_calls answers) old.uses.calls new.uses.calls
+-- these bytes were taken, and these requests, with which they begin, answered over a front, up to a rest
+pub record Progress (front : Front) (limit : ℕ) (old new : Scene) (taken : List ℕ) (answers : List Answered)
+    (rest : List ℕ) : Type 0 where
+  pub took : Consumes old.left new.left taken
+  pub begins : Begins taken (requests answers) rest
+  pub served : Served front limit 0 old.tables answers
+  pub tables : new.tables ≡ last_tables old.tables answers
+  pub told : IfTold new.told new.tables
+  pub failed : RoseBy (failures answers) old.uses.faults new.uses.faults
+  pub called : RoseWithin (all_sure_calls answers) (all_most_calls answers) old.uses.calls new.uses.calls
 
 -- the source had these bytes left, where it told them
 abbrev pub IfShown : Option (List ℕ) → List ℕ → Type 0
@@ -104,15 +105,15 @@ module _ (limit : ℕ) (old new : Scene) (bytes taken : List ℕ) (answers : Lis
   EndsStream ended.WriteFault = CutsWriting × Rose old.write_faults new.write_faults
   EndsStream ended.NoMemory = (length answers < limit) × WritesAll
 
--- what serving a stream leaves that ends so
-pub record Streams (limit : ℕ) (old new : Scene) (end : Ended) : Type 0 where
+-- what serving a stream over a front leaves that ends so
+pub record Streams (front : Front) (limit : ℕ) (old new : Scene) (end : Ended) : Type 0 where
   pub bytes : List ℕ
   pub after : List ℕ
   pub taken : List ℕ
   pub answers : List Answered
   pub rest : List ℕ
   pub left : Left old.left new.left taken bytes after
-  pub progress : Progress limit old new taken answers rest
+  pub progress : Progress front limit old new taken answers rest
   pub later : Later old new
   pub ends : EndsStream limit old new bytes taken answers rest after end
 
@@ -126,8 +127,8 @@ RunsOut takes old new answers rest = (CutsText old new answers × HasNoRoom take
     × HasNoRoom takes (texts answers ++ cut.text))
 
 -- no read failed, no answer says that the keeper did, and a write failed only for want of room for what was due
-pub record IsFaultless (takes : ℕ → Type 0) (limit : ℕ) (old new : Scene) (end : Ended) : Type 0 where
-  pub streams : Streams limit old new end
+pub record IsFaultless (front : Front) (takes : ℕ → Type 0) (limit : ℕ) (old new : Scene) (end : Ended) : Type 0 where
+  pub streams : Streams front limit old new end
   pub available : failures streams.answers ≡ 0
   pub read : end ≢ ended.ReadFault
   pub written : end ≡ ended.WriteFault

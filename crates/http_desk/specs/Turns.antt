@@ -12,6 +12,7 @@ use Rattle.http_cut.specs.Taking.{Reading, ReadsOn, ReadsNoFurther}
 use Rattle.http_desk.specs.declared.serving.Ended.{Ended}
 use Rattle.http_desk.specs.declared.serving.Ended.TheVariants as ended
 use Rattle.http_desk.specs.Answered.{Answered, failures}
+use Rattle.http_desk.specs.Fronts.{Front}
 use Rattle.http_desk.specs.Scenes.{Scene}
 use Rattle.http_desk.specs.Streams.{CutsText, RunsOut, Streams}
 
@@ -73,17 +74,17 @@ module _ {S : Type 0} (calls : S → S → ℕ → Result ℕ Failed → Type 0)
     pub turns : TakesTurns source last answers held
     pub ends : EndsTurns old new answers last held now rest end
 
-  -- a stream was served, and in this order
-  abbrev pub ServesPromptly : S → S → ℕ → Scene → Scene → Ended → Type 0
-  ServesPromptly source now limit old new end =
-      (streams : Streams limit old new end) × IsPrompt source now old new streams.answers streams.rest end
+  -- a stream was served over a front, and in this order
+  abbrev pub ServesPromptly : Front → S → S → ℕ → Scene → Scene → Ended → Type 0
+  ServesPromptly front source now limit old new end =
+      (streams : Streams front limit old new end) × IsPrompt source now old new streams.answers streams.rest end
 
-  -- what serving a stream leaves, over a source that is read without fail, a sink that takes so many bytes, and a
+  -- what serving a stream over a front leaves, over a source that is read without fail, a sink that takes so many bytes, and a
   -- keeper that keeps without fail, where they promise it: no read fails, a write only for want of room for what is
   -- due, and no answer says that the keeper failed
-  pub record Serves (source now : S) (reads : Type 0) (takes : ℕ → Type 0) (keeps : Type 0) (limit : ℕ)
-      (old new : Scene) (end : Ended) : Type 0 where
-    pub streams : Streams limit old new end
+  pub record Serves (front : Front) (source now : S) (reads : Type 0) (takes : ℕ → Type 0) (keeps : Type 0)
+      (limit : ℕ) (old new : Scene) (end : Ended) : Type 0 where
+    pub streams : Streams front limit old new end
     pub prompt : IsPrompt source now old new streams.answers streams.rest end
     pub read : reads → end ≢ ended.ReadFault
     pub written : end ≡ ended.WriteFault

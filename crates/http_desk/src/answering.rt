@@ -10,10 +10,11 @@ ghost use Rattle.machine_core.specs.Weighing.{IsSettleable};
 ghost use Rattle.desk_base.specs.Faults.{HasCause};
 ghost use Rattle.http_desk.specs.Answered.{IsAnswered, IsAsked, Responds, asks_head, text_bytes};
 ghost use Rattle.http_desk.specs.Checked.{Checked};
-ghost use Rattle.http_desk.specs.Commands.{command_for};
+ghost use Rattle.http_desk.specs.Fronts.{command_over};
 ghost use Rattle.http_desk.specs.Replies.{reply_text};
 
-use crate::commanding::command_for;
+use crate::commanding::command_over;
+use crate::front::Front;
 use crate::refusal::Refused;
 use crate::replying::{declined_text, reply_text};
 use crate::text::Text;
@@ -24,9 +25,10 @@ use keeper_core::Keeper;
 use machine_core::{Machine, SettleFail, Weighed};
 use std::alloc::Global;
 
-/// Answers a request that stands in the intake, and writes the response.
+/// Answers a request that stands in the intake, over a front, and writes the response.
 pub fn respond<M: Machine, K: Keeper, W: Sink>(
     alloc: Global,
+    front: &Front<'_>,
     intake: &Intake,
     machine: &mut M,
     keeper: &mut K,
@@ -37,7 +39,7 @@ pub fn respond<M: Machine, K: Keeper, W: Sink>(
     requires told { IfTold (K.tables keeper.old) (M.rows machine.old) }
     requires shows { (head : RequestHead) × ShowsRequest intake.now request.now head }
     ensures responds { (head : RequestHead) → ShowsRequest intake.now request.now head
-        → Responds (K.is_steady keeper.old) (W.takes sink.old) (W.takes sink.new) (M.rows machine.old) closing
+        → Responds front.now (K.is_steady keeper.old) (W.takes sink.old) (W.takes sink.new) (M.rows machine.old) closing
         (head, span_bytes intake.now request.now.body) (M.rows machine.new) (uses K.calls K.faults keeper.old)
         (uses K.calls K.faults keeper.new) (W.written sink.old) (W.written sink.new) result }
     ensures told { IfTold (K.tables keeper.new) (M.rows machine.new) }
@@ -47,6 +49,7 @@ pub fn respond<M: Machine, K: Keeper, W: Sink>(
 {
     let text = answer(
         alloc,
+        front,
         intake.routes(),
         machine,
         keeper,
@@ -60,6 +63,7 @@ pub fn respond<M: Machine, K: Keeper, W: Sink>(
 /// What is answered to a request, as its text. What it changes is kept.
 fn answer<M: Machine, K: Keeper>(
     alloc: Global,
+    front: &Front<'_>,
     routes: &Routes,
     machine: &mut M,
     keeper: &mut K,
@@ -71,7 +75,7 @@ fn answer<M: Machine, K: Keeper>(
     requires shows { (head : RequestHead) × ShowsRequest bytes.now request.now head }
     ensures answered { (head : RequestHead) → ShowsRequest bytes.now request.now head
         → IsAnswered (K.is_steady keeper.old) (M.rows machine.old)
-        (command_for (head, span_bytes bytes.now request.now.body)) closing
+        (command_over front.now (head, span_bytes bytes.now request.now.body)) closing
         (asks_head (head, span_bytes bytes.now request.now.body)) (M.rows machine.new) (text_bytes result)
         (uses K.calls K.faults keeper.old) (uses K.calls K.faults keeper.new) }
     ensures told { IfTold (K.tables keeper.new) (M.rows machine.new) }
@@ -79,7 +83,7 @@ fn answer<M: Machine, K: Keeper>(
     ensures steady { K.is_steady keeper.old → K.is_steady keeper.new }
 {
     let asks_head = request.method.of(bytes) == b"HEAD".as_slice();
-    match command_for(alloc, routes, bytes, request) {
+    match command_over(alloc, front, routes, bytes, request) {
         Ok(command) => perform(alloc, machine, keeper, &command, closing, asks_head),
         Err(why) => declined_text(alloc, &why, closing, asks_head),
     }

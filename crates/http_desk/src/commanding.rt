@@ -6,18 +6,39 @@ ghost use Rattle.http_cut.specs.Looks.{ShowsRequest};
 ghost use Rattle.machine_core.specs.Ticket.{IsNumbered};
 ghost use Rattle.http_desk.specs.Checked.{Finds};
 ghost use Rattle.http_desk.specs.Commands.{command_at, command_for};
+ghost use Rattle.http_desk.specs.Fronts.{command_over};
 
 use crate::asking::asked;
 use crate::declined::Declined;
 use crate::digest::digest_of;
+use crate::front::Front;
 use crate::parameters::route_in;
 use desk_json::command_of;
 use desk_words::{Command, Digest};
 use http_cut::{Request, RouteMatch, Routes};
 use std::alloc::Global;
 
+/// The command that a whole request is over a front, or why it is answered before the machine.
+pub fn command_over(
+    alloc: Global,
+    front: &Front<'_>,
+    routes: &Routes,
+    bytes: &[u8],
+    request: &Request,
+) -> Result<Command, Declined>
+    requires { (head : RequestHead) × ShowsRequest bytes.now request.now head }
+    ensures command { (head : RequestHead) → ShowsRequest bytes.now request.now head
+        → Finds result (command_over front.now (head, span_bytes bytes.now request.now.body)) }
+    ensures numbered { IfOk result (λ command. IsNumbered command) }
+{
+    match front.stop(bytes, request) {
+        Some(why) => Err(why),
+        None => command_for(alloc, routes, bytes, request),
+    }
+}
+
 /// The command that a whole request is, or the first test before the machine that it fails.
-pub fn command_for(
+fn command_for(
     alloc: Global,
     routes: &Routes,
     bytes: &[u8],

@@ -4,6 +4,7 @@ ghost use Rattle.http_desk.specs.declared.declined.Declined.TheVariants as decli
 ghost use Rattle.http_desk.specs.declared.refusal.Refused.TheVariants as refused;
 ghost use Rattle.http_desk.specs.Checked.{declined_for};
 
+use crate::front::Page;
 use crate::refusal::Refused;
 use desk_base::NoMemory;
 use desk_json::JsonFault;
@@ -13,6 +14,8 @@ use desk_json::JsonFault;
 pub enum Declined {
     /// It fails a test of its head, or there was no memory.
     Refused(Refused),
+    /// A page is shown.
+    Shown(Page),
     /// Its body is not what its route wants.
     BadBody(JsonFault),
 }

@@ -12,6 +12,8 @@ mod asking;
 mod commanding;
 mod declined;
 mod digest;
+mod front;
+mod guard;
 pub mod laws;
 mod parameters;
 mod refusal;
@@ -22,6 +24,7 @@ mod status;
 mod text;
 
 pub use declined::Declined;
+pub use front::{Front, Page};
 pub use parameters::route_in;
 pub use refusal::Refused;
 pub use responses::response;

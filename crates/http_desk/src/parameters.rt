@@ -218,6 +218,7 @@ fn desk_route(
         DeskRoute::CheckEdition => Ok(Route::CheckEdition {
             name: text_at(alloc, found, "name")?,
         }),
+        DeskRoute::DeskDump => Ok(Route::DeskDump),
     }
 }
 

@@ -7,6 +7,8 @@ use http_cut::BadRest;
 /// Why a request, or the rest of a stream, is answered without the machine's reply.
 #[derive(Clone, Copy, Debug, PartialEq, Eq)]
 pub enum Refused {
+    /// It is foreign to the port that is guarded.
+    Origin,
     /// The target has no route.
     NoRoute,
     /// The route has another method.
@@ -90,6 +92,7 @@ impl Refused {
         ensures closing_to_head { result.closing_to_head.now ≡ refusal_text self true true }
     {
         match self {
+            Refused::Origin => texts_of!("403 Forbidden", "18", "origin"),
             Refused::NoRoute => texts_of!("404 Not Found", "20", "no_route"),
             Refused::OtherMethod => texts_of!("405 Method Not Allowed", "18", "method"),
             Refused::NoLength => texts_of!("411 Length Required", "18", "length"),

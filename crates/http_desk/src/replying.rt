@@ -16,11 +16,13 @@ ghost use Rattle.http_desk.specs.Replies.{published_type, reply_type};
 ghost use Rattle.http_desk.specs.Responses.{response};
 
 use crate::declined::Declined;
+use crate::front::Page;
 use crate::refusal::Refused;
 use crate::responses::response;
 use crate::status::{ContentType, Status};
 use crate::text::Text;
 use desk_base::{List, NoMemory};
+use desk_dump::dump_text;
 use desk_json::{JsonFault, fault_text, text_of};
 use desk_sheets::{contradictions_text, derived_text, records_text, report_text};
 use desk_words::{Publication, Refusal, Reply};
@@ -76,6 +78,7 @@ fn reply_body(alloc: Global, reply: &Reply) -> Result<List<u8>, NoMemory>
         Reply::Derived(sheet) => derived_text(alloc, sheet),
         Reply::Body(_, _) => unreachable!(),
         Reply::Contradictions(sheet) => contradictions_text(alloc, sheet),
+        Reply::Dump(tables) => dump_text(alloc, tables),
         _ => text_of(alloc, reply),
     }
 }
@@ -97,6 +100,7 @@ fn reply_type(reply: &Reply) -> ContentType
         Reply::Report(_) => ContentType::Text,
         Reply::Records(_) | Reply::Derived(_) | Reply::Contradictions(_) => ContentType::Csv,
         Reply::Body(what, _) => published_type(*what),
+        Reply::Dump(_) => ContentType::Lines,
         _ => ContentType::Json,
     }
 }
@@ -133,11 +137,47 @@ pub fn declined_text(alloc: Global, why: &Declined, closing: bool, asks_head: bo
 {
     match why {
         Declined::Refused(refusal) => Text::Fixed(refusal.text(closing, asks_head)),
-        Declined::BadBody(fault) => match bad_body_text(alloc, fault, closing, asks_head) {
-            Ok(text) => Text::Made(text),
-            Err(NoMemory) => Text::Fixed(Refused::NoMemory.text(closing, asks_head)),
-        },
+        Declined::Shown(page) => or_no_memory(
+            page_text(alloc, page, closing, asks_head),
+            closing,
+            asks_head,
+        ),
+        Declined::BadBody(fault) => or_no_memory(
+            bad_body_text(alloc, fault, closing, asks_head),
+            closing,
+            asks_head,
+        ),
     }
+}
+
+/// A text that was made, or the response to what there was no memory for.
+fn or_no_memory(text: Result<Vec<u8>, NoMemory>, closing: bool, asks_head: bool) -> Text
+    ensures made { (bytes : List ℕ) → IfOk text (λ made. made.items ≡ bytes)
+        → (text_bytes result ≡ bytes) ⊎ (text_bytes result ≡ refusal_text refused.NoMemory closing asks_head) }
+{
+    match text {
+        Ok(text) => Text::Made(text),
+        Err(NoMemory) => Text::Fixed(Refused::NoMemory.text(closing, asks_head)),
+    }
+}
+
+/// The response that shows a page.
+fn page_text(
+    alloc: Global,
+    page: &Page,
+    closing: bool,
+    asks_head: bool,
+) -> Result<Vec<u8>, NoMemory>
+    ensures { IfOk result (λ text. text.items ≡ declined_text (Declined.Shown page.now) closing asks_head) }
+{
+    response(
+        alloc,
+        Status::Ok,
+        page.kind,
+        page.text.as_bytes(),
+        closing,
+        asks_head,
+    )
 }
 
 /// The response to a body that is not what its route wants.

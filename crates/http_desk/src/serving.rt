@@ -7,6 +7,7 @@ ghost use Rattle.http_desk.specs.Streams.{IsEndOf, IsFaultless, RefusesRest, Str
 ghost use Rattle.http_desk.specs.Turns.{Serves, ServesPromptly};
 
 use crate::answering::respond;
+use crate::front::Front;
 use crate::refusal::Refused;
 use desk_base::{Both, Failed, NoMemory, Sink, Source, write_all};
 use http_cut::{BadRest, Intake, IntakeFault, Step};
@@ -37,9 +38,10 @@ pub enum Ended {
     NoMemory,
 }
 
-/// Answers the requests that a link has left, up to a limit, in their order.
+/// Answers the requests that a link has left, over a front, up to a limit, in their order.
 pub fn serve_stream<M: Machine, K: Keeper, S: Source, W: Sink>(
     alloc: Global,
+    front: &Front<'_>,
     machine: &mut M,
     keeper: &mut K,
     link: &mut Both<S, W>,
@@ -51,12 +53,12 @@ pub fn serve_stream<M: Machine, K: Keeper, S: Source, W: Sink>(
     // The answered requests are the first of the stream's, and each reply and the tables after it are the machine's.
     ensures streams { let scene = scene S.left S.read_faults W.written W.write_faults M.rows K.tables K.calls
         K.faults in
-        Streams limit (scene link.old.source link.old.sink machine.old keeper.old)
+        Streams front.now limit (scene link.old.source link.old.sink machine.old keeper.old)
         (scene link.new.source link.new.sink machine.new keeper.new) result }
 
     // Each request is answered before the source is read on, and nothing is read after the one that reaches the limit.
     ensures prompt { let scene = scene S.left S.read_faults W.written W.write_faults M.rows K.tables K.calls K.faults in
-        ServesPromptly S.reads link.old.source link.new.source limit
+        ServesPromptly S.reads front.now link.old.source link.new.source limit
         (scene link.old.source link.old.sink machine.old keeper.old)
         (scene link.new.source link.new.sink machine.new keeper.new) result }
 
@@ -64,11 +66,11 @@ pub fn serve_stream<M: Machine, K: Keeper, S: Source, W: Sink>(
     ensures complete { let scene = scene S.left S.read_faults W.written W.write_faults M.rows K.tables K.calls
         K.faults in
         S.is_steady link.old.source → K.is_steady keeper.old
-        → IsFaultless (W.takes link.old.sink) limit (scene link.old.source link.old.sink machine.old keeper.old)
+        → IsFaultless front.now (W.takes link.old.sink) limit (scene link.old.source link.old.sink machine.old keeper.old)
         (scene link.new.source link.new.sink machine.new keeper.new) result }
 {
     match Intake::new(alloc) {
-        Ok(mut intake) => serve_link(alloc, &mut intake, machine, keeper, link, limit),
+        Ok(mut intake) => serve_link(alloc, front, &mut intake, machine, keeper, link, limit),
         Err(NoMemory) => Ended::NoMemory,
     }
 }
@@ -76,6 +78,7 @@ pub fn serve_stream<M: Machine, K: Keeper, S: Source, W: Sink>(
 /// The same, with an intake that serves the links of many streams, one after another.
 pub fn serve_link<M: Machine, K: Keeper, S: Source, W: Sink>(
     alloc: Global,
+    front: &Front<'_>,
     intake: &mut Intake,
     machine: &mut M,
     keeper: &mut K,
@@ -86,21 +89,22 @@ pub fn serve_link<M: Machine, K: Keeper, S: Source, W: Sink>(
     requires told { IfTold (K.tables keeper.old) (M.rows machine.old) }
     ensures streams { let scene = scene S.left S.read_faults W.written W.write_faults M.rows K.tables K.calls
         K.faults in
-        Streams limit (scene link.old.source link.old.sink machine.old keeper.old)
+        Streams front.now limit (scene link.old.source link.old.sink machine.old keeper.old)
         (scene link.new.source link.new.sink machine.new keeper.new) result }
     ensures prompt { let scene = scene S.left S.read_faults W.written W.write_faults M.rows K.tables K.calls K.faults in
-        ServesPromptly S.reads link.old.source link.new.source limit
+        ServesPromptly S.reads front.now link.old.source link.new.source limit
         (scene link.old.source link.old.sink machine.old keeper.old)
         (scene link.new.source link.new.sink machine.new keeper.new) result }
     ensures complete { let scene = scene S.left S.read_faults W.written W.write_faults M.rows K.tables K.calls
         K.faults in
         S.is_steady link.old.source → K.is_steady keeper.old
-        → IsFaultless (W.takes link.old.sink) limit (scene link.old.source link.old.sink machine.old keeper.old)
+        → IsFaultless front.now (W.takes link.old.sink) limit (scene link.old.source link.old.sink machine.old keeper.old)
         (scene link.new.source link.new.sink machine.new keeper.new) result }
 {
     intake.clear();
     serve(
         alloc,
+        front,
         intake,
         machine,
         keeper,
@@ -113,6 +117,7 @@ pub fn serve_link<M: Machine, K: Keeper, S: Source, W: Sink>(
 /// Answers the requests of a source in a sink, with an intake that holds no bytes.
 fn serve<M: Machine, K: Keeper, S: Source, W: Sink>(
     alloc: Global,
+    front: &Front<'_>,
     intake: &mut Intake,
     machine: &mut M,
     keeper: &mut K,
@@ -124,7 +129,7 @@ fn serve<M: Machine, K: Keeper, S: Source, W: Sink>(
     requires empty { intake.old ≡ [] }
     requires told { IfTold (K.tables keeper.old) (M.rows machine.old) }
     ensures { let scene = scene S.left S.read_faults W.written W.write_faults M.rows K.tables K.calls K.faults in
-        Serves S.reads source.old source.new (S.is_steady source.old) (W.takes sink.old) (K.is_steady keeper.old) limit
+        Serves S.reads front.now source.old source.new (S.is_steady source.old) (W.takes sink.old) (K.is_steady keeper.old) limit
         (scene source.old sink.old machine.old keeper.old) (scene source.new sink.new machine.new keeper.new) result }
 {
     let mut answered: u32 = 0;
@@ -140,7 +145,9 @@ fn serve<M: Machine, K: Keeper, S: Source, W: Sink>(
         };
         answered += 1;
         let closing = answered == limit;
-        match respond(alloc, intake, machine, keeper, sink, &request, closing) {
+        match respond(
+            alloc, front, intake, machine, keeper, sink, &request, closing,
+        ) {
             Ok(()) => intake.skip(request.body.end),
             Err(Failed) => return Ended::WriteFault,
         }

@@ -8,6 +8,7 @@ pub enum Status {
     Ok,
     Created,
     BadRequest,
+    Forbidden,
     NotFound,
     MethodNotAllowed,
     Conflict,
@@ -28,6 +29,7 @@ impl Status {
             Status::Ok => 200,
             Status::Created => 201,
             Status::BadRequest => 400,
+            Status::Forbidden => 403,
             Status::NotFound => 404,
             Status::MethodNotAllowed => 405,
             Status::Conflict => 409,
@@ -48,6 +50,7 @@ impl Status {
             Status::Ok => "OK",
             Status::Created => "Created",
             Status::BadRequest => "Bad Request",
+            Status::Forbidden => "Forbidden",
             Status::NotFound => "Not Found",
             Status::MethodNotAllowed => "Method Not Allowed",
             Status::Conflict => "Conflict",
@@ -68,6 +71,11 @@ pub enum ContentType {
     Text,
     Csv,
     Toml,
+    Html,
+    Css,
+    Script,
+    /// JSON, a value a line.
+    Lines,
 }
 
 impl ContentType {
@@ -80,6 +88,10 @@ impl ContentType {
             ContentType::Text => "text/plain",
             ContentType::Csv => "text/csv",
             ContentType::Toml => "application/toml",
+            ContentType::Html => "text/html",
+            ContentType::Css => "text/css",
+            ContentType::Script => "text/javascript",
+            ContentType::Lines => "application/jsonl",
         }
     }
 }

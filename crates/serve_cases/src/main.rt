@@ -1,5 +1,5 @@
-//! Tries the cases in `data/`: calls of `serve` over doors, keepers and outputs in memory, with the desk of
-//! `session_machine`.
+//! Tries the cases in `data/`: calls of `serve` over doors, keepers and outputs in memory, and streams over a front, with
+//! the desk of `session_machine`.
 //!
 //! The words are the files of cases; a file's name up to its first `-` says what is tried. `docs/cases.md` says how a
 //! case is written, and the README which parts these have.
@@ -8,6 +8,7 @@
 mod answers;
 mod calls;
 mod doors;
+mod fronts;
 mod visits;
 
 use desk_cases::{Answer, Case, Part, Subject, try_files};
@@ -25,6 +26,7 @@ impl Subject for Serves {
         let name = part.name.as_str();
         match kind {
             "serve" => is_setting(name) || case.has_word(&NAMING, name),
+            "front" => matches!(name, "bytes" | "port") || case.has_word(&NAMING, name),
             _ => name == "words",
         }
     }
@@ -32,6 +34,7 @@ impl Subject for Serves {
     fn answer(&mut self, kind: &str, case: &Case, answer: &mut Answer) -> Result<(), Fail> {
         match kind {
             "serve" => visits::told(case, answer),
+            "front" => fronts::told(case, answer),
             "words" => visits::each(case, answer),
             _ => Err(Fail::new("a file of cases has an unknown kind")),
         }

@@ -21,9 +21,11 @@ use Rattle.http_desk.specs.Answered.{Answered, Answers, Outcome, Declines, Repli
 use Rattle.http_desk.specs.Answered.{asks_head, last_tables}
 use Rattle.http_desk.specs.Checked.{Checked, or_refused}
 use Rattle.http_desk.specs.Commands.{command_at, command_for, digest_of}
+use Rattle.http_desk.specs.Fronts.{Front, command_over}
 use Rattle.http_desk.specs.declared.refusal.Refused.TheVariants as refused
 use Rattle.http_desk.specs.Refusals.{asked, asked_of, method_name, says_length, wants_length}
 use Rattle.http_desk.proofs.Checked.{Ok-same, bind-Ok}
+use Rattle.http_desk.proofs.Fronts.{command_over-Ok}
 use Rattle.http_desk.proofs.Numbered.{command_for-numbered}
 use Rattle.machine_laws.specs.Callers.{Caller, asks}
 use Rattle.machine_laws.specs.Events.{AreAnswered, Event, has_changes, is_write_of, tables_after}
@@ -69,27 +71,31 @@ same-command (head, body) (other, text) command also target_same body_same is is
 
 -- ---- one request
 
-module _ (asks : Checked Command) (closing head : Bool) (after : Rows) (text : List ℕ) where
+-- what was asked over a front was asked of the machine
+module _ (over asks : Checked Command) (passes : (command : Command) → over ≡ Ok command → asks ≡ Ok command)
+    (closing head : Bool) (after : Rows) (text : List ℕ) where
   one-answered : (before : Rows) (outcome : Outcome) (others : List Event)
       → ((command : Command) → asks ≡ Ok command → IsNumbered command)
-      → Answers before asks closing head outcome after text → AreAnswered after others
+      → Answers before over closing head outcome after text → AreAnswered after others
       → AreAnswered before (event_for outcome asks ++ others)
   one-answered before (Declines why) others good (declined, same, is) rest =
       subst (λ rows. AreAnswered rows others) same rest
   one-answered before (Replied reply changes) others good (asked, made, is) rest =
       let Rest : Checked Command → Type 0 = λ one.
       AreAnswered before (event_for (Replied reply changes) one ++ others) in
-      subst Rest (sym asked.is)
-      (good asked.command asked.is, asked.step, subst (λ rows. AreAnswered rows others) made rest)
+      let is = passes asked.command asked.is in
+      subst Rest (sym is)
+      (good asked.command is, asked.step, subst (λ rows. AreAnswered rows others) made rest)
   one-answered before Unavailable others good (asked, same, is) rest = subst (λ rows. AreAnswered rows others) same rest
   one-answered before NoMemory others good (same, is) rest = subst (λ rows. AreAnswered rows others) same rest
 
   one-leaves : (before : Rows) (outcome : Outcome) (others : List Event)
-      → Answers before asks closing head outcome after text
+      → Answers before over closing head outcome after text
       → tables_after before (event_for outcome asks ++ others) ≡ tables_after after others
   one-leaves before (Declines why) others (declined, same, is) = ap (λ rows. tables_after rows others) (sym same)
   one-leaves before (Replied reply changes) others (asked, made, is) =
-      ap (λ (one : Checked Command). tables_after before (event_for (Replied reply changes) one ++ others)) asked.is
+      ap (λ (one : Checked Command). tables_after before (event_for (Replied reply changes) one ++ others))
+      (passes asked.command asked.is)
       ∙ ap (λ rows. tables_after rows others) (sym made)
   one-leaves before Unavailable others (asked, same, is) = ap (λ rows. tables_after rows others) (sym same)
   one-leaves before NoMemory others (same, is) = ap (λ rows. tables_after rows others) (sym same)
@@ -103,31 +109,31 @@ listed-valid rows [] valid steps = valid
 listed-valid rows (event ∷ events) valid steps = listed-valid (changed_all rows event.changes) events
     (next-valid rows event valid steps.0 steps.1) steps.2
 
-module _ (limit : ℕ) where
-  pub stream-answered : (count : ℕ) (before : Rows) (answers : List Answered) → Served limit count before answers
+module _ (front : Front) (limit : ℕ) where
+  pub stream-answered : (count : ℕ) (before : Rows) (answers : List Answered) → Served front limit count before answers
       → AreAnswered before (events_of answers)
   stream-answered count before [] served = tt
   stream-answered count before (a ∷ answers) (served, rest) =
-      one-answered (command_for a.request) ((count + 1) == limit) (asks_head a.request) a.tables a.text before a.outcome
+      one-answered (command_over front a.request) (command_for a.request) (command_over-Ok front a.request) ((count + 1) == limit) (asks_head a.request) a.tables a.text before a.outcome
       (events_of answers) (command_for-numbered a.request) served (stream-answered (count + 1) a.tables answers rest)
 
-  pub stream-leaves : (count : ℕ) (before : Rows) (answers : List Answered) → Served limit count before answers
+  pub stream-leaves : (count : ℕ) (before : Rows) (answers : List Answered) → Served front limit count before answers
       → tables_after before (events_of answers) ≡ last_tables before answers
   stream-leaves count before [] served = refl
   stream-leaves count before (a ∷ answers) (served, rest) =
-      one-leaves (command_for a.request) ((count + 1) == limit) (asks_head a.request) a.tables a.text before a.outcome
+      one-leaves (command_over front a.request) (command_for a.request) (command_over-Ok front a.request) ((count + 1) == limit) (asks_head a.request) a.tables a.text before a.outcome
       (events_of answers) served ∙ stream-leaves (count + 1) a.tables answers rest
 
   -- what comes after the first requests of a stream is a stream over the tables that they leave
   pub stream-following : (count : ℕ) (before : Rows) (earlier answers : List Answered)
-      → Served limit count before (earlier ++ answers)
-      → (later : ℕ) × Served limit later (last_tables before earlier) answers × Served limit count before earlier
+      → Served front limit count before (earlier ++ answers)
+      → (later : ℕ) × Served front limit later (last_tables before earlier) answers × Served front limit count before earlier
   stream-following count before [] answers served = (count, served, tt)
   stream-following count before (a ∷ earlier) answers (served, rest) =
       let following = stream-following (count + 1) a.tables earlier answers rest in
       (following.0, following.1, (served, following.2))
 
-  pub stream-valid : (count : ℕ) (before : Rows) (answers : List Answered) → Served limit count before answers
+  pub stream-valid : (count : ℕ) (before : Rows) (answers : List Answered) → Served front limit count before answers
       → AreValid before → AreValid (last_tables before answers)
   stream-valid count before answers served valid = subst AreValid (stream-leaves count before answers served)
       (listed-valid before (events_of answers) valid (stream-answered count before answers served))
@@ -148,16 +154,16 @@ pub event-at : (a : Answered) (command : Command) (reply : Reply) (changes : Lis
 event-at a command reply changes is replied = rw (replied, is) refl
 
 -- the last request of a stream was a command, where the machine replied to it
-last-asked : (limit count : ℕ) (before : Rows) (front : List Answered) (last : Answered) (reply : Reply)
-    (changes : List Change) → Served limit count before (front ++ last ∷ []) → last.outcome ≡ Replied reply changes
+last-asked : (front : Front) (limit count : ℕ) (before : Rows) (earlier : List Answered) (last : Answered) (reply : Reply)
+    (changes : List Change) → Served front limit count before (earlier ++ last ∷ []) → last.outcome ≡ Replied reply changes
     → (command : Command) × (command_for last.request ≡ Ok command)
-last-asked limit count before [] last reply changes (served, rest) replied =
-    let Answers_so : Outcome → Type 0 = λ one. Answers before (command_for last.request) ((count + 1) == limit)
+last-asked front limit count before [] last reply changes (served, rest) replied =
+    let Answers_so : Outcome → Type 0 = λ one. Answers before (command_over front last.request) ((count + 1) == limit)
     (asks_head last.request) one last.tables last.text in
     let made = subst Answers_so replied served in
-    (made.0.command, made.0.is)
-last-asked limit count before (a ∷ front) last reply changes (served, rest) replied =
-    last-asked limit (count + 1) a.tables front last reply changes rest replied
+    (made.0.command, command_over-Ok front last.request made.0.command made.0.is)
+last-asked front limit count before (a ∷ earlier) last reply changes (served, rest) replied =
+    last-asked front limit (count + 1) a.tables earlier last reply changes rest replied
 
 -- something is changed
 pub some-changes : (changes : List Change) → changes ≢ [] → has_changes changes ≡ true
@@ -165,18 +171,18 @@ some-changes [] some = absurd (some refl)
 some-changes (change ∷ changes) some = refl
 
 -- a request of a stream that has the path and the body of an earlier one
-pub record Repeated (limit count : ℕ) (before : Rows) (command : Command) (one again : Answered)
+pub record Repeated (front : Front) (limit count : ℕ) (before : Rows) (command : Command) (one again : Answered)
     (between : List Answered) (reply answer : Reply) (changes others : List Change) : Type 0 where
-  pub served : Served limit count before (one ∷ (between ++ again ∷ []))
+  pub served : Served front limit count before (one ∷ (between ++ again ∷ []))
   pub target : again.request.0.target ≡ one.request.0.target
   pub body : again.request.1 ≡ one.request.1
   pub is : command_for one.request ≡ Ok command
   pub first : one.outcome ≡ Replied reply changes
   pub second : again.outcome ≡ Replied answer others
 
-module _ (limit count : ℕ) (before : Rows) (caller : Caller) (command : Command) (one again : Answered)
+module _ (front : Front) (limit count : ℕ) (before : Rows) (caller : Caller) (command : Command) (one again : Answered)
     (between : List Answered) (reply answer : Reply) (changes others : List Change)
-    (repeated : Repeated limit count before command one again between reply answer changes others) where
+    (repeated : Repeated front limit count before command one again between reply answer changes others) where
   abbrev event : Event
   event = record { command = command; answer = reply; changes = changes }
 
@@ -186,20 +192,20 @@ module _ (limit count : ℕ) (before : Rows) (caller : Caller) (command : Comman
   -- to the machine they are one request, asked twice
   repeated-steps : AreAnswered before (event ∷ (events_of between ++ repeat ∷ []))
   repeated-steps =
-      let asked_again = last-asked limit count before (one ∷ between) again answer others repeated.served
+      let asked_again = last-asked front limit count before (one ∷ between) again answer others repeated.served
       repeated.second in
       let again_is : command_for again.request ≡ Ok command =
       subst (λ what. command_for again.request ≡ Ok what)
       (same-command again.request one.request asked_again.0 command repeated.target repeated.body asked_again.1
       repeated.is) asked_again.1 in
       let listed : events_of (one ∷ (between ++ again ∷ [])) ≡ event ∷ (events_of between ++ repeat ∷ []) =
-      ap (λ front. front ++ events_of (between ++ again ∷ []))
+      ap (λ first. first ++ events_of (between ++ again ∷ []))
       (event-at one command reply changes repeated.is repeated.first)
       ∙ ap (λ rest. event ∷ rest) (events_of-then between (again ∷ [])
       ∙ ap (λ last. events_of between ++ (last ++ []))
       (event-at again command answer others again_is repeated.second)) in
       subst (AreAnswered before) listed
-      (stream-answered limit count before (one ∷ (between ++ again ∷ [])) repeated.served)
+      (stream-answered front limit count before (one ∷ (between ++ again ∷ [])) repeated.served)
 
   pub acts-once : AreValid before → asks caller command ≡ true → changes ≢ []
       → All (λ one. is_write_of caller one ≡ false) (events_of between)

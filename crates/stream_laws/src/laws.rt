@@ -1,4 +1,4 @@
-//! What holds of the requests of a stream, by the laws of the session machine.
+//! What holds of the requests of a stream over any front, by the laws of the session machine.
 ghost use Rattle.std.specs.Prelude.{◌≡◌, ◌≢◌, ℕ, All, List, [], ◌∷◌, ◌++◌, true, false, Ok};
 ghost use Rattle.desk_words.specs.declared.change.Change.{Change as ChangeOf};
 ghost use Rattle.desk_words.specs.declared.command.Command.{Command as CommandOf};
@@ -12,6 +12,7 @@ ghost use Rattle.desk_words.specs.Tables.{Rows, rows_of};
 ghost use Rattle.desk_valid.specs.Valid.{AreValid};
 ghost use Rattle.http_desk.specs.Answered.{Answered, Replied, Served, last_tables};
 ghost use Rattle.http_desk.specs.Commands.{command_for};
+ghost use Rattle.http_desk.specs.Fronts.{Front};
 ghost use Rattle.machine_laws.specs.Callers.{Caller, asks};
 ghost use Rattle.machine_laws.specs.Events.{AreAnswered, answers_to, commands_of, is_write_of, tables_after};
 ghost use Rattle.machine_laws.specs.Events.{without_others};
@@ -26,11 +27,11 @@ use desk_words::Tables;
 /// valid where those before it were. So the laws of `machine_laws` over lists of requests hold of the requests of a
 /// stream.
 pub fn a_stream_is_requests_one_after_another(limit: u32)
-    ensures answered { (count : ℕ) (before : Rows) (answers : List Answered) → Served limit count before answers
+    ensures answered { (front : Front) (count : ℕ) (before : Rows) (answers : List Answered) → Served front limit count before answers
         → AreAnswered before (events_of answers) }
-    ensures tables { (count : ℕ) (before : Rows) (answers : List Answered) → Served limit count before answers
+    ensures tables { (front : Front) (count : ℕ) (before : Rows) (answers : List Answered) → Served front limit count before answers
         → tables_after before (events_of answers) ≡ last_tables before answers }
-    ensures valid { (count : ℕ) (before : Rows) (answers : List Answered) → Served limit count before answers
+    ensures valid { (front : Front) (count : ℕ) (before : Rows) (answers : List Answered) → Served front limit count before answers
         → AreValid before → AreValid (last_tables before answers) }
 {}
 
@@ -38,9 +39,9 @@ pub fn a_stream_is_requests_one_after_another(limit: u32)
 /// same reply and changes nothing.
 pub fn equal_requests_act_once(limit: u32, tables: &Tables)
     requires { AreValid (rows_of tables.now) }
-    ensures { (count : ℕ) (caller : Caller) (command : CommandOf) (earlier between : List Answered)
+    ensures { (front : Front) (count : ℕ) (caller : Caller) (command : CommandOf) (earlier between : List Answered)
         (one again : Answered) (reply answer : ReplyOf) (changes others : List ChangeOf)
-        → Served limit count (rows_of tables.now) (earlier ++ one ∷ (between ++ again ∷ []))
+        → Served front limit count (rows_of tables.now) (earlier ++ one ∷ (between ++ again ∷ []))
         → again.request.0.target ≡ one.request.0.target → again.request.1 ≡ one.request.1
         → command_for one.request ≡ Ok command → asks caller command ≡ true
         → one.outcome ≡ Replied reply changes → changes ≢ []
@@ -52,9 +53,9 @@ pub fn equal_requests_act_once(limit: u32, tables: &Tables)
 /// With an accepted write of that caller between it is stale, and changes nothing.
 pub fn passed_requests_are_stale(limit: u32, tables: &Tables)
     requires { AreValid (rows_of tables.now) }
-    ensures { (count : ℕ) (caller : Caller) (command : CommandOf) (earlier between : List Answered)
+    ensures { (front : Front) (count : ℕ) (caller : Caller) (command : CommandOf) (earlier between : List Answered)
         (one again : Answered) (reply answer : ReplyOf) (changes others : List ChangeOf)
-        → Served limit count (rows_of tables.now) (earlier ++ one ∷ (between ++ again ∷ []))
+        → Served front limit count (rows_of tables.now) (earlier ++ one ∷ (between ++ again ∷ []))
         → again.request.0.target ≡ one.request.0.target → again.request.1 ≡ one.request.1
         → command_for one.request ≡ Ok command → asks caller command ≡ true
         → one.outcome ≡ Replied reply changes → changes ≢ []
@@ -67,9 +68,9 @@ pub fn passed_requests_are_stale(limit: u32, tables: &Tables)
 /// and its version is replied, byte for byte, whatever was asked between.
 pub fn published_bodies_are_shown(limit: u32, tables: &Tables)
     requires { AreValid (rows_of tables.now) }
-    ensures { (count : ℕ) (earlier between later : List Answered) (publishing look : Answered)
+    ensures { (front : Front) (count : ℕ) (earlier between later : List Answered) (publishing look : Answered)
         (what : PublicationOf) (name : List ℕ) (version : ℕ) (answer : ReplyOf) (changes : List ChangeOf)
-        → Served limit count (rows_of tables.now) (earlier ++ publishing ∷ (between ++ look ∷ later))
+        → Served front limit count (rows_of tables.now) (earlier ++ publishing ∷ (between ++ look ∷ later))
         → PublishesItsBody publishing what name version
         → command_for look.request ≡ Ok (Desk (Body what name version)) → look.outcome ≡ Replied answer changes
         → answer ≡ Shown what publishing.request.1 }
@@ -78,8 +79,8 @@ pub fn published_bodies_are_shown(limit: u32, tables: &Tables)
 /// What a clerk is replied in a stream is what is replied in a stream without the requests of other clerks.
 pub fn streams_isolate_clerks(limit: u32, tables: &Tables, name: &Str)
     requires { AreValid (rows_of tables.now) }
-    ensures { (count number : ℕ) (answers others : List Answered)
-        → Served limit count (rows_of tables.now) answers → Served limit number (rows_of tables.now) others
+    ensures { (front : Front) (count number : ℕ) (answers others : List Answered)
+        → Served front limit count (rows_of tables.now) answers → Served front limit number (rows_of tables.now) others
         → commands_of (events_of others) ≡ commands_of (without_others name.now (events_of answers))
         → answers_to name.now (events_of others) ≡ answers_to name.now (events_of answers) }
 {}

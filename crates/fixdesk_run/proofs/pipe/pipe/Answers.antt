@@ -18,7 +18,7 @@ returns-in-Ok-clause-ended g c =
     used (g.M.Machine.rows c.in-Ok.machine)
     (g.M.Machine.rows c.serve_stream.new.machine) c.serve_stream.result c.in-Ok.ensures.started
     c.in-Ok.ensures.kept (is_loaded old.uses used c.start.ensures.called c.in-Ok.ensures.faults)
-    c.serve_stream.ensures.streams))
+    (rw c.bare.ensures at c.serve_stream.ensures.streams)))
 
 pub returns-in-Ok-clause-complete : goal.returns-in-Ok-clause-complete
 returns-in-Ok-clause-complete g c reads keeps takes =
@@ -31,8 +31,8 @@ returns-in-Ok-clause-complete g c reads keeps takes =
     let rows = g.M.Machine.rows c.in-Ok.machine in
     rw c.end_status.ensures (inl (pipes_faultless (g.W.Sink.takes c.args.link.now.sink) c.args.limit old new told
     used rows (g.M.Machine.rows c.serve_stream.new.machine) c.serve_stream.result c.in-Ok.ensures.started
-    (is_loaded old.uses used c.start.ensures.called c.in-Ok.ensures.faults) (c.serve_stream.ensures.complete reads
-    (c.start.ensures.steady keeps).1)))
+    (is_loaded old.uses used c.start.ensures.called c.in-Ok.ensures.faults) (rw c.bare.ensures at (c.serve_stream.ensures.complete
+    reads (c.start.ensures.steady keeps).1))))
 
 -- no machine began
 pub returns-in-Err-clause-ended : goal.returns-in-Err-clause-ended

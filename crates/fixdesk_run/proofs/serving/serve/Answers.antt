@@ -1,5 +1,6 @@
 use Rattle.std.proofs.Common.{◌≡◌, ◌∙◌, ℕ, List, map, refl, sym, inl, inr, arith, string_bytes}
 use Rattle.std.specs.Prelude.{◌⊎◌, None, Some}
+use Rattle.http_desk.specs.Fronts.{bare}
 use Rattle.once_run.specs.Status.{status_code}
 use Rattle.fixdesk_run.specs.Plan.{plan_of}
 use Rattle.fixdesk_run.specs.Serve.{TakesTally, serve_usage, served_line}
@@ -37,17 +38,17 @@ returns-in-Ok-clause-leaves g c =
             c.start.new.keeper;
         started = c.in-Ok.ensures.started;
         held = λ other holding some. c.in-Ok.ensures.kept other holding
-            (EndsServing-no_more c.in-Some.plan _ (at c.args.out.now c.start.new.keeper c.args.door.now)
+            (EndsServing-no_more bare c.in-Some.plan _ (at c.args.out.now c.start.new.keeper c.args.door.now)
             (at c.serve_plan.new.out c.serve_plan.new.keeper c.serve_plan.new.door) c.serve_plan.result
-            c.serve_plan.ensures.ends some);
+            (rw c.bare.ensures at c.serve_plan.ensures.ends) some);
         called_once = is_loaded (uses g.K.Keeper.calls g.K.Keeper.faults c.args.keeper.now)
             (uses g.K.Keeper.calls g.K.Keeper.faults c.start.new.keeper) c.start.ensures.called c.in-Ok.ensures.faults;
         end = c.serve_plan.result;
         told = c.code-in-Ok.ensures;
-        ends = EndsServing-before c.in-Some.plan _ (at c.args.out.now c.start.new.keeper c.args.door.now)
+        ends = EndsServing-before bare c.in-Some.plan _ (at c.args.out.now c.start.new.keeper c.args.door.now)
             (g.K.Keeper.tables c.args.keeper.now) (uses g.K.Keeper.calls g.K.Keeper.faults c.args.keeper.now)
             (at c.serve_plan.new.out c.serve_plan.new.keeper c.serve_plan.new.door) c.serve_plan.result
-            c.serve_plan.ensures.ends;
+            (rw c.bare.ensures at c.serve_plan.ensures.ends);
       }));
       later = record {
         world = record {

@@ -13,7 +13,7 @@ links-init g c =
     g.L.Listener.waiting g.L.Listener.closed c.args.door.now in
     let all : c.args.count ≡ c.args.count - 0 = omega arith in
     record {
-      passed = PassesCount-none desk door c.requires.bound c.requires.idle;
+      passed = PassesCount-none c.args.front.now desk door c.requires.bound c.requires.idle;
       told = c.requires.told;
       later = omega arith;
       offers = λ offers. subst (λ (n : ℕ). g.L.Listener.offers c.args.door.now n) all offers;
@@ -31,7 +31,7 @@ links-preserved g c =
     let more : c.args.count - c.links.served ≡ left + 1 = omega (arith, c.links-test.true) in
     record {
       passed = rw (c.from-early.ensures, c.is_early.ensures)
-          (PassesCount-push (desk c.args.machine.now c.args.keeper.now) (desk c.links.machine c.links.keeper)
+          (PassesCount-push c.args.front.now (desk c.args.machine.now c.args.keeper.now) (desk c.links.machine c.links.keeper)
           (desk c.serve_next.new.machine c.serve_next.new.keeper) (seen c.args.door.now) (seen c.links.door)
           (seen c.serve_next.new.door) c.in_ok-end.end c.links.served c.links.early c.links.invariant.passed
           c.in_ok-end.ensures.passed);

@@ -10,7 +10,7 @@ invariant-links g l =
     let seen = door_seen g.L.Listener.door_faults g.L.Listener.port g.L.Listener.accepted g.L.Listener.live
     g.L.Listener.waiting g.L.Listener.closed in
     record {
-      passed : PassesCount (desk l.fn.machine l.fn.keeper) (desk l.machine l.keeper) (seen l.fn.door) (seen l.door)
+      passed : PassesCount l.front (desk l.fn.machine l.fn.keeper) (desk l.machine l.keeper) (seen l.fn.door) (seen l.door)
           l.served l.early;
       told : IfTold (g.K.Keeper.tables l.keeper) (g.M.Machine.rows l.machine);
       later : g.L.Listener.door_faults l.fn.door ≤ g.L.Listener.door_faults l.door;

@@ -4,7 +4,7 @@ use Rattle.std.specs.Str.{bytes_eq}
 use Rattle.httparse.specs.Spans.{span_bytes}
 use Rattle.keeper_core.specs.Keeping.{uses}
 use Rattle.http_desk.specs.Answered.{IsAnswered, text_bytes}
-use Rattle.http_desk.specs.Commands.{command_for}
+use Rattle.http_desk.specs.Fronts.{command_over}
 use Rattle.http_desk.proofs.Declining.{declined}
 use Rattle.http_desk.proofs.answering.answer.Goals as goal
 
@@ -15,7 +15,7 @@ returns-in-Err-clause-answered g c =
     let steady : Type 0 = g.K.Keeper.is_steady c.args.keeper.now in
     let rows = g.M.Machine.rows c.args.machine.now in
     let used = uses g.K.Keeper.calls g.K.Keeper.faults c.args.keeper.now in
-    let asks = command_for (head, span_bytes c.args.bytes.now c.args.request.now.body) in
+    let asks = command_over c.args.front.now (head, span_bytes c.args.bytes.now c.args.request.now.body) in
     let named : c.eq-asks_head.result ≡ bytes_eq c.of.result.now (codes "HEAD") = search rules in
     let method : c.of.result.now ≡ head.method =
     subst (λ (m : List ℕ). c.of.result.now ≡ m) shows.method c.of.ensures in

@@ -94,8 +94,8 @@ returns-in-Bad g c =
     c.in-Bad.is c.requests.invariant.serving c.in-Ok.ensures.fetched c.in-Ok.ensures.order
     c.next_step.ensures.later in
     ends_refused c.in-Bad.kind c.in-Bad.asks_head serving c.requests-test.true
-    (c.in-Ok.ensures.following_bad c.in-Bad.kind c.in-Bad.asks_head
-    (ap (λ (s : Step). Ok s) c.in-Bad.is)) found wrong asks
+    (c.in-Ok.ensures.following_bad c.in-Bad.kind c.in-Bad.asks_head (ap (λ
+    (s : Step). Ok s) c.in-Bad.is)) found wrong asks
     c.refuse.ensures refl refl refl refl refl
 
 -- as many requests were answered as may be

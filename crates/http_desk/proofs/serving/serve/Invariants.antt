@@ -9,7 +9,7 @@ invariant-requests g l =
     let at = scene g.S.Source.left g.S.Source.read_faults g.W.Sink.written g.W.Sink.write_faults g.M.Machine.rows
     g.K.Keeper.tables g.K.Keeper.calls g.K.Keeper.faults in
     record {
-      serving : Serving g.S.Source.reads l.fn.source l.source l.intake (g.K.Keeper.is_steady l.fn.keeper)
+      serving : Serving l.front g.S.Source.reads l.fn.source l.source l.intake (g.K.Keeper.is_steady l.fn.keeper)
           (g.W.Sink.takes l.fn.sink) (g.W.Sink.takes l.sink) l.limit
           (at l.fn.source l.fn.sink l.fn.machine l.fn.keeper) (at l.source l.sink l.machine l.keeper) l.answered
           l.intake;

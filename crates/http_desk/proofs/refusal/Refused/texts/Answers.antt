@@ -2,6 +2,10 @@ use Rattle.std.proofs.Common.{arith}
 use Rattle.std.specs.Fmt.{digits}
 use Rattle.http_desk.proofs.refusal.Refused.texts.Goals as goal
 
+pub returns-in-Origin : goal.returns-in-Origin
+unfolding digits
+returns-in-Origin c = grind arith
+
 pub returns-in-NoRoute : goal.returns-in-NoRoute
 unfolding digits
 returns-in-NoRoute c = grind arith

@@ -1,0 +1,95 @@
+//! Streams over a front.
+use desk_base::{Both, List, MemLink, MemSink, MemSource};
+use desk_cases::{Answer, Case};
+use desk_trials::{Script, fresh};
+use http_desk::{ContentType, Front, Page, serve_stream};
+use keeper_core::MemKeeper;
+use machine_core::Machine;
+use session_machine::Desk;
+use std::alloc::Global;
+use std::test::Fail;
+
+/// The pages that are shown. Two have one path, and one has that of a route.
+const PAGES: [Page; 6] = [
+    Page {
+        path: "/",
+        kind: ContentType::Html,
+        text: "<!DOCTYPE html>\n<title>Desk</title>\n",
+    },
+    Page {
+        path: "/page.css",
+        kind: ContentType::Css,
+        text: "body { margin: 0 }\n",
+    },
+    Page {
+        path: "/page.js",
+        kind: ContentType::Script,
+        text: "\"use strict\";\n",
+    },
+    Page {
+        path: "/twice",
+        kind: ContentType::Css,
+        text: "body { margin: 0 }\n",
+    },
+    Page {
+        path: "/twice",
+        kind: ContentType::Script,
+        text: "\"use strict\";\n",
+    },
+    Page {
+        path: "/desk/report",
+        kind: ContentType::Script,
+        text: "\"use strict\";\n",
+    },
+];
+
+/// The most requests of a stream.
+const LIMIT: u32 = 100;
+
+/// How many bytes a sink has room for.
+const ROOM: usize = 10_000;
+
+/// How many bytes a call of an end of a link moves at most.
+const CUT: usize = 65_536;
+
+/// What the bytes of a case are answered over its front by an empty desk, and the tables that are left.
+pub fn told(case: &Case, answer: &mut Answer) -> Result<(), Fail> {
+    let mut keeper = fresh(answer.alloc())?;
+    let told = told_over(case, &mut keeper, answer);
+    drop(keeper);
+    told
+}
+
+fn told_over(case: &Case, keeper: &mut MemKeeper, answer: &mut Answer) -> Result<(), Fail> {
+    add_stream(case, keeper, answer)?;
+    Script::new(answer.alloc()).add_tables(case, keeper, answer)
+}
+
+/// Adds what the bytes are answered by a desk over a keeper.
+fn add_stream(case: &Case, keeper: &mut MemKeeper, answer: &mut Answer) -> Result<(), Fail> {
+    let mut link = link(answer.alloc(), case.bytes("bytes")?)?;
+    match Desk::start(answer.alloc(), keeper) {
+        Ok(desk) => serve(answer.alloc(), case, desk, keeper, &mut link),
+        Err(_) => return Err(Fail::new("a desk did not begin")),
+    }
+    answer.bytes("wanted", link.sink.bytes())
+}
+
+/// Serves a link over the front of a case.
+fn serve(alloc: Global, case: &Case, mut desk: Desk, keeper: &mut MemKeeper, link: &mut MemLink) {
+    let pages = PAGES;
+    let front = match case.number("port") {
+        Some(port) => Front::guarded(port as u16, &pages),
+        None => Front::bare(),
+    };
+    let _end = serve_stream(alloc, &front, &mut desk, keeper, link, LIMIT);
+    drop(desk);
+}
+
+/// A link over these bytes.
+fn link(alloc: Global, bytes: &[u8]) -> Result<MemLink, Fail> {
+    let bytes = List::from_vec(Vec::from_slice(alloc, bytes)?);
+    let source = MemSource::new(bytes, CUT, List::new(alloc));
+    let sink = MemSink::new(alloc, CUT, ROOM, List::new(alloc))?;
+    Ok(Both { source, sink })
+}
