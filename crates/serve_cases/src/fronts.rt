@@ -68,22 +68,27 @@ fn told_over(case: &Case, keeper: &mut MemKeeper, answer: &mut Answer) -> Result
 /// Adds what the bytes are answered by a desk over a keeper.
 fn add_stream(case: &Case, keeper: &mut MemKeeper, answer: &mut Answer) -> Result<(), Fail> {
     let mut link = link(answer.alloc(), case.bytes("bytes")?)?;
-    match Desk::start(answer.alloc(), keeper) {
-        Ok(desk) => serve(answer.alloc(), case, desk, keeper, &mut link),
-        Err(_) => return Err(Fail::new("a desk did not begin")),
+    let pages = PAGES;
+    let front = match case.number("port") {
+        Some(port) if port <= 65_535 => Front::guarded(port as u16, &pages),
+        _ => Front::bare(),
+    };
+    if !is_served(answer.alloc(), &front, keeper, &mut link) {
+        return Err(Fail::new("a desk did not begin"));
     }
     answer.bytes("wanted", link.sink.bytes())
 }
 
-/// Serves a link over the front of a case.
-fn serve(alloc: Global, case: &Case, mut desk: Desk, keeper: &mut MemKeeper, link: &mut MemLink) {
-    let pages = PAGES;
-    let front = match case.number("port") {
-        Some(port) => Front::guarded(port as u16, &pages),
-        None => Front::bare(),
-    };
-    let _end = serve_stream(alloc, &front, &mut desk, keeper, link, LIMIT);
-    drop(desk);
+/// Serves a link over a front, and tells whether a desk began over the keeper.
+fn is_served(alloc: Global, front: &Front<'_>, keeper: &mut MemKeeper, link: &mut MemLink) -> bool {
+    match Desk::start(alloc, keeper) {
+        Ok(mut desk) => {
+            let _end = serve_stream(alloc, front, &mut desk, keeper, link, LIMIT);
+            drop(desk);
+            true
+        }
+        Err(_) => false,
+    }
 }
 
 /// A link over these bytes.
