@@ -31,7 +31,7 @@ pub fn tell(text: &mut String, alloc: Global, reply: &Reply) -> Result<(), Fail>
 /// A word for a body that is not read, and the text of its fault.
 pub fn tell_unread(text: &mut String, alloc: Global, fault: &JsonFault) -> Result<(), Fail> {
     text.push_str("unread ")?;
-    push(text, &fault_text(alloc, fault)?)
+    push(text, &fault_text(alloc, fault, None)?)
 }
 
 fn tell_records(text: &mut String, alloc: Global, sheet: &RecordSheet) -> Result<(), Fail> {

@@ -25,6 +25,7 @@ mod words;
 
 pub use commands::command_of;
 pub use fault::JsonFault;
-pub use replies::{fault_text, text_of};
+pub use refusals::fault_text;
+pub use replies::text_of;
 pub use route::Route;
 pub use shown::{Show, show_all};

@@ -3,7 +3,7 @@ ghost use Rattle.std.specs.Prelude.{◌≡◌, codes, IfOk, MatchOption, OnOk};
 ghost use Rattle.serde_json.specs.Data.{string};
 ghost use Rattle.serde_json.specs.Written.{compact_text};
 ghost use Rattle.json_parts.specs.Writing.{with_member, with_value};
-ghost use Rattle.desk_json.specs.Faults.{fault_at, fault_shown};
+ghost use Rattle.desk_json.specs.Faults.{fault_at, fault_saying};
 ghost use Rattle.desk_json.specs.Refusals.{bad_text, limit, plain, refusal_saying, refusal_shown, sentence_of, tells};
 ghost use Rattle.desk_json.specs.Refusals.{tells_last, unfit_shown};
 
@@ -153,27 +153,43 @@ fn bad_text(
     out.end_object()
 }
 
-impl Show for JsonFault {
-    ghost shown = { fault_shown };
+/// The JSON text of the fault of a body, with a sentence for a person where there is one: compact, with its keys in byte
+/// order (docs/api.md).
+pub fn fault_text(
+    alloc: Global,
+    fault: &JsonFault,
+    says: Option<&str>,
+) -> Result<List<u8>, NoMemory>
+    ensures { IfOk result (λ text. text ≡ compact_text (fault_saying fault.now (sentence_of says.entry))) }
+{
+    let mut out = JsonText::new(alloc)?;
+    show_fault(&mut out, fault, says)?;
+    Ok(out.into_bytes())
+}
 
-    fn show(&self, out: &mut JsonText) -> Result<(), AllocError> {
-        match self {
-            JsonFault::NotJson => at_key(out, "not_json", ""),
-            JsonFault::Missing(key) => at_key(out, "missing", key.as_str()),
-            JsonFault::WrongKind(key) => at_key(out, "wrong_kind", key.as_str()),
-            JsonFault::Unknown(key) => at_key(out, "unknown", key.as_str()),
-            JsonFault::NoMemory => plain(out, "no_memory", None),
-        }
+/// The fault of a body, with a sentence for a person where there is one.
+fn show_fault(out: &mut JsonText, fault: &JsonFault, says: Option<&str>) -> Result<(), AllocError>
+    ensures { OnOk result (out.new
+        ≡ with_value out.old (fault_saying fault.now (sentence_of says.entry))) }
+{
+    match fault {
+        JsonFault::NotJson => at_key(out, "not_json", "", says),
+        JsonFault::Missing(key) => at_key(out, "missing", key.as_str(), says),
+        JsonFault::WrongKind(key) => at_key(out, "wrong_kind", key.as_str(), says),
+        JsonFault::Unknown(key) => at_key(out, "unknown", key.as_str(), says),
+        JsonFault::NoMemory => plain(out, "no_memory", says),
     }
 }
 
 /// A fault of this kind at this key.
-fn at_key(out: &mut JsonText, kind: &str, key: &str) -> Result<(), AllocError>
-    ensures { OnOk result (out.new ≡ with_value out.old (fault_at kind.now key.now)) }
+fn at_key(out: &mut JsonText, kind: &str, key: &str, says: Option<&str>) -> Result<(), AllocError>
+    ensures { OnOk result (out.new
+        ≡ with_value out.old (fault_at kind.now key.now (sentence_of says.entry))) }
 {
     out.begin_object()?;
     field(out, "error", &"json")?;
     field(out, "fault", &kind)?;
     field(out, "key", &key)?;
+    said(out, says)?;
     out.end_object()
 }

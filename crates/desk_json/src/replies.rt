@@ -1,13 +1,11 @@
-//! How a reply is shown, and the texts of replies and of the faults of bodies.
+//! How a reply is shown, and the texts of replies.
 ghost use Rattle.std.specs.Prelude.{◌≡◌, ◌≢◌, option_map, None, Some, IfOk, OnOk};
 ghost use Rattle.serde_json.specs.Written.{compact_text};
 ghost use Rattle.json_parts.specs.Writing.{with_value};
-ghost use Rattle.desk_json.specs.Faults.{fault_shown};
 ghost use Rattle.desk_json.specs.Replies.{batched_shown, committed_shown, explained_shown, made_shown, clerk_shown};
 ghost use Rattle.desk_json.specs.Replies.{page_shown, region_shown, reply_shown, session_shown, suggested_shown};
 ghost use Rattle.desk_json.specs.Replies.{version_shown};
 
-use crate::fault::JsonFault;
 use crate::fits::fits_text;
 use crate::refusals::unfit_text;
 use crate::shown::{Show, field, text};
@@ -58,13 +56,6 @@ pub fn text_of(alloc: Global, reply: &Reply) -> Result<List<u8>, NoMemory>
         Reply::Derived(_) | Reply::Contradictions(_) => unreachable!(),
         Reply::Body(_, _) | Reply::Dump(_) => unreachable!(),
     }
-}
-
-/// The JSON text of the fault of a body: compact, with its keys in byte order (docs/api.md).
-pub fn fault_text(alloc: Global, fault: &JsonFault) -> Result<List<u8>, NoMemory>
-    ensures { IfOk result (λ text. text ≡ compact_text (fault_shown fault.now)) }
-{
-    text(alloc, fault)
 }
 
 /// What the steward made.

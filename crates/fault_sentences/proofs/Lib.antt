@@ -8,3 +8,4 @@ pub mod PrintableSchemas
 pub mod PrintableBindings
 pub mod PrintablePublished
 pub mod PrintableNotes
+pub mod PrintableProposals

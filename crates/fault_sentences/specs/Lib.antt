@@ -11,5 +11,6 @@ pub mod Bindings
 pub mod Records
 pub mod Sheets
 pub mod Published
+pub mod Proposals
 pub mod Schemas
 pub mod Notes

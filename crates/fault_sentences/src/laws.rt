@@ -3,6 +3,8 @@ ghost use Rattle.std.specs.Prelude.{ℕ, List, IfSome};
 ghost use Rattle.fault_sentences.specs.Bindings.{bind_sentence, index_sentence};
 ghost use Rattle.fault_sentences.specs.Notes.{absent_note, column_note, rules_told, schema_notes, sheet_notes};
 ghost use Rattle.fault_sentences.specs.Printable.{ArePrintable, IsPrintable};
+ghost use Rattle.fault_sentences.specs.Proposals.{key_form_sentence, no_json_sentence, no_key_sentence};
+ghost use Rattle.fault_sentences.specs.Proposals.{no_object_sentence, other_key_sentence};
 ghost use Rattle.fault_sentences.specs.Published.{absent_sentence, bad_name_sentence, cells_sentence, folded_sentence};
 ghost use Rattle.fault_sentences.specs.Published.{full_sentence, masters_sentence, twice_sentence};
 ghost use Rattle.fault_sentences.specs.Rules.{rules_sentence};
@@ -66,6 +68,15 @@ pub fn a_sentence_on_publishing_is_printable(
     ensures masters { IsPrintable (masters_sentence count) }
     ensures full { IsPrintable (full_sentence what count) }
     ensures cells { IsPrintable cells_sentence }
+{}
+
+/// The sentences on the body that proposes an edition are printable ASCII.
+pub fn a_sentence_on_a_proposal_is_printable(key: &str)
+    ensures no_json { IsPrintable no_json_sentence }
+    ensures no_object { IsPrintable no_object_sentence }
+    ensures no_key { IsPrintable (no_key_sentence key.now) }
+    ensures key_form { IsPrintable (key_form_sentence key.now) }
+    ensures other_key { IsPrintable (other_key_sentence key.now) }
 {}
 
 /// The notes on what is taken are printable ASCII: those on a schema, on a sheet and on a rule, and that on all rules

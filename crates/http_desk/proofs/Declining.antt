@@ -4,7 +4,7 @@ use Rattle.desk_words.specs.Tables.{Rows}
 use Rattle.desk_words.specs.declared.command.Command.{Command}
 use Rattle.keeper_core.specs.Keeping.{Uses}
 use Rattle.http_desk.specs.declared.declined.Declined.{Declined}
-use Rattle.http_desk.specs.declared.declined.Declined.TheVariants.{Refused, Shown, BadBody}
+use Rattle.http_desk.specs.declared.declined.Declined.TheVariants.{Refused, Shown, BadBody, BadProposal}
 use Rattle.http_desk.specs.declared.refusal.Refused.TheVariants as refused
 use Rattle.http_desk.specs.Answered.{IsAnswered, Declines, NoMemory}
 use Rattle.http_desk.specs.Checked.{Checked, Finds}
@@ -15,6 +15,7 @@ use Rattle.http_desk.proofs.Progress.{not_raised}
 -- it is want of memory, or something else
 is_want : (why : Declined) → (why ≡ Refused refused.NoMemory) ⊎ (why ≢ Refused refused.NoMemory)
 is_want (BadBody fault) = inr (λ e. cc)
+is_want (BadProposal fault) = inr (λ e. cc)
 is_want (Shown page) = inr (λ e. cc)
 is_want (Refused refused.Origin) = inr (λ e. cc)
 is_want (Refused refused.NoRoute) = inr (λ e. cc)

@@ -1,7 +1,7 @@
 -- The number of a write, which stands in its target, is one that a write may have.
 use Rattle.std.proofs.Common.{◌≡◌, ℕ, ◌^◌, ◌<◌, ◌≤◌, Bool, true, false, List, [], ◌∷◌}
 use Rattle.std.proofs.Common.{length, get_or, refl, subst, arith, Option, Some, None, Ok, Err}
-use Rattle.std.specs.Prelude.{◌==◌, ◌&&◌, if◌then◌else◌, nat_le, slice_index, option_and_then, codes, ⊤}
+use Rattle.std.specs.Prelude.{◌==◌, ◌&&◌, if◌then◌else◌, nat_le, slice_index, option_and_then, codes, ⊤, Result, IfOk}
 use Rattle.std.specs.Str.Parse.{digits_value}
 use Rattle.std.specs.Char.{is_ascii_digit}
 use Rattle.std.specs.List.{list_all}
@@ -27,6 +27,7 @@ use Rattle.http_cut.specs.Routes.{Match}
 use Rattle.http_cut.proofs.Decimal.{all_digits, digit_at, digit_value-ascii}
 use Rattle.desk_words.specs.declared.command.Command.{Command}
 use Rattle.desk_words.specs.declared.rows.clerk.Digest.{Digest}
+use Rattle.desk_json.specs.declared.fault.JsonFault.{JsonFault}
 use Rattle.desk_json.specs.declared.route.Route.{Route}
 use Rattle.desk_json.specs.Commands.{Asked, by_clerk, by_steward, seen_by, at_desk, asked_in, command_by, command_in}
 use Rattle.machine_core.specs.Ticket.{IsNumbered}
@@ -200,6 +201,13 @@ pub numbered : (found : Match) (route : Route) (digest : Digest) (body : List �
 numbered found route digest body command routed read =
     command_by-numbered (asked_in route body) digest command (route_in-number body found.0 found.1 route routed) read
 
+-- so has one that was read
+pub numbered_or : (found : Match) (route : Route) (digest : Digest) (body : List ℕ) (read : Result Command JsonFault)
+    → route_in found.0 found.1 ≡ Ok route → IfOk read (λ command. command_in route digest body ≡ Ok command)
+    → IfOk (or_bad_body route read) (λ command. IsNumbered command)
+numbered_or found route digest body (Ok command) routed is = numbered found route digest body command routed is
+numbered_or found route digest body (Err fault) routed is = tt
+
 -- a request that is a command has a number as it may be
 pub command_for-numbered : (request : WholeRequest) (command : Command) → command_for request ≡ Ok command
     → IsNumbered command
@@ -208,5 +216,5 @@ command_for-numbered (head, body) command is =
     let (target, found, rest) =
     bind-Ok (or_refused (asked (head, body))) (λ one. command_at one digest body) command is in
     let (route, routed, read) =
-    bind-Ok (route_in target.0 target.1) (λ one. or_bad_body (command_in one digest body)) command rest in
-    numbered target route digest body command routed (or_bad_body-Ok (command_in route digest body) command read)
+    bind-Ok (route_in target.0 target.1) (λ one. or_bad_body one (command_in one digest body)) command rest in
+    numbered target route digest body command routed (or_bad_body-Ok route (command_in route digest body) command read)

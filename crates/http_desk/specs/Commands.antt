@@ -20,7 +20,7 @@ digest_of target body = record { bytes = sha256 (target ++ 0 ∷ body) }
 abbrev pub command_at : Match → Digest → List ℕ → Checked Command
 command_at found digest body = do
   route ← route_in found.0 found.1
-  or_bad_body (command_in route digest body)
+  or_bad_body route (command_in route digest body)
 
 -- the command of a request
 abbrev pub command_for : WholeRequest → Checked Command

@@ -11,8 +11,9 @@ use Rattle.desk_words.specs.declared.reply.Reply.TheVariants.{Made, Opened, Comm
 use Rattle.desk_words.specs.declared.reply.Reply.TheVariants.{Body, Contradictions, Derived, Dump, Refused, Unfit}
 use Rattle.desk_words.specs.Tables.{rows_of}
 use Rattle.desk_dump.specs.Dumps.{dump_of}
-use Rattle.desk_json.specs.Faults.{fault_shown}
+use Rattle.desk_json.specs.Faults.{fault_saying}
 use Rattle.desk_json.specs.Replies.{reply_shown}
+use Rattle.desk_json.specs.declared.fault.JsonFault.{JsonFault}
 use Rattle.desk_sheets.specs.Contradictions.{contradictions_text}
 use Rattle.desk_sheets.specs.Derived.{derived_text}
 use Rattle.desk_sheets.specs.Records.{records_text}
@@ -24,6 +25,7 @@ use Rattle.http_desk.specs.declared.status.ContentType.TheVariants.{Json, Text, 
 use Rattle.http_desk.specs.declared.status.Status.{Status}
 use Rattle.http_desk.specs.declared.status.Status.TheVariants as status
 use Rattle.http_desk.specs.Refusals.{refusal_text}
+use Rattle.http_desk.specs.Says.{fault_sentence}
 use Rattle.http_desk.specs.Responses.{response}
 
 -- ---- the machine's replies
@@ -91,9 +93,15 @@ reply_text reply closing asks_head =
 
 -- ---- before the machine
 
+-- the response to a body with this fault, with a sentence for a person where there is one
+abbrev pub unread_text : JsonFault → Option (List ℕ) → Bool → Bool → List ℕ
+unread_text fault sentence closing asks_head =
+    response status.BadRequest Json (compact_text (fault_saying fault sentence)) closing asks_head
+
 -- the response to a request that the machine is not asked about
 abbrev pub declined_text : Declined → Bool → Bool → List ℕ
 declined_text (declined.Refused refusal) closing asks_head = refusal_text refusal closing asks_head
 declined_text (declined.Shown page) closing asks_head = response status.Ok page.kind page.text.now closing asks_head
-declined_text (declined.BadBody fault) closing asks_head =
-    response status.BadRequest Json (compact_text (fault_shown fault)) closing asks_head
+declined_text (declined.BadBody fault) closing asks_head = unread_text fault None closing asks_head
+declined_text (declined.BadProposal fault) closing asks_head =
+    unread_text fault (Some (fault_sentence fault)) closing asks_head

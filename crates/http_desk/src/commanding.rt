@@ -9,7 +9,7 @@ ghost use Rattle.http_desk.specs.Commands.{command_at, command_for};
 ghost use Rattle.http_desk.specs.Fronts.{command_over};
 
 use crate::asking::asked;
-use crate::declined::Declined;
+use crate::declined::{Declined, or_bad_body};
 use crate::digest::digest_of;
 use crate::front::Front;
 use crate::parameters::route_in;
@@ -66,5 +66,6 @@ fn command_at(
     ensures numbered { IfOk result (λ command. IsNumbered command) }
 {
     let route = route_in(alloc, found)?;
-    Ok(command_of(alloc, &route, digest, body)?)
+    let read = command_of(alloc, &route, digest, body);
+    or_bad_body(&route, read)
 }

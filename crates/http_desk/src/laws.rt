@@ -3,7 +3,11 @@
 ghost use Rattle.std.specs.Prelude.{◌≡◌, ◌⊎◌, ◌↔◌, ◌++◌, ℕ, Bool, true, false, List, Ok, Err, Some, None};
 ghost use Rattle.http_cut.specs.Cut.{Begins, End, IsCut, WholeRequest};
 ghost use Rattle.http_cut.specs.Routes.{Match, route_of};
+ghost use Rattle.desk_json.specs.Commands.{command_in};
+ghost use Rattle.desk_json.specs.declared.fault.JsonFault.{JsonFault};
 ghost use Rattle.desk_json.specs.declared.route.Route.{Route};
+ghost use Rattle.desk_json.specs.declared.route.Route.TheVariants.{AddEdition, CheckEdition};
+ghost use Rattle.desk_words.specs.declared.rows.clerk.Digest.{Digest};
 ghost use Rattle.desk_words.specs.Tables.{Rows};
 ghost use Rattle.http_desk.specs.Answered.{Answers, AreDue, NoMemory as WantsMemory, Outcome, asks_head};
 ghost use Rattle.http_desk.specs.Commands.{command_for};
@@ -41,6 +45,14 @@ pub fn answered_alike(limit: u32)
 pub fn a_route_has_its_parameters(target: &[u8])
     ensures { (found : Match) → route_of target.now ≡ Some found
         → (route : Route) × (route_in found.0 found.1 ≡ Ok route) }
+{}
+
+/// A body does not propose an edition to be checked exactly where it does not propose one to be published, and for the
+/// same fault.
+pub fn a_check_reads_what_publishing_reads()
+    ensures { (name : List ℕ) (number : ℕ) (digest other : Digest) (body : List ℕ) (fault : JsonFault)
+        → (command_in (AddEdition number name) digest body ≡ Err fault)
+        ↔ (command_in (CheckEdition name) other body ≡ Err fault) }
 {}
 
 /// Over a front that guards a port, a request is declined for its origin exactly where it is foreign to the port. It is

@@ -12,13 +12,15 @@ ghost use Rattle.http_desk.specs.declared.refusal.Refused.TheVariants as refused
 ghost use Rattle.http_desk.specs.Answered.{text_bytes};
 ghost use Rattle.http_desk.specs.Refusals.{refusal_text};
 ghost use Rattle.http_desk.specs.Replies.{declined_text, refusal_status, reply_body, reply_status, reply_text};
-ghost use Rattle.http_desk.specs.Replies.{published_type, reply_type};
+ghost use Rattle.desk_json.specs.Refusals.{sentence_of};
+ghost use Rattle.http_desk.specs.Replies.{published_type, reply_type, unread_text};
 ghost use Rattle.http_desk.specs.Responses.{response};
 
 use crate::declined::Declined;
 use crate::front::Page;
 use crate::refusal::Refused;
 use crate::responses::response;
+use crate::says::fault_sentence;
 use crate::status::{ContentType, Status};
 use crate::text::Text;
 use desk_base::{List, NoMemory};
@@ -143,7 +145,12 @@ pub fn declined_text(alloc: Global, why: &Declined, closing: bool, asks_head: bo
             asks_head,
         ),
         Declined::BadBody(fault) => or_no_memory(
-            bad_body_text(alloc, fault, closing, asks_head),
+            unread_text(alloc, fault, None, closing, asks_head),
+            closing,
+            asks_head,
+        ),
+        Declined::BadProposal(fault) => or_no_memory(
+            bad_proposal_text(alloc, fault, closing, asks_head),
             closing,
             asks_head,
         ),
@@ -180,16 +187,30 @@ fn page_text(
     )
 }
 
-/// The response to a body that is not what its route wants.
-fn bad_body_text(
+/// The response to a body that proposes no edition, with a sentence for a person.
+fn bad_proposal_text(
     alloc: Global,
     fault: &JsonFault,
     closing: bool,
     asks_head: bool,
 ) -> Result<Vec<u8>, NoMemory>
-    ensures { IfOk result (λ text. text.items ≡ declined_text (Declined.BadBody fault.now) closing asks_head) }
+    ensures { IfOk result (λ text. text.items ≡ declined_text (Declined.BadProposal fault.now) closing asks_head) }
 {
-    let body = fault_text(alloc, fault)?;
+    let sentence = fault_sentence(alloc, fault)?;
+    unread_text(alloc, fault, Some(sentence.as_str()), closing, asks_head)
+}
+
+/// The response to a body that is not what its route wants, with a sentence for a person where there is one.
+fn unread_text(
+    alloc: Global,
+    fault: &JsonFault,
+    says: Option<&str>,
+    closing: bool,
+    asks_head: bool,
+) -> Result<Vec<u8>, NoMemory>
+    ensures { IfOk result (λ text. text.items ≡ unread_text fault.now (sentence_of says.entry) closing asks_head) }
+{
+    let body = fault_text(alloc, fault, says)?;
     response(
         alloc,
         Status::BadRequest,

@@ -1,7 +1,7 @@
-use Rattle.std.proofs.Common.{◌≡◌, ◌∙◌, Option, Some, ap, sym, subst}
+use Rattle.std.proofs.Common.{◌∙◌, Option, ap, sym, subst}
 use Rattle.httparse.specs.Spans.{span_bytes}
 use Rattle.http_desk.specs.declared.declined.Declined.{Declined}
-use Rattle.http_desk.specs.Checked.{Checked, Finds}
+use Rattle.http_desk.specs.Checked.{Finds}
 use Rattle.http_desk.specs.Commands.{command_for}
 use Rattle.http_desk.specs.Fronts.{or_stopped}
 use Rattle.http_desk.proofs.Fronts.{nothing-stops}

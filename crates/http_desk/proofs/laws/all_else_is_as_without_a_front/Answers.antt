@@ -1,4 +1,3 @@
-use Rattle.std.proofs.Common.{refl}
 use Rattle.http_desk.proofs.Fronts.{nothing-stops}
 use Rattle.http_desk.proofs.laws.all_else_is_as_without_a_front.Goals as goal
 
