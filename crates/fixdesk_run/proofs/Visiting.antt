@@ -139,7 +139,7 @@ AreClosed-push (Some closed) now new visits visit are closes =
 -- ---- all links
 
 -- none was served yet
-PassesAll-none : (front : Front) (desk : Standing) (door : Door) → door.accepted ≡ Some 0 → door.live ≡ 0
+pub PassesAll-none : (front : Front) (desk : Standing) (door : Door) → door.accepted ≡ Some 0 → door.live ≡ 0
     → PassesAll front desk desk door door []
 PassesAll-none front desk door accepted live = record {
   are = tt;
@@ -162,7 +162,7 @@ PassesCount-none front desk door accepted live =
     record { visits = []; pass = PassesAll-none front desk door accepted live; all = refl; early_is = refl }
 
 -- one more was served
-PassesAll-push : (front : Front) (before mid after : Standing) (old now new : Door) (end : Ended) (visits : List Visit)
+pub PassesAll-push : (front : Front) (before mid after : Standing) (old now new : Door) (end : Ended) (visits : List Visit)
     → PassesAll front before mid old now visits → (one : PassesOne front mid after now new end)
     → PassesAll front before after old new (visits ++ one.visit ∷ [])
 PassesAll-push front before mid after old now new end visits all one =
@@ -228,7 +228,7 @@ visits_no_more front before [] are = λ some. some
 visits_no_more front before (visit ∷ visits) are =
     λ some. are.0.streams.later.told (visits_no_more front visit.after visits are.1 some)
 
-Serves-no_more : (front : Front) (port : ℕ) (begun : Standing) (old : Door) (new : Site) (visits : List Visit)
+pub Serves-no_more : (front : Front) (port : ℕ) (begun : Standing) (old : Door) (new : Site) (visits : List Visit)
     → Serves front port begun old new visits → TellsNoMore begun.told new.world.told
 Serves-no_more front port begun old new visits s =
     λ some. visits_no_more front begun visits s.are (subst IsSome s.told some)

@@ -22,5 +22,7 @@ mod visits;
 
 pub use desk_made::made;
 pub use once_run::{Said, Status, tell, tell_said};
-pub use serving::serve;
+pub use opening::stay_shut;
+pub use plan::{Plan, plan_of};
+pub use serving::{ServeEnd, serve};
 pub use top::run;

@@ -120,6 +120,12 @@ no_fault bad_rest.BodyLong = ((λ e. cc), λ e. cc)
 
 -- ---- a stream that is served
 
+-- it is served so, with these answers
+abbrev pub ServesWith : {S : Type 0} → Front → (S → S → ℕ → Result ℕ Failed → Type 0) → S → S → Type 0 → (ℕ → Type 0)
+    → Type 0 → ℕ → Scene → Scene → List Answered → Ended → Type 0
+ServesWith front calls source at reads takes keeps limit old new answers end =
+    (all : Serves calls front source at reads takes keeps limit old new end) × (all.streams.answers ≡ answers)
+
 module _ {S : Type 0} {front : Front} {calls : S → S → ℕ → Result ℕ Failed → Type 0} {source : S} where
   -- it ends after the requests that were answered
   ends_after : {last at : S} {held : List ℕ} {reads : Type 0} {takes taking : ℕ → Type 0} {keeps : Type 0} {limit : ℕ}
@@ -129,20 +135,23 @@ module _ {S : Type 0} {front : Front} {calls : S → S → ℕ → Result ℕ Fa
       → EndsStream limit old new bytes s.taken s.answers window after end
       → EndsTurns calls old new s.answers last held at window end
       → (reads → ¬ (end ≡ ended.ReadFault)) → ¬ (end ≡ ended.WriteFault)
-      → Serves calls front source at reads takes keeps limit old new end
-  ends_after {last} {held} end s left ends found read written = record {
-    streams = streams_from left s.progress s.later ends;
-    prompt = record { last = last; held = held; turns = s.turns; ends = found };
-    read = read;
-    written = λ e. absurd (written e);
-    available = s.settled;
-  }
+      → ServesWith front calls source at reads takes keeps limit old new s.answers end
+  ends_after {last} {held} end s left ends found read written = (
+    record {
+      streams = streams_from left s.progress s.later ends;
+      prompt = record { last = last; held = held; turns = s.turns; ends = found };
+      read = read;
+      written = λ e. absurd (written e);
+      available = s.settled;
+    },
+    refl,
+  )
 
   -- as many requests were answered as may be
   pub ends_limit : {at : S} {reads : Type 0} {takes taking : ℕ → Type 0} {keeps : Type 0} {limit : ℕ}
       {old new : Scene} {count : ℕ} {window : List ℕ}
-      → Serving front calls source at window keeps takes taking limit old new count window
-      → count ≡ limit → length window < PIECE → Serves calls front source at reads takes keeps limit old new ended.Limit
+      (s : Serving front calls source at window keeps takes taking limit old new count window)
+      → count ≡ limit → length window < PIECE → ServesWith front calls source at reads takes keeps limit old new s.answers ended.Limit
   ends_limit {old} {new} s reached few =
       let (bytes, after, left) = some_left old.left new.left s.taken s.progress.took in
       ends_after ended.Limit s left (s.counted ∙ reached, few, s.written) refl (λ _ e. cc) (λ e. cc)
@@ -160,9 +169,10 @@ module _ {S : Type 0} {front : Front} {calls : S → S → ℕ → Result ℕ Fa
   -- the source ended
   pub ends_source : {last at : S} {held : List ℕ} {reads : Type 0} {takes taking : ℕ → Type 0} {keeps : Type 0}
       {limit : ℕ} {old new : Scene} {count : ℕ} {window : List ℕ} (end : Ended) (least : ℕ)
-      → Serving front calls source last held keeps takes taking limit old new count window → count < limit
+      (s : Serving front calls source last held keeps takes taking limit old new count window)
+      → count < limit
       → IsOpen window → IsAtEnd new.left → ReadsNoFurther calls last at held window (Ok (step.NeedMore least))
-      → IsEndOf window end → Serves calls front source at reads takes keeps limit old new end
+      → IsEndOf window end → ServesWith front calls source at reads takes keeps limit old new s.answers end
   ends_source {old} {new} ended.Clean least s below is_open end found is =
       ends_after ended.Clean s (none_left old.left new.left s.taken s.progress.took end)
       (at_end {end = clean} s below is, s.written) (least, found) (λ _ e. cc) (λ e. cc)
@@ -180,10 +190,11 @@ module _ {S : Type 0} {front : Front} {calls : S → S → ℕ → Result ℕ Fa
   -- a read failed
   ends_read_fault : {last at : S} {held : List ℕ} {reads : Type 0} {takes taking : ℕ → Type 0} {keeps : Type 0}
       {limit : ℕ} {old new : Scene} {count : ℕ} {window : List ℕ}
-      → Serving front calls source last held keeps takes taking limit old new count window → count < limit
+      (s : Serving front calls source last held keeps takes taking limit old new count window)
+      → count < limit
       → IsOpen window → Rose old.read_faults new.read_faults → ¬ reads
       → ReadsNoFurther calls last at held window (Err intake.Failed)
-      → Serves calls front source at reads takes keeps limit old new ended.ReadFault
+      → ServesWith front calls source at reads takes keeps limit old new s.answers ended.ReadFault
   ends_read_fault {old} {new} {window} s below is_open rose unsteady found =
       let (bytes, after, left) = some_left old.left new.left s.taken s.progress.took in
       let (end, ends) = open_end window is_open in
@@ -194,11 +205,12 @@ module _ {S : Type 0} {front : Front} {calls : S → S → ℕ → Result ℕ Fa
   -- bytes that were taken may be lost where there was no memory
   ends_no_memory : {last at : S} {held : List ℕ} {reads : Type 0} {takes taking : ℕ → Type 0} {keeps : Type 0}
       {limit : ℕ} {old mid new : Scene} {count : ℕ} {window now : List ℕ}
-      → Serving front calls source last held keeps takes taking limit old mid count window → count < limit
+      (before : Serving front calls source last held keeps takes taking limit old mid count window)
+      → count < limit
       → HasTaken mid.left new.left → (at ≡ last) ⊎ ReadsNoFurther calls last at held now (Err intake.NoMemory)
       → mid.read_faults ≤ new.read_faults → new.written ≡ mid.written → new.write_faults ≡ mid.write_faults
       → new.tables ≡ mid.tables → new.told ≡ mid.told → new.uses ≡ mid.uses
-      → Serves calls front source at reads takes keeps limit old new ended.NoMemory
+      → ServesWith front calls source at reads takes keeps limit old new before.answers ended.NoMemory
   ends_no_memory {old} {mid} {new} {window} before below loses found later written write_faults tables told uses =
       let taken : Takes mid.left new.left window (window ++ loses.bytes) =
       record { bytes = loses.bytes; taken = loses.taken; joined = refl } in
@@ -210,7 +222,7 @@ module _ {S : Type 0} {front : Front} {calls : S → S → ℕ → Result ℕ Fa
 
   -- there was no memory to begin
   pub ends_at_once : {reads : Type 0} {takes : ℕ → Type 0} {keeps : Type 0} {limit : ℕ} {old : Scene} → 1 ≤ limit
-      → IfTold old.told old.tables → Serves calls front source source reads takes keeps limit old old ended.NoMemory
+      → IfTold old.told old.tables → ServesWith front calls source source reads takes keeps limit old old [] ended.NoMemory
   ends_at_once {takes} {keeps} {limit} {old} some told =
       let s : Serving front calls source source [] keeps takes takes limit old old 0 [] = Serving-none told in
       ends_no_memory {now = []} s some (record { bytes = []; taken = Consumes-nil old.left }) (inl refl) (omega arith)
@@ -219,12 +231,13 @@ module _ {S : Type 0} {front : Front} {calls : S → S → ℕ → Result ℕ Fa
   -- no more could be taken
   pub ends_intake : {last at : S} {held : List ℕ} {reads : Type 0} {takes taking : ℕ → Type 0} {keeps : Type 0}
       {limit : ℕ} {old mid new : Scene} {count : ℕ} {window now : List ℕ} (fault : IntakeFault)
-      → Serving front calls source last held keeps takes taking limit old mid count window → count < limit
+      (s : Serving front calls source last held keeps takes taking limit old mid count window)
+      → count < limit
       → Fetches mid.left new.left window now (Err fault) → ReadsNoFurther calls last at held now (Err fault)
       → (fault ≡ intake.Failed → Rose mid.read_faults new.read_faults) → (reads → ¬ (fault ≡ intake.Failed))
       → mid.read_faults ≤ new.read_faults → new.written ≡ mid.written → new.write_faults ≡ mid.write_faults
       → new.tables ≡ mid.tables → new.told ≡ mid.told → new.uses ≡ mid.uses
-      → Serves calls front source at reads takes keeps limit old new (fault_end fault)
+      → ServesWith front calls source at reads takes keeps limit old new s.answers (fault_end fault)
   ends_intake {new} intake.Failed s below fetched found cause steady later written write_faults tables told uses =
       let serving = Serving-takes new s fetched.0 later written write_faults tables told uses in
       let before = s.later.read_faults in
@@ -250,13 +263,14 @@ module _ {S : Type 0} {front : Front} {calls : S → S → ℕ → Result ℕ Fa
   -- a bad rest is refused, in full or in part
   pub ends_refused : {last at : S} {held : List ℕ} {reads : Type 0} {takes taking : ℕ → Type 0} {keeps : Type 0}
       {limit : ℕ} {old mid new : Scene} {count : ℕ} {window : List ℕ} (kind : BadRest) (asks : Bool) {end : Ended}
-      → Serving front calls source last held keeps takes taking limit old mid count window → count < limit
+      (s : Serving front calls source last held keeps takes taking limit old mid count window)
+      → count < limit
       → length window < MAX_HEAD + PIECE → ReadsNoFurther calls last at held window (Ok (step.Bad kind asks))
       → IsBadRest window kind → (IsTrue asks ↔ AsksHead window)
       → RefusesRest taking mid.written new.written mid.write_faults new.write_faults kind
       (refusal_text (refused_rest kind) true asks) end
       → new.left ≡ mid.left → new.read_faults ≡ mid.read_faults → new.tables ≡ mid.tables → new.told ≡ mid.told
-      → new.uses ≡ mid.uses → Serves calls front source at reads takes keeps limit old new end
+      → new.uses ≡ mid.uses → ServesWith front calls source at reads takes keeps limit old new s.answers end
   ends_refused {last} {at} {held} {takes} {taking} {limit} {old} {mid} {new} {window} kind asks s below few found
       wrong is refuses same read_faults tables told uses =
       let text : List ℕ = refusal_text (refused_rest kind) true asks in
@@ -281,21 +295,23 @@ module _ {S : Type 0} {front : Front} {calls : S → S → ℕ → Result ℕ Fa
       } in
       elim refuses.ends [
         | inl full ↦
-            let apart = no_fault kind in
-            record {
-              streams = streams_from left_now progress later
-                  (rw full.0 (ends_badly limit old new bytes s.taken s.answers window after kind text all due
-                  (Appends-then old.written mid.written new.written (texts s.answers) text s.written full.1)));
-              prompt = record {
-                last = last;
-                held = held;
-                turns = s.turns;
-                ends = rw full.0 (finds_bad old new s.answers last at held window kind (asks, found, wrong));
-              };
-              read = λ _ e. apart.0 (sym full.0 ∙ e);
-              written = λ e. absurd (apart.1 (sym full.0 ∙ e));
-              available = s.settled;
-            }
+            let apart = no_fault kind in (
+              record {
+                streams = streams_from left_now progress later
+                    (rw full.0 (ends_badly limit old new bytes s.taken s.answers window after kind text all due
+                    (Appends-then old.written mid.written new.written (texts s.answers) text s.written full.1)));
+                prompt = record {
+                  last = last;
+                  held = held;
+                  turns = s.turns;
+                  ends = rw full.0 (finds_bad old new s.answers last at held window kind (asks, found, wrong));
+                };
+                read = λ _ e. apart.0 (sym full.0 ∙ e);
+                written = λ e. absurd (apart.1 (sym full.0 ∙ e));
+                available = s.settled;
+              },
+              refl,
+            )
         | inr (cut_off, (size, short, added), rose, full) ↦
             let cut : CutsEnd old.written new.written s.answers (window ++ after) kind = record {
               text = text;
@@ -305,20 +321,22 @@ module _ {S : Type 0} {front : Front} {calls : S → S → ℕ → Result ℕ Fa
               written = Appends-then old.written mid.written new.written (texts s.answers) (take size text) s.written
                   added;
             } in
-            let before = s.later.write_faults in
-            record {
-              streams = streams_from left_now progress later (rw cut_off (inr (kind, all, cut), omega arith));
-              prompt = record {
-                last = last;
-                held = held;
-                turns = s.turns;
-                ends = rw cut_off (inr (kind, (asks, found, wrong)));
-              };
-              read = λ _ e. let apart = sym cut_off ∙ e in cc;
-              written = λ _.
-                  inr (kind, cut, whole.0.ends, HasNoRoom-following takes taking (texts s.answers) text s.room full);
-              available = s.settled;
-            }
+            let before = s.later.write_faults in (
+              record {
+                streams = streams_from left_now progress later (rw cut_off (inr (kind, all, cut), omega arith));
+                prompt = record {
+                  last = last;
+                  held = held;
+                  turns = s.turns;
+                  ends = rw cut_off (inr (kind, (asks, found, wrong)));
+                };
+                read = λ _ e. let apart = sym cut_off ∙ e in cc;
+                written = λ _.
+                    inr (kind, cut, whole.0.ends, HasNoRoom-following takes taking (texts s.answers) text s.room full);
+                available = s.settled;
+              },
+              refl,
+            )
       ]
 
   -- ---- a response in part
@@ -327,15 +345,17 @@ module _ {S : Type 0} {front : Front} {calls : S → S → ℕ → Result ℕ Fa
   pub ends_write_fault : {last at : S} {held : List ℕ} (given : List (Reading S)) {reads : Type 0}
       {takes taking : ℕ → Type 0} {keeps keeping : Type 0} {limit : ℕ} {old mid new : Scene} {count : ℕ}
       {window : List ℕ} (request : WholeRequest) {following text : List ℕ}
-      → Serving front calls source last held keeps takes taking limit old mid count window → count < limit
+      (s : Serving front calls source last held keeps takes taking limit old mid count window)
+      → count < limit
       → ReadsOn calls last held given at window → BeginsRequest window request.0 request.1 following
-      → IsAnswered keeping mid.tables (command_over front request) ((count + 1) == limit) (asks_head request) new.tables text
-      mid.uses new.uses
+      → (h : IsAnswered keeping mid.tables (command_over front request) ((count + 1) == limit) (asks_head request) new.tables text
+      mid.uses new.uses)
       → IfTold new.told new.tables → TellsNoMore mid.told new.told → new.left ≡ mid.left
       → AppendsPart mid.written new.written text
       → Rose mid.write_faults new.write_faults → HasNoRoom taking text → (keeps → keeping)
       → new.read_faults ≡ mid.read_faults → mid.write_faults ≤ new.write_faults
-      → Serves calls front source at reads takes keeps limit old new ended.WriteFault
+      → ServesWith front calls source at reads takes keeps limit old new (s.answers ++ answered request h ∷ [])
+      ended.WriteFault
   ends_write_fault {last} {at} {held} given {takes} {taking} {limit} {old} {mid} {new} {window} request {following}
       {text} s below on whole h told no_more same (size, short, added) rose full keeping_it read_faults write_faults =
       let last_one : Answered = answered request h in
@@ -356,24 +376,26 @@ module _ {S : Type 0} {front : Front} {calls : S → S → ℕ → Result ℕ Fa
         read_faults = rw read_faults s.later.read_faults;
         write_faults = omega arith;
         told = λ some. s.later.told (no_more some);
-      } in
-      record {
-        streams = streams_from left progress later (inl (cut, most), omega arith);
-        prompt = record {
-          last = at;
-          held = following;
-          turns = TakesTurns-push calls source last at s.answers last_one held given window following s.turns on whole;
-          ends = inl (cut, refl);
-        };
-        read = λ _ e. cc;
-        written = λ _.
-            inl (
-              cut,
-              subst (λ (t : List ℕ). HasNoRoom takes t) (sym (texts-push s.answers last_one))
-                  (HasNoRoom-following takes taking (texts s.answers) text s.room full),
-            );
-        available = λ is. rw (failures-push s.answers last_one, s.settled is, h.settled (keeping_it is)) refl;
-      }
+      } in (
+        record {
+          streams = streams_from left progress later (inl (cut, most), omega arith);
+          prompt = record {
+            last = at;
+            held = following;
+            turns = TakesTurns-push calls source last at s.answers last_one held given window following s.turns on whole;
+            ends = inl (cut, refl);
+          };
+          read = λ _ e. cc;
+          written = λ _.
+              inl (
+                cut,
+                subst (λ (t : List ℕ). HasNoRoom takes t) (sym (texts-push s.answers last_one))
+                    (HasNoRoom-following takes taking (texts s.answers) text s.room full),
+              );
+          available = λ is. rw (failures-push s.answers last_one, s.settled is, h.settled (keeping_it is)) refl;
+        },
+        refl,
+      )
 
 -- ---- steady devices
 

@@ -1,7 +1,7 @@
 -- What is asked over a front.
 use Rattle.std.proofs.Common.{◌≡◌, ◌⊎◌, ◌∙◌, inl, inr, ℕ, Bool, true, false, List, [], ◌∷◌, Option, Some, None, Ok, Err}
 use Rattle.std.proofs.Common.{refl, sym, ap}
-use Rattle.std.specs.Prelude.{◌↔◌, ◌&&◌, not, if◌then◌else◌, Result}
+use Rattle.std.specs.Prelude.{◌&&◌, not, if◌then◌else◌, Result}
 use Rattle.std.specs.Option.{option_map}
 use Rattle.std.specs.Str.{bytes_eq}
 use Rattle.httparse.specs.Grammar.{RequestHead}
@@ -12,15 +12,16 @@ use Rattle.http_cut.specs.Routes.{Match, method_of, route_of}
 use Rattle.desk_words.specs.declared.command.Command.{Command}
 use Rattle.desk_words.specs.Tables.{Rows}
 use Rattle.desk_json.specs.declared.fault.JsonFault.{JsonFault}
+use Rattle.desk_json.specs.declared.fault.JsonFault.TheVariants as fault
 use Rattle.desk_json.specs.declared.route.Route.{Route}
 use Rattle.desk_json.specs.Checked.{◌>>=◌}
 use Rattle.desk_json.specs.Commands.{command_in}
 use Rattle.http_desk.specs.declared.declined.Declined.{Declined}
-use Rattle.http_desk.specs.declared.declined.Declined.TheVariants.{Refused, Shown}
+use Rattle.http_desk.specs.declared.declined.Declined.TheVariants.{Refused, Shown, BadBody, BadProposal}
 use Rattle.http_desk.specs.declared.front.Page.{Page}
 use Rattle.http_desk.specs.declared.refusal.Refused.TheVariants as refused
 use Rattle.http_desk.specs.Answered.{Answers, Outcome, Declines, Replied, Unavailable, NoMemory}
-use Rattle.http_desk.specs.Checked.{Checked, or_bad_body, or_no_route, or_refused}
+use Rattle.http_desk.specs.Checked.{Checked, checks_json, or_bad_body, or_no_route, or_refused, unread}
 use Rattle.http_desk.specs.Commands.{command_at, command_for, digest_of}
 use Rattle.http_desk.specs.Fronts.{Front, command_over, is_foreign, is_kept_out, or_stopped, page_for, stopped_at}
 use Rattle.http_desk.specs.Parameters.{Form, Makes, Parameter, Parts, clerk_form, desk_form, form, look_form, made_from}
@@ -57,9 +58,20 @@ never-no_route : {A : Type 0} (found : Option A) → NeverOrigin (or_no_route fo
 never-no_route (Some found) = λ e. cc
 never-no_route None = λ e. cc
 
-never-bad_body : {A : Type 0} (read : Result A JsonFault) → NeverOrigin (or_bad_body read)
-never-bad_body (Ok value) = λ e. cc
-never-bad_body (Err fault) = λ e. cc
+never-unread : {A : Type 0} (route : Route) (why : JsonFault) → NeverOrigin {A = A} (Err (unread route why))
+never-unread {A} route why = by (checks_json route)
+  where
+    by : (tells : Bool) → NeverOrigin {A = A} (Err (if tells then BadProposal why else BadBody why))
+    by true = λ e. cc
+    by false = λ e. cc
+
+never-bad_body : {A : Type 0} (route : Route) (read : Result A JsonFault) → NeverOrigin (or_bad_body route read)
+never-bad_body route (Ok value) = λ e. cc
+never-bad_body route (Err fault.NoMemory) = λ e. cc
+never-bad_body route (Err fault.NotJson) = never-unread route fault.NotJson
+never-bad_body route (Err (fault.Missing key)) = never-unread route (fault.Missing key)
+never-bad_body route (Err (fault.WrongKind key)) = never-unread route (fault.WrongKind key)
+never-bad_body route (Err (fault.Unknown key)) = never-unread route (fault.Unknown key)
 
 never-read : (parameter : Parameter) (parts : Parts) → NeverOrigin (read_at parameter parts)
 never-read (text name) parts = never-no_route _
@@ -108,8 +120,8 @@ never-command (head, body) =
     never-then (or_refused (asked (head, body))) (λ found. command_at found (digest_of head.target body) body)
     (never-asked head (route_of head.target))
     (λ found. never-then (route_in found.0 found.1)
-    (λ (route : Route). or_bad_body (command_in route (digest_of head.target body) body))
-    (never-route found.0 found.1) (λ route. never-bad_body (command_in route (digest_of head.target body) body)))
+    (λ (route : Route). or_bad_body route (command_in route (digest_of head.target body) body))
+    (never-route found.0 found.1) (λ route. never-bad_body route (command_in route (digest_of head.target body) body)))
 
 -- ---- the guard
 

@@ -8,9 +8,11 @@ pub mod Ends
 pub mod Fronts
 pub mod Guarding
 pub mod Lengths
+pub mod LogLines
 pub mod Named
 pub mod Numbered
 pub mod Progress
+pub mod Reading
 pub mod Sheets
 pub mod Taking
 pub mod Underway

@@ -92,7 +92,7 @@ read_to scene left faults = record scene { left = left; read_faults = faults }
 -- how the serving of a stream goes on, whatever it is that is served
 module _ {S : Type 0} {front : Front} {calls : S → S → ℕ → Result ℕ Failed → Type 0} {source : S} where
   -- nothing was done yet
-  pub Serving-none : {steady : Type 0} {takes : ℕ → Type 0} {limit : ℕ} {old : Scene} → IfTold old.told old.tables
+  abbrev pub Serving-none : {steady : Type 0} {takes : ℕ → Type 0} {limit : ℕ} {old : Scene} → IfTold old.told old.tables
       → Serving front calls source source [] steady takes takes limit old old 0 []
   Serving-none {takes} {limit} {old} told = record {
     taken = [];
@@ -107,7 +107,7 @@ module _ {S : Type 0} {front : Front} {calls : S → S → ℕ → Result ℕ Fa
   }
 
   -- bytes are taken
-  pub Serving-takes : {last : S} {held : List ℕ} {steady : Type 0} {takes taking : ℕ → Type 0} {limit : ℕ}
+  abbrev pub Serving-takes : {last : S} {held : List ℕ} {steady : Type 0} {takes taking : ℕ → Type 0} {limit : ℕ}
       {old mid : Scene} (new : Scene) {count : ℕ} {window now : List ℕ}
       → Serving front calls source last held steady takes taking limit old mid count window
       → Takes mid.left new.left window now
@@ -132,7 +132,7 @@ module _ {S : Type 0} {front : Front} {calls : S → S → ℕ → Result ℕ Fa
   }
 
   -- the source is read up to this step
-  pub Serving-reads : {last at : S} {held : List ℕ} {steady : Type 0} {takes taking : ℕ → Type 0} {limit : ℕ}
+  abbrev pub Serving-reads : {last at : S} {held : List ℕ} {steady : Type 0} {takes taking : ℕ → Type 0} {limit : ℕ}
       {old mid : Scene} {left : Option (List ℕ)} (faults : ℕ) {count : ℕ} {window now : List ℕ} {one step : Step}
       → one ≡ step → Serving front calls source last held steady takes taking limit old mid count window
       → Fetches mid.left left window now (Ok one) → ReadsNoFurther calls last at window now (Ok one)
@@ -159,7 +159,7 @@ module _ {S : Type 0} {front : Front} {calls : S → S → ℕ → Result ℕ Fa
       (rw s.counted h.answers) h.failed h.called left refl told
 
   -- a request is answered, and its text is written
-  pub Serving-answers : {last read : S} {held : List ℕ} (given : List (Reading S)) {steady keeps : Type 0}
+  abbrev pub Serving-answers : {last read : S} {held : List ℕ} (given : List (Reading S)) {steady keeps : Type 0}
       {takes taking took : ℕ → Type 0} {limit : ℕ} {old mid new : Scene} {count : ℕ} {window : List ℕ}
       (request : WholeRequest) {following text : List ℕ}
       → Serving front calls source last held steady takes taking limit old mid count window

@@ -1,10 +1,11 @@
 -- What stands before the machine: the guard of a port, and pages that are shown.
 use Rattle.std.specs.Prelude.{ℕ, Bool, false, not, ◌&&◌, ◌||◌, List, [], ◌∷◌, ◌++◌, map, codes, decimal, Option, Some}
 use Rattle.std.specs.Prelude.{None, Err, if◌then◌else◌}
-use Rattle.std.specs.List.{find, list_all, list_any}
+use Rattle.std.specs.List.{find, list_all}
 use Rattle.std.specs.Option.{option_map}
 use Rattle.std.specs.Str.{bytes_eq}
 use Rattle.httparse.specs.Grammar.{RequestHead}
+use Rattle.desk_base.specs.Places.{has_text}
 use Rattle.http_cut.specs.Cut.{WholeRequest}
 use Rattle.http_cut.specs.Head.{head_values}
 use Rattle.desk_words.specs.declared.command.Command.{Command}
@@ -21,18 +22,14 @@ use Rattle.http_desk.specs.Commands.{command_for}
 abbrev pub hosts : List ℕ → List (List ℕ)
 hosts digits = (codes "127.0.0.1:" ++ digits) ∷ (codes "localhost:" ++ digits) ∷ []
 
--- a text is one of these, by bytes
-abbrev pub is_among : List (List ℕ) → List ℕ → Bool
-is_among texts text = list_any (bytes_eq text) texts
-
 -- exactly one host is named, and it is one of the port's
 abbrev pub names_host : List ℕ → List (List ℕ) → Bool
-names_host digits (host ∷ []) = is_among (hosts digits) host
+names_host digits (host ∷ []) = has_text (hosts digits) host
 names_host digits _ = false
 
 -- an origin is `http://` and one of them
 abbrev pub is_own_origin : List ℕ → List ℕ → Bool
-is_own_origin digits origin = is_among (map (λ host. codes "http://" ++ host) (hosts digits)) origin
+is_own_origin digits origin = has_text (map (λ host. codes "http://" ++ host) (hosts digits)) origin
 
 -- the fields `Host` and `Origin` of a head are those of a request to the port with these digits: exactly one host, and
 -- no other origin

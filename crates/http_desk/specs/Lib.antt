@@ -2,8 +2,10 @@ pub mod Answered
 pub mod Checked
 pub mod Commands
 pub mod Fronts
+pub mod Logs
 pub mod Parameters
 pub mod Refusals
+pub mod Says
 pub mod Replies
 pub mod Responses
 pub mod Scenes

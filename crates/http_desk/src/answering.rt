@@ -61,7 +61,7 @@ pub fn respond<M: Machine, K: Keeper, W: Sink>(
 }
 
 /// What is answered to a request, as its text. What it changes is kept.
-fn answer<M: Machine, K: Keeper>(
+pub fn answer<M: Machine, K: Keeper>(
     alloc: Global,
     front: &Front<'_>,
     routes: &Routes,

@@ -6,7 +6,8 @@ ghost use Rattle.httparse.specs.Grammar.{RequestHead};
 ghost use Rattle.httparse.specs.Spans.{IsHeaderWithin, header_bytes};
 ghost use Rattle.http_cut.specs.Fields.{values_of};
 ghost use Rattle.http_cut.specs.Head.{HasHead};
-ghost use Rattle.http_desk.specs.Fronts.{hosts, is_among, is_foreign, is_own_origin, names_host};
+ghost use Rattle.desk_base.specs.Places.{has_text};
+ghost use Rattle.http_desk.specs.Fronts.{hosts, is_foreign, is_own_origin, names_host};
 
 use http_cut::{Found, HeadFields, find, is_named};
 use httparse::spans::HeaderSpan;
@@ -62,7 +63,7 @@ fn is_own_origin(origin: &[u8], digits: &[u8]) -> bool
 }
 
 fn is_host(text: &[u8], digits: &[u8]) -> bool
-    ensures { result ≡ is_among (hosts digits.now) text.now }
+    ensures { result ≡ has_text (hosts digits.now) text.now }
 {
     is_text_of(text, b"127.0.0.1:", digits) || is_text_of(text, b"localhost:", digits)
 }

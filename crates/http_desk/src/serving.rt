@@ -156,7 +156,7 @@ fn serve<M: Machine, K: Keeper, S: Source, W: Sink>(
 }
 
 /// How a stream ends, of which no more could be taken.
-fn fault_end(fault: IntakeFault) -> Ended
+pub fn fault_end(fault: IntakeFault) -> Ended
     ensures { result ≡ fault_end fault }
 {
     match fault {
@@ -166,7 +166,7 @@ fn fault_end(fault: IntakeFault) -> Ended
 }
 
 /// How a stream ends, with these bytes after its last request.
-fn end_of(rest: &[u8]) -> Ended
+pub fn end_of(rest: &[u8]) -> Ended
     ensures { IsEndOf rest.now result }
 {
     if rest.is_empty() {
@@ -177,7 +177,7 @@ fn end_of(rest: &[u8]) -> Ended
 }
 
 /// Writes the response to a bad rest, which ends the stream.
-fn refuse<W: Sink>(sink: &mut W, kind: BadRest, asks_head: bool) -> Ended
+pub fn refuse<W: Sink>(sink: &mut W, kind: BadRest, asks_head: bool) -> Ended
     ensures { RefusesRest (W.takes sink.old) (W.written sink.old) (W.written sink.new) (W.write_faults sink.old)
         (W.write_faults sink.new) kind (refusal_text (refused_rest kind) true asks_head) result }
 {

@@ -62,9 +62,9 @@ returns-in-Err-respond g c =
     let (given, on) = found_whole found in
     let request : WholeRequest = (head, span_bytes c.next_step.new.self c.in-Whole.request.body) in
     let responds = c.in-Err-respond.ensures.responds head shows in
-    ends_write_fault given request serving c.requests-test.true on begins responds.answered c.respond.ensures.told
+    (ends_write_fault given request serving c.requests-test.true on begins responds.answered c.respond.ensures.told
     c.respond.ensures.no_more refl responds.part c.in-Err-respond.ensures.cause.failed responds.full
-    c.requests.invariant.keeps refl c.respond.ensures.cause.later
+    c.requests.invariant.keeps refl c.respond.ensures.cause.later).0
 
 -- no more could be taken
 pub returns-in-Err : goal.returns-in-Err
@@ -74,7 +74,7 @@ returns-in-Err g c =
     c.in-Err.ensures.fetched c.in-Err.ensures.order
     (λ same. c.in-Err.ensures.cause (ap (λ (f : IntakeFault). Err f) same))
     (λ is same. (c.in-Err.ensures.steady (c.requests.invariant.reads is)).0 (ap (λ (f : IntakeFault). Err f) same))
-    c.next_step.ensures.later refl refl refl refl refl)
+    c.next_step.ensures.later refl refl refl refl refl).0
 
 -- the source ended
 pub returns-in-NeedMore : goal.returns-in-NeedMore
@@ -83,9 +83,9 @@ returns-in-NeedMore g c =
     let (serving, (short, waits), found) = Serving-reads (g.S.Source.read_faults c.next_step.new.source)
     c.in-NeedMore.is c.requests.invariant.serving c.in-Ok.ensures.fetched c.in-Ok.ensures.order
     c.next_step.ensures.later in
-    ends_source c.end_of.result least serving c.requests-test.true (open_now c.next_step.new.self least short waits)
+    (ends_source c.end_of.result least serving c.requests-test.true (open_now c.next_step.new.self least short waits)
     (c.in-Ok.ensures.end least (ap (λ (s : Step). Ok s) c.in-NeedMore.is)) found
-    (rw c.bytes.ensures at c.end_of.ensures)
+    (rw c.bytes.ensures at c.end_of.ensures)).0
 
 -- a bad rest was refused
 pub returns-in-Bad : goal.returns-in-Bad
@@ -93,11 +93,11 @@ returns-in-Bad g c =
     let (serving, (wrong, asks), found) = Serving-reads (g.S.Source.read_faults c.next_step.new.source)
     c.in-Bad.is c.requests.invariant.serving c.in-Ok.ensures.fetched c.in-Ok.ensures.order
     c.next_step.ensures.later in
-    ends_refused c.in-Bad.kind c.in-Bad.asks_head serving c.requests-test.true
+    (ends_refused c.in-Bad.kind c.in-Bad.asks_head serving c.requests-test.true
     (c.in-Ok.ensures.following_bad c.in-Bad.kind c.in-Bad.asks_head (ap (λ
     (s : Step). Ok s) c.in-Bad.is)) found wrong asks
-    c.refuse.ensures refl refl refl refl refl
+    c.refuse.ensures refl refl refl refl refl).0
 
 -- as many requests were answered as may be
 pub returns : goal.returns
-returns g c = ends_limit c.requests.invariant.serving (omega arith) c.requests.invariant.few
+returns g c = (ends_limit c.requests.invariant.serving (omega arith) c.requests.invariant.few).0

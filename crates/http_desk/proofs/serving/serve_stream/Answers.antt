@@ -13,5 +13,5 @@ returns-in-Err g c =
     c.args.machine.now c.args.keeper.now in
     let served : Serves g.S.Source.reads c.args.front.now source source (g.S.Source.is_steady source)
     (g.W.Sink.takes c.args.link.now.sink) (g.K.Keeper.is_steady c.args.keeper.now) c.args.limit old old NoMemory =
-    ends_at_once c.requires.limit c.requires.told in
+    (ends_at_once c.requires.limit c.requires.told).0 in
     record { streams = served.streams; prompt = (served.streams, served.prompt); complete = faultless served }

@@ -1,0 +1,136 @@
+//! The top call of the program `fixdesk_web`.
+ghost use Rattle.std.specs.Prelude.{◌≡◌, ◌⊎◌, map, string_bytes, None};
+ghost use Rattle.keeper_core.specs.Keeping.{IfTold};
+ghost use Rattle.fixdesk_run.specs.Serve.{AreSteadyFor, IsServedFaultless, end_code};
+ghost use Rattle.fixdesk_run.specs.Site.{Later, site};
+ghost use Rattle.fixdesk_run.specs.Standing.{standing};
+ghost use Rattle.web_run.specs.Plans.{web_plan};
+ghost use Rattle.web_run.specs.Serving.{EndsPages, LeavesPages, TakesAll};
+
+use crate::links::serve_links;
+use crate::pages::PageTable;
+use crate::plan::web_plan;
+use crate::saying::{listens_line, tell_usage};
+use desk_base::{Failed, NoMemory, Sink, write_all};
+use desk_links::Listener;
+use fixdesk_run::{Plan, ServeEnd, stay_shut};
+use http_cut::Intake;
+use http_desk::{Front, LogLine};
+use keeper_core::Keeper;
+use machine_core::Machine;
+use std::alloc::Global;
+
+/// Serves the links of a door and these pages, as the words say, which are without the program's name: a port, from 1
+/// to 65,535, and how many links, from 1 to 1,000,000; without that word as many as a door hands out, which is
+/// 4,294,967,295. Answers the exit status (docs/formats.md, *Statuses of `fixdesk_web`*).
+///
+/// A machine `M` begins over the keeper's tables, the door is bound to the port, and a line is written that says where
+/// links are awaited. Then the links are served one after another, each with at most one request, over a front that
+/// guards the port and shows the pages, and closed; after each the line of its request is written, where one was
+/// answered. All other words are answered with the usage line, with status 1. An output that fails gives 3, a keeper
+/// that fails at the beginning 4, want of memory 5, damaged tables a line that names the first damaged row, with
+/// status 6, and a door that fails 9. At 1, 4, 5 and 6 the door was not called.
+pub fn serve_pages<M: Machine + Drop, K: Keeper, P: PageTable, L: Listener, W: Sink>(
+    alloc: Global,
+    words: &[String],
+    pages: &P,
+    keeper: &mut K,
+    door: &mut L,
+    out: &mut W,
+) -> u8
+    requires { L.live door.old ≡ 0 }
+    ensures leaves { let site = site W.written W.write_faults K.tables K.calls K.faults L.door_faults L.port
+        L.accepted L.live L.waiting L.closed in
+        LeavesPages (K.holds keeper.old) (P.listed pages.now) (map string_bytes words.now) (site out.old keeper.old door.old)
+        (site out.new keeper.new door.new) result }
+    ensures idle { L.live door.new ≡ 0 }
+    ensures complete { let plan = web_plan (map string_bytes words.now) in
+        AreSteadyFor (K.is_steady keeper.old) (L.offers door.old) plan → TakesAll (W.takes out.old)
+        → IsServedFaultless plan result }
+{
+    let Some(plan) = web_plan(words) else {
+        return tell_usage(out).code();
+    };
+    match M::start(alloc, keeper) {
+        Ok(mut machine) => {
+            let front = Front::guarded(plan.port, pages.pages());
+            serve_plan(alloc, &front, plan, &mut machine, keeper, door, out).code()
+        }
+        Err(fail) => stay_shut(alloc, fail, out).code(),
+    }
+}
+
+/// Serves the links of a plan over a front and a machine that began, with one intake and one line for all of them.
+fn serve_plan<M: Machine + Drop, K: Keeper, L: Listener, W: Sink>(
+    alloc: Global,
+    front: &Front<'_>,
+    plan: Plan,
+    machine: &mut M,
+    keeper: &mut K,
+    door: &mut L,
+    out: &mut W,
+) -> ServeEnd
+    requires idle { L.live door.old ≡ 0 }
+    requires told { IfTold (K.tables keeper.old) (M.rows machine.old) }
+    ensures ends { let site = site W.written W.write_faults K.tables K.calls K.faults L.door_faults L.port L.accepted
+        L.live L.waiting L.closed in
+        EndsPages front.now plan (standing M.rows K.tables K.calls K.faults machine.old keeper.old)
+        (site out.old keeper.old door.old) (site out.new keeper.new door.new) result }
+    ensures later { let site = site W.written W.write_faults K.tables K.calls K.faults L.door_faults L.port
+        L.accepted L.live L.waiting L.closed in
+        Later (site out.old keeper.old door.old) (site out.new keeper.new door.new) }
+    ensures idle { L.live door.new ≡ 0 }
+    ensures complete { L.offers door.old plan.count → TakesAll (W.takes out.old)
+        → (end_code result ≡ 0) ⊎ (end_code result ≡ 5) }
+{
+    let mut intake = match Intake::new(alloc) {
+        Ok(intake) => intake,
+        Err(NoMemory) => return ServeEnd::NoMemory,
+    };
+    let end = serve_with(alloc, front, plan, &mut intake, machine, keeper, door, out);
+    drop(intake);
+    end
+}
+
+/// The same with this intake.
+fn serve_with<M: Machine + Drop, K: Keeper, L: Listener, W: Sink>(
+    alloc: Global,
+    front: &Front<'_>,
+    plan: Plan,
+    intake: &mut Intake,
+    machine: &mut M,
+    keeper: &mut K,
+    door: &mut L,
+    out: &mut W,
+) -> ServeEnd
+    requires idle { L.live door.old ≡ 0 }
+    requires told { IfTold (K.tables keeper.old) (M.rows machine.old) }
+    ensures ends { let site = site W.written W.write_faults K.tables K.calls K.faults L.door_faults L.port L.accepted
+        L.live L.waiting L.closed in
+        EndsPages front.now plan (standing M.rows K.tables K.calls K.faults machine.old keeper.old)
+        (site out.old keeper.old door.old) (site out.new keeper.new door.new) result }
+    ensures later { let site = site W.written W.write_faults K.tables K.calls K.faults L.door_faults L.port
+        L.accepted L.live L.waiting L.closed in
+        Later (site out.old keeper.old door.old) (site out.new keeper.new door.new) }
+    ensures idle { L.live door.new ≡ 0 }
+    ensures complete { L.offers door.old plan.count → TakesAll (W.takes out.old)
+        → (end_code result ≡ 0) ⊎ (end_code result ≡ 5) }
+{
+    let mut log = match LogLine::new(alloc) {
+        Ok(log) => log,
+        Err(NoMemory) => return ServeEnd::NoMemory,
+    };
+    let line = match listens_line(alloc, plan.port) {
+        Ok(line) => line,
+        Err(NoMemory) => return ServeEnd::NoMemory,
+    };
+    if let Err(Failed) = door.bind(plan.port) {
+        return ServeEnd::DoorFault;
+    }
+    if let Err(Failed) = write_all(out, line.as_slice()) {
+        return ServeEnd::WriteFault;
+    }
+    serve_links(
+        alloc, front, plan.count, intake, &mut log, machine, keeper, door, out,
+    )
+}
