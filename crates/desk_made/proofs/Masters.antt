@@ -3,7 +3,7 @@ use Rattle.std.proofs.Common.{◌≡◌, ◌≢◌, ℕ, ◌+◌, ◌*◌, ◌%�
 use Rattle.std.specs.Prelude.{All, AllPairs, codes}
 use Rattle.std.proofs.lemmas.Str.{IsUtf8-from_ascii}
 use Rattle.std.proofs.lemmas.Str.Ascii.{IsAscii-cons, IsAscii-nil}
-use Rattle.std.proofs.lemmas.List.Elements.{All-cons}
+use Rattle.std.proofs.lemmas.List.Elements.{All-cons, All-nil}
 use Rattle.std.proofs.lemmas.List.FromFn.{length-map-range_with_len}
 use Rattle.std.proofs.lemmas.List.Kept.{AllPairs-cons}
 use Rattle.master_rows.specs.Master.{IsCell, IsColumn, IsMaster, IsRow}
@@ -12,16 +12,12 @@ use Rattle.desk_made.specs.Master.{key, master, numbered, row, rows_of}
 use Rattle.desk_made.proofs.Numbers.{IsUtf8-numbered, length-numbered}
 use Rattle.desk_made.proofs.Ranges.{All-range}
 
--- what is said of all is said where there are none
-All-none : {A : Type 0} (P : A → Type 0) → All P []
-All-none P place other within = absurd (omega arith)
-
 -- what holds of each of three holds of all
 All-three : {A : Type 0} (P : A → Type 0) (one two three : A) → P one → P two → P three
     → All P (one ∷ two ∷ three ∷ [])
 All-three P one two three first second third =
     All-cons P one (two ∷ three ∷ []) first
-    (All-cons P two (three ∷ []) second (All-cons P three [] third (All-none P)))
+    (All-cons P two (three ∷ []) second (All-cons P three [] third (All-nil P)))
 
 -- what holds between each of three and each later one holds between all
 AllPairs-three : {A : Type 0} (R : A → A → Type 0) (one two three : A) → R one two → R one three → R two three
@@ -29,8 +25,8 @@ AllPairs-three : {A : Type 0} (R : A → A → Type 0) (one two three : A) → R
 AllPairs-three R one two three first second third =
     let last : AllPairs R (three ∷ []) = λ place following other order within. absurd (omega arith) in
     AllPairs-cons R one (two ∷ three ∷ [])
-    (All-cons (R one) two (three ∷ []) first (All-cons (R one) three [] second (All-none (R one))))
-    (AllPairs-cons R two (three ∷ []) (All-cons (R two) three [] third (All-none (R two))) last)
+    (All-cons (R one) two (three ∷ []) first (All-cons (R one) three [] second (All-nil (R one))))
+    (AllPairs-cons R two (three ∷ []) (All-cons (R two) three [] third (All-nil (R two))) last)
 
 -- a letter with a number is a cell
 IsCell-numbered : (letter number : ℕ) → letter < 128 → number < ROWS → IsCell (numbered (letter ∷ []) number)
