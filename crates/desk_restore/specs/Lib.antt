@@ -1,0 +1,5 @@
+pub mod Ranges
+pub mod Parts
+pub mod Reading
+pub mod Changes
+pub mod Made

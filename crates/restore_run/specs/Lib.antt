@@ -1,0 +1,5 @@
+pub mod Ends
+pub mod Dumped
+pub mod Kept
+pub mod Telling
+pub mod Restoring
