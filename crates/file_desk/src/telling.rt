@@ -1,5 +1,6 @@
 //! What the programs over `desk.db` say on standard error.
 use fixdesk_run::{Said, tell_said};
+use restore_run::RestoreEnd;
 use row_store::OpenFault;
 use sqlite::{Error, ErrorCode};
 
@@ -31,6 +32,30 @@ impl<'w> Called<'w> {
                 drop(eprintln!(rt; "{program}: port {port} is in use, or may not be listened on"))
             }
             _ => tell_said(rt, program, code, said),
+        }
+    }
+
+    /// Says in one line why a dump was not restored. Which words are said is not promised.
+    pub fn tell_restoring(self, rt: &HostRuntime, end: RestoreEnd, fault: Option<OpenFault>) {
+        let program = self.program;
+        match end {
+            RestoreEnd::Unavailable if fault.is_none() => {
+                drop(eprintln!(rt; "{program}: the rows of the dump can't be put into desk.db"))
+            }
+            RestoreEnd::Damaged => {
+                drop(eprintln!(rt;
+                    "{program}: a row of the dump is damaged; the line on standard output names it"
+                ))
+            }
+            RestoreEnd::Refused(line) => {
+                drop(eprintln!(rt;
+                    "{program}: standard input is no dump: line {line} is not as docs/formats.md has it"
+                ))
+            }
+            RestoreEnd::Standing => {
+                drop(eprintln!(rt; "{program}: desk.db is there already, and stays as it is"))
+            }
+            end => self.tell(rt, end.code(), fault, &Said::nothing()),
         }
     }
 }

@@ -1,47 +1,14 @@
 //! Streams over a front.
+use crate::pages::PAGES;
 use desk_base::{Both, List, MemLink, MemSink, MemSource};
 use desk_cases::{Answer, Case};
 use desk_trials::{Script, fresh};
-use http_desk::{ContentType, Front, Page, serve_stream};
+use http_desk::{Front, serve_stream};
 use keeper_core::MemKeeper;
 use machine_core::Machine;
 use session_machine::Desk;
 use std::alloc::Global;
 use std::test::Fail;
-
-/// The pages that are shown. Two have one path, and one has that of a route.
-const PAGES: [Page; 6] = [
-    Page {
-        path: "/",
-        kind: ContentType::Html,
-        text: "<!DOCTYPE html>\n<title>Desk</title>\n",
-    },
-    Page {
-        path: "/page.css",
-        kind: ContentType::Css,
-        text: "body { margin: 0 }\n",
-    },
-    Page {
-        path: "/page.js",
-        kind: ContentType::Script,
-        text: "\"use strict\";\n",
-    },
-    Page {
-        path: "/twice",
-        kind: ContentType::Css,
-        text: "body { margin: 0 }\n",
-    },
-    Page {
-        path: "/twice",
-        kind: ContentType::Script,
-        text: "\"use strict\";\n",
-    },
-    Page {
-        path: "/desk/report",
-        kind: ContentType::Script,
-        text: "\"use strict\";\n",
-    },
-];
 
 /// The most requests of a stream.
 const LIMIT: u32 = 100;

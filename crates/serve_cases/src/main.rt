@@ -1,4 +1,4 @@
-//! Tries the cases in `data/`: calls of `serve` over doors, keepers and outputs in memory, and streams over a front, with
+//! Tries the cases in `data/`: calls of `serve` and `serve_pages` over doors, keepers and outputs in memory, and streams over a front, with
 //! the desk of `session_machine`.
 //!
 //! The words are the files of cases; a file's name up to its first `-` says what is tried. `docs/cases.md` says how a
@@ -9,8 +9,10 @@ mod answers;
 mod calls;
 mod doors;
 mod fronts;
+mod pages;
 mod visits;
 
+use crate::calls::Called;
 use desk_cases::{Answer, Case, Part, Subject, try_files};
 use std::test::Fail;
 
@@ -25,7 +27,7 @@ impl Subject for Serves {
     fn reads(&self, kind: &str, case: &Case, part: &Part) -> bool {
         let name = part.name.as_str();
         match kind {
-            "serve" => is_setting(name) || case.has_word(&NAMING, name),
+            "serve" | "pages" => is_setting(name) || case.has_word(&NAMING, name),
             "front" => matches!(name, "bytes" | "port") || case.has_word(&NAMING, name),
             _ => name == "words",
         }
@@ -33,9 +35,11 @@ impl Subject for Serves {
 
     fn answer(&mut self, kind: &str, case: &Case, answer: &mut Answer) -> Result<(), Fail> {
         match kind {
-            "serve" => visits::told(case, answer),
+            "serve" => visits::told(Called::Serve, case, answer),
+            "pages" => visits::told(Called::Pages, case, answer),
             "front" => fronts::told(case, answer),
-            "words" => visits::each(case, answer),
+            "words" => visits::each(Called::Serve, case, answer),
+            "page_words" => visits::each(Called::Pages, case, answer),
             _ => Err(Fail::new("a file of cases has an unknown kind")),
         }
     }

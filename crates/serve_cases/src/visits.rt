@@ -1,6 +1,6 @@
-//! Calls of `serve` as cases state them.
+//! Calls of `serve` and `serve_pages` as cases state them.
 use crate::answers::{add_answers, add_end};
-use crate::calls::{Served, call};
+use crate::calls::{Called, Served, call};
 use desk_base::MemLink;
 use desk_cases::{Answer, Case, Part};
 use desk_trials::{Script, fresh, keeper_of};
@@ -9,22 +9,38 @@ use std::alloc::Global;
 use std::test::Fail;
 
 /// What the call of a case was answered, and what is left of its door and of its keeper's tables.
-pub fn told(case: &Case, answer: &mut Answer) -> Result<(), Fail> {
+pub fn told(called: Called, case: &Case, answer: &mut Answer) -> Result<(), Fail> {
     let mut keeper = keeper_of(answer.alloc(), case)?;
-    let told = told_over(case, &mut keeper, answer);
+    let told = told_over(called, case, &mut keeper, answer);
     drop(keeper);
     told
 }
 
 /// The same over the keeper of the case. Its words name parts of the case alone, as over a script without requests.
-fn told_over(case: &Case, keeper: &mut MemKeeper, answer: &mut Answer) -> Result<(), Fail> {
-    add_call(case, keeper, answer)?;
+fn told_over(
+    called: Called,
+    case: &Case,
+    keeper: &mut MemKeeper,
+    answer: &mut Answer,
+) -> Result<(), Fail> {
+    add_call(called, case, keeper, answer)?;
     Script::new(answer.alloc()).add_tables(case, keeper, answer)
 }
 
 /// Makes the call of a case, and adds what it left of the output and of the door.
-fn add_call(case: &Case, keeper: &mut MemKeeper, answer: &mut Answer) -> Result<(), Fail> {
-    let Served { status, out, door } = call(answer.alloc(), case, case.bytes("words")?, keeper)?;
+fn add_call(
+    called: Called,
+    case: &Case,
+    keeper: &mut MemKeeper,
+    answer: &mut Answer,
+) -> Result<(), Fail> {
+    let Served { status, out, door } = call(
+        answer.alloc(),
+        called,
+        case,
+        case.bytes("words")?,
+        keeper,
+    )?;
     let accepted = door.accepted();
     let closed = door.into_closed();
     tell_call(
@@ -50,18 +66,18 @@ fn tell_call(
 }
 
 /// What the words of each part `words` of a case are answered, over a door without links.
-pub fn each(case: &Case, answer: &mut Answer) -> Result<(), Fail> {
+pub fn each(called: Called, case: &Case, answer: &mut Answer) -> Result<(), Fail> {
     for part in &case.parts {
         if part.name.as_str() == "words" {
-            add_one(case, part, answer)?;
+            add_one(called, case, part, answer)?;
         }
     }
     Ok(())
 }
 
 /// Adds what the call with these words left, and the words where another thing was said than is wanted.
-fn add_one(case: &Case, words: &Part, answer: &mut Answer) -> Result<(), Fail> {
-    let served = alone(answer.alloc(), case, words.content.as_slice())?;
+fn add_one(called: Called, case: &Case, words: &Part, answer: &mut Answer) -> Result<(), Fail> {
+    let served = alone(answer.alloc(), called, case, words.content.as_slice())?;
     tell_one(case, words, &served, answer)
 }
 
@@ -74,9 +90,9 @@ fn tell_one(case: &Case, words: &Part, served: &Served, answer: &mut Answer) -> 
 }
 
 /// Makes a call with these words over an empty desk.
-fn alone(alloc: Global, case: &Case, words: &[u8]) -> Result<Served, Fail> {
+fn alone(alloc: Global, called: Called, case: &Case, words: &[u8]) -> Result<Served, Fail> {
     let mut keeper = fresh(alloc)?;
-    let served = call(alloc, case, words, &mut keeper);
+    let served = call(alloc, called, case, words, &mut keeper);
     drop(keeper);
     served
 }
