@@ -85,10 +85,10 @@ IsBookFor-bound rows session shelved bound valid is = record {
 }
 
 -- what is made of a session that is found, over the book of its edition
-pub session-given : {A : Type 0} (published : Published) (find : Checked SessionRow)
-    (on : Bound → SessionRow → Checked A) (session : SessionRow) (bound : Bound) (result : Result A Stop)
-    → IsFound find session → bound_at published session.edition ≡ Some bound → Answers result (on bound session)
+pub session-given : {A : Type 0} {published : Published} (find : Checked SessionRow)
+    (on : Bound → SessionRow → Checked A) (session : SessionRow) (shelved : Shelved) (result : Result A Stop)
+    → IsFound find session → IsBookFor published session shelved → Answers result (on (bound_on shelved) session)
     → Answers result (find >>= (λ one. bound_for published one >>= (λ its. on its one)))
-session-given published find on session bound result found here answers =
+session-given {A} {published} find on session shelved result found book answers =
     Answers-then find (λ one. bound_for published one >>= (λ its. on its one)) session result
-    (Answers-found find (Ok session) found) (rw here answers)
+    (Answers-found find (Ok session) found) (rw book.bound answers)

@@ -1,20 +1,24 @@
 //! What the rules make of a session.
-ghost use Rattle.std.specs.Prelude.{◌≡◌, ◌≤◌, length, IfOk};
-ghost use Rattle.desk_words.specs.Tables.{Rows, published_of};
+ghost use Rattle.std.specs.Prelude.{◌≡◌, ◌≤◌, length, IfOk, OnOk};
+ghost use Rattle.desk_words.specs.Tables.{published_of, rows_of};
 ghost use Rattle.desk_valid.specs.Valid.{AreValid};
 ghost use Rattle.fix_engine.specs.Verdicts.{IsAnswer};
 ghost use Rattle.fix_model.specs.States.{Fits};
 ghost use Rattle.fix_model.specs.Valid.{IsValid};
 ghost use Rattle.machine_core.specs.Answers.{shown_state, state_of};
+ghost use Rattle.machine_core.specs.Outcomes.{Lends};
+ghost use Rattle.machine_core.specs.Own.{IsOwn};
 ghost use Rattle.machine_core.specs.Sessions.{IsSessionOf};
 ghost use Rattle.machine_core.specs.Shelves.{AreHeld, IsFirst, IsFullRoom, bound_on};
+ghost use Rattle.machine_core.specs.Tests.{session_of};
 ghost use Rattle.machine_views.specs.Answered.{IsAnswered, IsBookFor, Suits, answer_in};
+ghost use Rattle.machine_views.specs.Looking.{IsSessionFirst};
 
 use desk_base::{NoMemory, Steps};
-use desk_words::SessionRow;
+use desk_words::{SessionRow, Tables};
 use fix_engine::{Verdict, Work, apply, decide};
 use fix_model::State;
-use machine_core::{shelved, state_of};
+use machine_core::{Own, Stop, hold, session_of, shelved, state_of};
 use master_index::{Shelf, Shelved, SortedBook};
 use std::alloc::Global;
 
@@ -25,11 +29,35 @@ pub(crate) struct Answered {
     pub shown: State,
 }
 
+/// The session of a clerk with this number, counted from 1. Its edition comes first on the shelf.
+pub(crate) fn brought_session<'o>(
+    alloc: Global,
+    tables: &Tables,
+    shelf: &mut Shelf,
+    own: &'o Own,
+    number: u32,
+) -> Result<&'o SessionRow, Stop>
+    requires valid { AreValid (rows_of tables.now) }
+    requires held { AreHeld (published_of (rows_of tables.now)) shelf.old }
+    requires own { IsOwn (rows_of tables.now) own.now }
+    ensures finds { Lends result (session_of own.now.sessions number) }
+    ensures stands { IfOk result (λ session. IsSessionOf (published_of (rows_of tables.now)) session.now) }
+    ensures brought { IfOk result (λ session. IsFirst session.now.edition shelf.new) }
+    ensures first { OnOk result (IsSessionFirst own.now.sessions number shelf.new) }
+    ensures held { AreHeld (published_of (rows_of tables.now)) shelf.new }
+{
+    let session = session_of(own.sessions(), number)?;
+    hold(alloc, tables, shelf, session.edition)?;
+    Ok(session)
+}
+
 /// The book for a session whose edition stands first on the shelf.
-pub(crate) fn book_for<'s>(shelf: &'s Shelf, session: &SessionRow) -> &'s Shelved
-    requires { IsFirst session.now.edition shelf.now }
-    ensures { (rows : Rows) → AreValid rows → AreHeld (published_of rows) shelf.now
-        → IsSessionOf (published_of rows) session.now → IsBookFor (published_of rows) session.now result.now }
+pub(crate) fn book_for<'s>(tables: &Tables, shelf: &'s Shelf, session: &SessionRow) -> &'s Shelved
+    requires valid { AreValid (rows_of tables.now) }
+    requires held { AreHeld (published_of (rows_of tables.now)) shelf.now }
+    requires session { IsSessionOf (published_of (rows_of tables.now)) session.now }
+    requires first { IsFirst session.now.edition shelf.now }
+    ensures { IsBookFor (published_of (rows_of tables.now)) session.now result.now }
 {
     shelved(shelf, session.edition)
 }

@@ -36,7 +36,7 @@ pub(crate) fn assess(
     ensures room { IsFullRoom work.new }
 {
     hold(alloc, tables, shelf, session.edition)?;
-    let shelved = book_for(shelf, session);
+    let shelved = book_for(tables, shelf, session);
     answer_to(alloc, work, shelved, session)
 }
 

@@ -42,7 +42,7 @@ pub fn view_of(
     ensures room { IsFullRoom work.new }
 {
     hold(alloc, tables, shelf, session.edition)?;
-    let shelved = book_for(shelf, session);
+    let shelved = book_for(tables, shelf, session);
     view_on(alloc, tables, shelved, work, number, session)
 }
 

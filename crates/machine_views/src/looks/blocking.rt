@@ -13,7 +13,7 @@ ghost use Rattle.machine_core.specs.Shelves.{AreHeld, IsFullRoom, bound_on};
 ghost use Rattle.machine_views.specs.Answered.{IsNamedBook, Suits};
 ghost use Rattle.machine_views.specs.Naming.{IsBlockedOf, IsBlockedRuleOf, IsBlockerOf};
 
-use crate::answers::{answer_to, book_for};
+use crate::answers::{answer_to, book_for, brought_session};
 use crate::looks::explaining::not_in_conflict;
 use crate::views::{master_name, name_at, named_attributes};
 use desk_base::{List, NoMemory};
@@ -21,7 +21,7 @@ use desk_words::{Blocked, SessionRow, ShownBlocked, ShownBlocker, ShownRule, Tab
 use fix_blockers::{BlockedAttribute, BlockedRule, Blocker, blocked};
 use fix_engine::Work;
 use fix_model::State;
-use machine_core::{Own, Stop, hold, session_of};
+use machine_core::{Own, Stop};
 use master_index::{Shelf, Shelved, SortedBook};
 use std::alloc::Global;
 
@@ -42,9 +42,8 @@ pub fn blocked_at(
     ensures held { AreHeld (published_of (rows_of tables.now)) shelf.new }
     ensures room { IsFullRoom work.new }
 {
-    let session = session_of(own.sessions(), number)?;
-    hold(alloc, tables, shelf, session.edition)?;
-    let shelved = book_for(shelf, session);
+    let session = brought_session(alloc, tables, shelf, own, number)?;
+    let shelved = book_for(tables, shelf, session);
     blocked_on(alloc, shelved, work, number, session)
 }
 

@@ -15,14 +15,14 @@ ghost use Rattle.machine_core.specs.Shelves.{AreHeld, IsFullRoom, bound_on};
 ghost use Rattle.machine_views.specs.Answered.{IsNamedBook, Suits};
 ghost use Rattle.machine_views.specs.Naming.{IsChoiceOf, IsDissentOf};
 
-use crate::answers::{answer_to, book_for};
+use crate::answers::{answer_to, book_for, brought_session};
 use crate::views::{name_at, shown_step};
 use desk_base::{Duplicate, List, NoMemory};
 use desk_words::{Choices, SessionRow, ShownChoice, ShownDissent, ShownEnd, Tables};
 use fix_choices::{Choice, Dissent, Ending, choices, dissent};
 use fix_engine::{Verdict, Work};
 use fix_model::State;
-use machine_core::{Own, Stop, hold, session_of, state_of};
+use machine_core::{Own, Stop, state_of};
 use master_index::{Shelf, Shelved, SortedBook};
 use std::alloc::Global;
 
@@ -43,9 +43,8 @@ pub fn choices_at(
     ensures held { AreHeld (published_of (rows_of tables.now)) shelf.new }
     ensures room { IsFullRoom work.new }
 {
-    let session = session_of(own.sessions(), number)?;
-    hold(alloc, tables, shelf, session.edition)?;
-    let shelved = book_for(shelf, session);
+    let session = brought_session(alloc, tables, shelf, own, number)?;
+    let shelved = book_for(tables, shelf, session);
     Ok(choices_on(alloc, shelved, work, number, session)?)
 }
 

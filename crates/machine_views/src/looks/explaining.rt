@@ -14,14 +14,14 @@ ghost use Rattle.machine_core.specs.Shelves.{AreHeld, IsFullRoom, bound_on};
 ghost use Rattle.machine_views.specs.Answered.{IsNamedBook, Suits};
 ghost use Rattle.machine_views.specs.Looking.{IsSessionFirst};
 
-use crate::answers::{answer_to, book_for};
+use crate::answers::{answer_to, book_for, brought_session};
 use crate::views::{name_at, named_attributes, named_steps};
 use desk_base::{Duplicate, NoMemory, Str};
 use desk_words::{Explained, Refusal, SessionRow, Tables};
 use fix_engine::{Verdict, Work};
 use fix_explain::{reason, uses};
 use fix_model::{Cell, State, Step};
-use machine_core::{Own, Stop, attribute_of, hold, session_of, state_of};
+use machine_core::{Own, Stop, attribute_of, state_of};
 use master_index::{Shelf, Shelved, SortedBook};
 use std::alloc::Global;
 
@@ -45,9 +45,8 @@ pub fn explain(
     ensures held { AreHeld (published_of (rows_of tables.now)) shelf.new }
     ensures room { IsFullRoom work.new }
 {
-    let session = session_of(own.sessions(), number)?;
-    hold(alloc, tables, shelf, session.edition)?;
-    let shelved = book_for(shelf, session);
+    let session = brought_session(alloc, tables, shelf, own, number)?;
+    let shelved = book_for(tables, shelf, session);
     explained_on(alloc, shelved, work, session, word)
 }
 

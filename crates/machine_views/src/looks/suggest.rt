@@ -45,7 +45,7 @@ pub fn suggestion_of(
 {
     let session = active_session(own.sessions(), number)?;
     hold(alloc, tables, shelf, session.edition)?;
-    let shelved = book_for(shelf, session);
+    let shelved = book_for(tables, shelf, session);
     Ok(suggestion_on(alloc, tables, shelved, work, session)?)
 }
 

@@ -8,18 +8,12 @@ use Rattle.machine_views.specs.Counts.{assessed}
 use Rattle.machine_views.proofs.Told.{assessment-given}
 use Rattle.machine_views.proofs.counting.assess.Goals as goal
 
-pub answer_to-requires-clause-suits : goal.answer_to-requires-clause-suits
-answer_to-requires-clause-suits c =
-    (c.book_for-shelved.ensures (rows_of c.args.tables.now) c.requires.valid c.in_ok-hold.ensures.held
-    c.requires.session).suits
-
 pub returns-clause-assessment : goal.returns-clause-assessment
 returns-clause-assessment c =
     let published = published_of (rows_of c.args.tables.now) in
     let session = c.args.session.now in
     let shelved = c.book_for-shelved.result.now in
-    let book = c.book_for-shelved.ensures (rows_of c.args.tables.now) c.requires.valid c.in_ok-hold.ensures.held
-    c.requires.session in
+    let book = c.book_for-shelved.ensures in
     IfOk-weaker c.answer_to.result (IsAnswered shelved session c.answer_to.new.work)
     (λ answered. Gives (assessment_of published session) (Ok (assessed session answered)))
     (λ answered is. assessment-given published session shelved c.answer_to.new.work answered book.bound is)
@@ -28,8 +22,7 @@ returns-clause-assessment c =
 pub returns-clause-narrow : goal.returns-clause-narrow
 returns-clause-narrow c =
     let shelved = c.book_for-shelved.result.now in
-    let book = c.book_for-shelved.ensures (rows_of c.args.tables.now) c.requires.valid c.in_ok-hold.ensures.held
-    c.requires.session in
+    let book = c.book_for-shelved.ensures in
     IfOk-weaker c.answer_to.result (IsAnswered shelved c.args.session.now c.answer_to.new.work)
     (λ answered. length answered.shown.cells ≤ 48)
     (λ answered is. omega (arith, is.fits.cells, book.suits.book.named.valid.narrow)) c.answer_to.ensures.answered

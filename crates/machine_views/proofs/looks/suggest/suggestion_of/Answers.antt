@@ -1,6 +1,5 @@
 use Rattle.std.proofs.Common.{◌-◌}
 use Rattle.desk_words.specs.Tables.{published_of, rows_of}
-use Rattle.machine_core.specs.Sessions.{IsSessionOf}
 use Rattle.machine_core.specs.Shelves.{bound_on}
 use Rattle.machine_views.proofs.Advising.{suggestion-given}
 use Rattle.machine_views.proofs.Keeping.{own-rows, session-stands}
@@ -13,23 +12,16 @@ hold-requires-clause-edition c =
     (own-rows (rows_of c.args.tables.now) own c.requires.valid c.requires.own) (c.args.number - 1)
     c.in_ok-session.session.now (rw c.sessions.ensures at c.in_ok-session.ensures.stands)).edition
 
-pub suggestion_on-requires-clause-book : goal.suggestion_on-requires-clause-book
-suggestion_on-requires-clause-book c =
+pub book_for-shelved-requires-clause-session : goal.book_for-shelved-requires-clause-session
+book_for-shelved-requires-clause-session c =
     let own = c.args.own.now in
-    let is : IsSessionOf (published_of (rows_of c.args.tables.now)) c.in_ok-session.session.now =
     session-stands (published_of (rows_of c.args.tables.now)) own
     (own-rows (rows_of c.args.tables.now) own c.requires.valid c.requires.own) (c.args.number - 1)
-    c.in_ok-session.session.now (rw c.sessions.ensures at c.in_ok-session.ensures.stands) in
-    c.book_for-shelved.ensures (rows_of c.args.tables.now) c.requires.valid c.in_ok-hold.ensures.held is
+    c.in_ok-session.session.now (rw c.sessions.ensures at c.in_ok-session.ensures.stands)
 
 pub returns-clause-suggestion : goal.returns-clause-suggestion
 returns-clause-suggestion c =
-    let own = c.args.own.now in
-    let is : IsSessionOf (published_of (rows_of c.args.tables.now)) c.in_ok-session.session.now =
-    session-stands (published_of (rows_of c.args.tables.now)) own
-    (own-rows (rows_of c.args.tables.now) own c.requires.valid c.requires.own) (c.args.number - 1)
-    c.in_ok-session.session.now (rw c.sessions.ensures at c.in_ok-session.ensures.stands) in
-    let book = c.book_for-shelved.ensures (rows_of c.args.tables.now) c.requires.valid c.in_ok-hold.ensures.held is in
-    suggestion-given (published_of (rows_of c.args.tables.now)) own c.args.number c.in_ok-session.session.now
-    (bound_on c.book_for-shelved.result.now) c.in_ok-suggestion_on.field-0
-    (rw c.sessions.ensures at c.in_ok-session.ensures.finds) book.bound c.in_ok-suggestion_on.ensures.suggestion
+    suggestion-given (published_of (rows_of c.args.tables.now)) c.args.own.now c.args.number
+    c.in_ok-session.session.now (bound_on c.book_for-shelved.result.now) c.in_ok-suggestion_on.field-0
+    (rw c.sessions.ensures at c.in_ok-session.ensures.finds) c.book_for-shelved.ensures.bound
+    c.in_ok-suggestion_on.ensures.suggestion
