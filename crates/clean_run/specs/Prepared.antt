@@ -1,5 +1,5 @@
 -- What words come to over the files that they name: a setting, and a book over the masters.
-use Rattle.std.specs.Prelude.{ℕ, Bool, false, nat_le, List, length, map, filter, slice_index_or, Result, Ok, Err}
+use Rattle.std.specs.Prelude.{ℕ, Bool, false, nat_le, List, length, filter, slice_index_or, Result, Ok, Err}
 use Rattle.std.specs.Prelude.{if◌then◌else◌}
 use Rattle.std.specs.List.{range_with_len}
 use Rattle.desk_base.specs.declared.limits.TheConstants.{MAX_ENTRIES}
@@ -7,6 +7,7 @@ use Rattle.fix_model.specs.Entries.{entries}
 use Rattle.fix_model.specs.declared.kit.Kit.{Kit}
 use Rattle.fix_model.specs.declared.names.Names.{Names}
 use Rattle.rule_text.specs.Binding.{bound}
+use Rattle.rule_text.specs.Names.{names_in}
 use Rattle.rule_text.specs.declared.binding.BindFault.{BindFault}
 use Rattle.sheet_clean.specs.Setting.{IsSettingOf}
 use Rattle.sheet_clean.specs.declared.setting.Setting.{Setting}
@@ -38,11 +39,7 @@ book_in parts = do
 
 -- the names of attributes, rules and masters, each in their order
 abbrev pub names_of : Parts → Names
-names_of parts = record {
-  attributes = parts.schema.attributes;
-  rules = map (λ line. line.name) parts.sources.rules.lines;
-  masters = map (λ master. master.0) parts.sources.masters;
-}
+names_of parts = names_in parts.schema parts.sources.rules parts.sources.masters
 
 -- what a sheet is cleaned by besides the kit
 abbrev pub setting_of : Words → Parts → Setting

@@ -1,9 +1,9 @@
 //! What words come to over the files that they name: a setting, and a book over the masters.
-ghost use Rattle.std.specs.Prelude.{◌≡◌, ◌≢◌, ◌≤◌, Err, IfErr, IfOk, Ok, length, map};
+ghost use Rattle.std.specs.Prelude.{◌≡◌, ◌≢◌, ◌≤◌, Err, IfErr, IfOk, Ok, length};
 ghost use Rattle.fix_model.specs.Valid.{IsValid};
 ghost use Rattle.clean_run.specs.Files.{Folder};
 ghost use Rattle.clean_run.specs.Parts.{AreParts, accepted};
-ghost use Rattle.clean_run.specs.Prepared.{IsPrepared, assembled, book_in, bound_parts, indexed, names_of, places};
+ghost use Rattle.clean_run.specs.Prepared.{IsPrepared, assembled, book_in, bound_parts, indexed, places};
 ghost use Rattle.clean_run.specs.Prepared.{prepared};
 ghost use Rattle.clean_run.specs.Words.{IsFit};
 
@@ -14,10 +14,9 @@ use crate::sentences::refused;
 use crate::words::Words;
 use desk_base::{Duplicate, List, NoMemory, Text};
 use fault_sentences::{Over, bind_sentence, index_sentence};
-use fix_model::{Kit, Names};
+use fix_model::Kit;
 use master_index::{BuildFault, SortedBook};
-use master_rows::Master;
-use rule_text::{BindFault, RuleLine, bind};
+use rule_text::{BindFault, bind, names_in};
 use sheet_clean::Setting;
 use std::alloc::Global;
 
@@ -54,7 +53,13 @@ fn assembled(alloc: Global, words: &Words<'_>, parts: Parts) -> Result<Prepared,
     ensures fault { IfErr result (λ ended. ended.status ≢ Status.NoMemory
         → assembled words.now parts ≡ Err ended.status) }
 {
-    let names = names_of(alloc, &parts)?;
+    let sources = &parts.sources;
+    let names = names_in(
+        alloc,
+        &parts.schema,
+        &sources.rules,
+        sources.masters.as_slice(),
+    )?;
     let verdict = verdict_of(&words.verdict)?;
     let book = book_in(alloc, words.rules, &parts)?;
     let chosen = parts.chosen;
@@ -132,37 +137,6 @@ fn book_of(alloc: Global, file: &str, kit: Kit) -> Result<SortedBook, Ended>
             Err(refused(alloc, file, index_sentence(alloc, entries))?)
         }
     }
-}
-
-/// The names of attributes, rules and masters.
-fn names_of(alloc: Global, parts: &Parts) -> Result<Names, NoMemory>
-    ensures { IfOk result (λ names. names ≡ names_of parts.now) }
-{
-    Ok(Names {
-        attributes: parts.schema.attributes.copy()?,
-        rules: rule_names(alloc, parts.sources.rules.lines.as_slice())?,
-        masters: master_names(alloc, parts.sources.masters.as_slice())?,
-    })
-}
-
-fn rule_names(alloc: Global, lines: &[RuleLine]) -> Result<List<Text>, NoMemory>
-    ensures { IfOk result (λ names. names ≡ map (λ line. line.name) lines.now) }
-{
-    let mut names = List::new(alloc);
-    'lines: for line in lines {
-        names.push(line.name.copy()?)?;
-    }
-    Ok(names)
-}
-
-fn master_names(alloc: Global, masters: &[(Text, Master)]) -> Result<List<Text>, NoMemory>
-    ensures { IfOk result (λ names. names ≡ map (λ master. master.0) masters.now) }
-{
-    let mut names = List::new(alloc);
-    'masters: for master in masters {
-        names.push(master.0.copy()?)?;
-    }
-    Ok(names)
 }
 
 /// The name of the column of verdicts, if one is wanted.

@@ -7,6 +7,7 @@ use Rattle.fix_model.specs.declared.names.Names.{Names}
 use Rattle.fix_model.specs.Valid.{IsValid}
 use Rattle.rule_text.specs.declared.binding.BindFault.{BindFault}
 use Rattle.rule_text.specs.Binding.{AreFolded, AreMasters, bound}
+use Rattle.rule_text.specs.Names.{names_in}
 use Rattle.rule_text.specs.Rulebooks.{IsRulebook}
 use Rattle.schema_core.specs.Schemas.{IsSchema}
 use Rattle.desk_valid.specs.Readings.{all_of, master_at, read, rules_at}
@@ -26,11 +27,7 @@ binding parts folded = bound parts.rules.rulebook parts.rules.schema parts.maste
 
 -- the words of the attributes, the names of the rules and those of the masters, each in their order
 abbrev pub names_of : Parts → Names
-names_of parts = record {
-  attributes = parts.rules.schema.attributes;
-  rules = map (λ line. line.name) parts.rules.rulebook.lines;
-  masters = map (λ master. master.0) parts.masters;
-}
+names_of parts = names_in parts.rules.schema parts.rules.rulebook parts.masters
 
 -- the kit that the parts bind to with these attributes folded, and its names, where they bind
 abbrev pub bound_of : Parts → List ℕ → Option Bound

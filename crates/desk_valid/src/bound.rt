@@ -1,18 +1,17 @@
 //! The kit of an edition.
-ghost use Rattle.std.specs.Prelude.{◌≡◌, ◌<◌, ◌≤◌, length, map, Some, IfOk, IsSome};
+ghost use Rattle.std.specs.Prelude.{◌≡◌, ◌<◌, ◌≤◌, length, Some, IfOk, IsSome};
 ghost use Rattle.desk_base.specs.declared.limits.TheConstants.{MAX_ENTRIES};
 ghost use Rattle.desk_words.specs.Tables.{published_of, rows_of};
 ghost use Rattle.fix_model.specs.Entries.{entries};
 ghost use Rattle.fix_model.specs.Valid.{IsValid};
-ghost use Rattle.desk_valid.specs.Bindings.{AreBindable, bound_at, bound_of, names_of};
+ghost use Rattle.desk_valid.specs.Bindings.{AreBindable, bound_at, bound_of};
 ghost use Rattle.desk_valid.specs.Valid.{AreValid};
 
 use crate::parts::{Parts, parts_of};
-use desk_base::{Duplicate, List, NoMemory, Text};
+use desk_base::NoMemory;
 use desk_words::Tables;
 use fix_model::{Kit, Names};
-use master_rows::Master;
-use rule_text::{BindFault, RuleLine, bind};
+use rule_text::{BindFault, bind, names_in};
 use std::alloc::Global;
 
 /// A kit, with the names of its attributes, rules and masters, each in their order.
@@ -50,45 +49,11 @@ fn bound_of(alloc: Global, parts: Parts, folded: &[u16]) -> Result<Bound, NoMemo
     let masters = parts.masters.as_slice();
     match bind(alloc, &rules.rulebook, &rules.schema, masters, folded) {
         Ok(kit) => {
-            let names = names_of(alloc, &parts)?;
+            let names = names_in(alloc, &rules.schema, &rules.rulebook, masters)?;
             Ok(Bound { kit, names })
         }
         Err(BindFault::NoMemory) => Err(NoMemory),
         // In valid tables the parts of an edition bind.
         Err(_) => unreachable!(),
     }
-}
-
-/// The words of the attributes, the names of the rules and those of the masters, each in their order.
-fn names_of(alloc: Global, parts: &Parts) -> Result<Names, NoMemory>
-    ensures { IfOk result (λ names. names ≡ names_of parts.now) }
-{
-    let attributes = parts.rules.schema.attributes.copy()?;
-    let rules = rule_names(alloc, parts.rules.rulebook.lines.as_slice())?;
-    let masters = master_names(alloc, parts.masters.as_slice())?;
-    Ok(Names {
-        attributes,
-        rules,
-        masters,
-    })
-}
-
-fn rule_names(alloc: Global, lines: &[RuleLine]) -> Result<List<Text>, NoMemory>
-    ensures { IfOk result (λ names. names ≡ map (λ line. line.name) lines.now) }
-{
-    let mut names = List::new(alloc);
-    'lines: for line in lines {
-        names.push(line.name.copy()?)?;
-    }
-    Ok(names)
-}
-
-fn master_names(alloc: Global, masters: &[(Text, Master)]) -> Result<List<Text>, NoMemory>
-    ensures { IfOk result (λ names. names ≡ map (λ master. master.0) masters.now) }
-{
-    let mut names = List::new(alloc);
-    'masters: for master in masters {
-        names.push(master.0.copy()?)?;
-    }
-    Ok(names)
 }

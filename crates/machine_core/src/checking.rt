@@ -1,5 +1,5 @@
 //! Check: what publishing a proposal next would come to.
-ghost use Rattle.std.specs.Prelude.{◌≡◌, ◌<◌, ◌^◌, length, map, IfOk};
+ghost use Rattle.std.specs.Prelude.{◌≡◌, ◌<◌, ◌^◌, length, IfOk};
 ghost use Rattle.desk_words.specs.Tables.{published_of, rows_of};
 ghost use Rattle.desk_valid.specs.Tallies.{master_cells};
 ghost use Rattle.desk_valid.specs.Valid.{AreValid};
@@ -12,10 +12,10 @@ use crate::noting::notes;
 use crate::saying::says;
 use crate::steward::{edition_entries, edition_row, master_row, rulebook_row, schema_row};
 use crate::stop::Stop;
-use desk_base::{Duplicate, List, NoMemory, Str, Text};
+use desk_base::{List, Str};
 use desk_valid::schema_of;
 use desk_words::{Fits, Proposal, Reply, Tables};
-use rule_text::RuleLine;
+use rule_text::rule_names;
 use std::alloc::Global;
 
 /// What a proposal would be made to with the notes on it, or its refusal with what is said of it, where the masters so
@@ -134,17 +134,6 @@ fn rulebook_fits(
         version: row.version,
         rules: rule_names(alloc, rulebook.lines.as_slice())?,
     })
-}
-
-/// The names of rules, in their order.
-fn rule_names(alloc: Global, lines: &[RuleLine]) -> Result<List<Text>, NoMemory>
-    ensures { IfOk result (λ names. names ≡ map (λ line. line.name) lines.now) }
-{
-    let mut names = List::new(alloc);
-    'lines: for line in lines {
-        names.push(line.name.copy()?)?;
-    }
-    Ok(names)
 }
 
 /// The edition that would be made, with how many entries its index would have.

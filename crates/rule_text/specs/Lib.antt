@@ -7,3 +7,4 @@ pub mod Rulebooks
 pub mod Printing
 pub mod BookTokens
 pub mod Binding
+pub mod Names

@@ -1,5 +1,5 @@
 use Rattle.std.proofs.Common.{◌≡◌, map, take}
-use Rattle.clean_run.proofs.prepared.rule_names.Given as goal
+use Rattle.rule_text.proofs.names.rule_names.Given as goal
 
 abbrev pub invariant-lines : goal.invariant-lines
 invariant-lines l = l.names ≡ map (λ line. line.name) (take l.line-index l.lines)
