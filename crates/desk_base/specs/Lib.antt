@@ -7,5 +7,6 @@ pub mod Roomy
 pub mod Memory
 pub mod Places
 pub mod Plans
+pub mod Sinks
 pub mod Texts
 pub mod Words

@@ -4,14 +4,13 @@ use Rattle.std.proofs.Common.{arith, append_assoc, append-nil}
 use Rattle.std.specs.List.{AllByRecursion}
 use Rattle.std.specs.Prelude.{All}
 use Rattle.std.proofs.Math.Seq.{set-append_seam}
-use Rattle.std.proofs.lemmas.Bool.Decides.{nat_tests}
 use Rattle.std.proofs.lemmas.List.{length-append}
 use Rattle.desk_words.specs.declared.change.Change.{Change}
 use Rattle.desk_words.specs.declared.change.Change.TheVariants as change
 use Rattle.desk_words.specs.declared.rows.clerk.ClerkRow.{ClerkRow}
-use Rattle.desk_words.specs.Changes.{FitAll, Fits, changed, changed_all, put, with_clerk, with_list}
+use Rattle.desk_words.specs.Changes.{FitAll, Fits, changed, changed_all, put, with_list}
 use Rattle.desk_words.specs.Tables.{AreTables, IsShort, Rows, empty_rows, list_at, row_limit}
-use Rattle.desk_words.proofs.Changes.{put-end}
+use Rattle.desk_words.proofs.Changes.{put-end, with_clerk-end}
 use Rattle.desk_restore.specs.Changes.{changes_of, put_from, put_lists}
 
 -- changes that fit tables, and make others of them
@@ -100,10 +99,6 @@ with_clerks rows list = record rows {
   records = rows.records ++ map (λ row. []) list;
   batches = rows.batches ++ map (λ row. []) list;
 }
-
--- a list comes for a clerk who is put after the others
-with_clerk-end : {T : Type 0} (lists : List (List T)) (clerks : ℕ) → with_clerk lists clerks clerks ≡ lists ++ [] ∷ []
-with_clerk-end lists clerks = grind (arith, nat_tests)
 
 -- a caller who is put after the others
 changed-clerk : (rows : Rows) (place : ℕ) (row : ClerkRow) → place ≡ length rows.clerks

@@ -20,6 +20,11 @@ length-put {T} items place item = grind (arith, nat_tests, length-set {A = T}, l
 pub put-end : {T : Type 0} (items : List T) (item : T) → put items (length items) item ≡ items ++ item ∷ []
 put-end items item = grind (arith, nat_tests)
 
+-- a list comes for a clerk who is put after the others
+pub with_clerk-end : {T : Type 0} (lists : List (List T)) (clerks : ℕ) → with_clerk lists clerks clerks ≡ lists
+    ++ [] ∷ []
+with_clerk-end lists clerks = grind (arith, nat_tests)
+
 -- there is one list more where a clerk comes
 pub length-with_clerk : {T : Type 0} (lists : List (List T)) (place clerks : ℕ)
     → length (with_clerk lists place clerks) ≡ (if place == clerks then length lists + 1 else length lists)

@@ -32,10 +32,6 @@ pub with_clerk-within : {T : Type 0} (lists : List (List T)) (place clerks : ℕ
     → with_clerk lists place clerks ≡ lists
 with_clerk-within lists place clerks within = grind (arith, nat_tests)
 
-pub with_clerk-end : {T : Type 0} (lists : List (List T)) (clerks : ℕ) → with_clerk lists clerks clerks ≡ lists
-    ++ [] ∷ []
-with_clerk-end lists clerks = grind (arith, nat_tests)
-
 -- no list gets shorter
 pub length-put_all : (sessions : List SessionRow) (puts : List (ℕ × SessionRow))
     → length sessions ≤ length (put_all sessions puts)

@@ -19,7 +19,7 @@ use Rattle.desk_words.specs.declared.rows.schema.SchemaRow.{SchemaRow}
 use Rattle.desk_words.specs.declared.steward_work.StewardWork.TheVariants.{AddClerk, AddMaster, AddRulebook, AddSchema}
 use Rattle.desk_words.specs.Changes.{Fits, changed}
 use Rattle.desk_words.specs.Tables.{AreTables, Published, Rows, new_clerk, published_of}
-use Rattle.desk_words.proofs.Changes.{AreTables-changed}
+use Rattle.desk_words.proofs.Changes.{AreTables-changed, put-end, with_clerk-end}
 use Rattle.desk_valid.specs.Readings.{read, rules_over}
 use Rattle.desk_valid.specs.Rows.Clerk.{IsClerkRow}
 use Rattle.desk_valid.specs.Rows.Master.{IsMasterRow}
@@ -37,7 +37,6 @@ use Rattle.machine_core.specs.Tests as tests
 use Rattle.machine_core.proofs.Masters.{not-any}
 use Rattle.machine_core.proofs.Tested.{unless-ok}
 use Rattle.machine_laws.proofs.Callers.{IsDone, names_of}
-use Rattle.machine_laws.proofs.Deeds.{put-end, with_clerk-end}
 use Rattle.machine_laws.proofs.Lists.{Begins, Begins-same, list_at-push, nothing-following, pushed}
 use Rattle.machine_laws.proofs.Valid.{AreValid-new, AreValid-published, with_new, AreGoodAfter, with_published}
 use Rattle.machine_core.proofs.Walks.{Met-Gives}

@@ -1,6 +1,7 @@
 -- What a call of `restore_desk` leaves of the link and the keeper, and when no fault comes.
 use Rattle.std.specs.Prelude.{◌≡◌, ◌≢◌, ◌⊎◌, ℕ, List, [], ◌∷◌, length, Option, ⊤}
 use Rattle.desk_base.specs.Faults.{HasTaken, Rose}
+use Rattle.desk_base.specs.Sinks.{SinkState, sink_seen}
 use Rattle.desk_words.specs.Tables.{Rows}
 use Rattle.desk_valid.specs.declared.damage.Damage.{Damage}
 use Rattle.desk_valid.specs.Damage.{IsFirstDamage}
@@ -13,18 +14,18 @@ use Rattle.restore_run.specs.declared.ended.RestoreEnd.TheVariants.{Done, NoComm
 use Rattle.restore_run.specs.declared.ended.RestoreEnd.TheVariants.{NoMemory, Damaged, Refused, Standing}
 use Rattle.restore_run.specs.Dumped.{IfLeft, IsDumpOf, IsNoDump, TakesWhole}
 use Rattle.restore_run.specs.Kept.{KeeperSeen, Keeps, keeper_seen}
-use Rattle.restore_run.specs.Telling.{Output, TellsUsage, Writes, WritesPart, output_seen, usage_line}
+use Rattle.restore_run.specs.Telling.{TellsUsage, Writes, WritesPart, usage_line}
 
 -- an output and a keeper
 pub record Scene : Type 0 where
-  pub output : Output
+  pub output : SinkState
   pub keeper : KeeperSeen
 
 -- as both tell it
 abbrev pub scene : {W K : Type 0} → (W → Option (List ℕ)) → (W → ℕ) → (K → Option Rows) → (K → ℕ) → (K → ℕ)
     → W → K → Scene
 scene written write_faults told calls faults out keeper = record {
-  output = output_seen written write_faults out;
+  output = sink_seen written write_faults out;
   keeper = keeper_seen told calls faults keeper;
 }
 

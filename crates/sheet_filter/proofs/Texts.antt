@@ -5,10 +5,11 @@ use Rattle.std.proofs.KnownBytes.{Appends-nil, Appends-trans}
 use Rattle.std.proofs.lemmas.List.{take_all}
 use Rattle.std.specs.Io.KnownBytes.{Appends}
 use Rattle.desk_base.specs.Faults.{Rose}
+use Rattle.desk_base.specs.Sinks.{SinkState}
 use Rattle.sheet_clean.specs.Sheets.{Sheets, joined, no_sheets}
 use Rattle.sheet_filter.specs.declared.outputs.Outputs.{Outputs}
 use Rattle.sheet_filter.specs.Outputs.{AreHeaded, ArePartly, AreWritten, HaveRoom, Holds, HoldsAfter, HoldsBeginning}
-use Rattle.sheet_filter.specs.Outputs.{Later, SinkState, SinkStates, SomeSinkFailed, TakeRest}
+use Rattle.sheet_filter.specs.Outputs.{Later, SinkStates, SomeSinkFailed, TakeRest}
 
 -- ---- texts of four sheets
 

@@ -2,13 +2,9 @@
 use Rattle.std.specs.Prelude.{◌≡◌, ◌⊎◌, ⊤, ℕ, ◌≤◌, List, [], ◌∷◌, ◌++◌, length, take, Option}
 use Rattle.std.specs.Io.KnownBytes.{Appends}
 use Rattle.desk_base.specs.Faults.{Rose}
+use Rattle.desk_base.specs.Sinks.{SinkState, sink_seen}
 use Rattle.sheet_filter.specs.declared.outputs.Outputs.{Outputs}
 use Rattle.sheet_clean.specs.Sheets.{Sheets, joined}
-
--- a sink: what it holds, where it tells this, and how often it has failed
-pub record SinkState : Type 0 where
-  pub written : Option (List ℕ)
-  pub faults : ℕ
 
 -- the sinks of the sheets
 pub record SinkStates : Type 0 where
@@ -21,10 +17,10 @@ pub record SinkStates : Type 0 where
 abbrev pub sinks_seen : {W C : Type 0} → (W → Option (List ℕ)) → (W → ℕ) → (C → Option (List ℕ)) → (C → ℕ)
     → Outputs W C → SinkStates
 sinks_seen written faults sheet_written sheet_faults outputs = record {
-  clean = record { written = written outputs.clean; faults = faults outputs.clean };
-  changes = record { written = sheet_written outputs.changes; faults = sheet_faults outputs.changes };
-  conflicts = record { written = sheet_written outputs.conflicts; faults = sheet_faults outputs.conflicts };
-  dissents = record { written = sheet_written outputs.dissents; faults = sheet_faults outputs.dissents };
+  clean = sink_seen written faults outputs.clean;
+  changes = sink_seen sheet_written sheet_faults outputs.changes;
+  conflicts = sink_seen sheet_written sheet_faults outputs.conflicts;
+  dissents = sink_seen sheet_written sheet_faults outputs.dissents;
 }
 
 -- the text was written to the sink
