@@ -1,9 +1,11 @@
 //! The parameters of a target, and its route with them.
 ghost use Rattle.std.specs.Prelude.{◌≤◌, ◌<◌, ◌^◌, IfOk};
 ghost use Rattle.http_cut.specs.declared.digits.TheConstants.{NUMBER_DIGITS};
+ghost use Rattle.http_cut.specs.declared.route.DeskRoute.TheVariants as of_desk;
+ghost use Rattle.http_cut.specs.declared.route.LookRoute.TheVariants as of_look;
 ghost use Rattle.http_cut.specs.declared.route.Route.TheVariants as targets;
 ghost use Rattle.http_desk.specs.Checked.{Finds};
-ghost use Rattle.http_desk.specs.Parameters.{body_form, made_in, number_at, route_in, text_at, write_in};
+ghost use Rattle.http_desk.specs.Parameters.{body_form, desk_form, look_form, made_in, number_at, route_in, text_at, write_in};
 
 use crate::declined::Declined;
 use crate::refusal::Refused;
@@ -139,21 +141,9 @@ fn look_route(
             session: number_at(found, "session")?,
         }),
         LookRoute::Report => Ok(Route::Report { clerk }),
-        LookRoute::Records => Ok(Route::Records {
-            clerk,
-            edition: text_at(alloc, found, "edition")?,
-            version: number_at(found, "version")?,
-        }),
-        LookRoute::Explain => Ok(Route::Explain {
-            clerk,
-            session: number_at(found, "session")?,
-            name: text_at(alloc, found, "name")?,
-        }),
-        LookRoute::SeeCarry => Ok(Route::SeeCarry {
-            clerk,
-            session: number_at(found, "session")?,
-            version: number_at(found, "version")?,
-        }),
+        LookRoute::Records => records_route(alloc, found, clerk),
+        LookRoute::Explain => explain_route(alloc, found, clerk),
+        LookRoute::SeeCarry => carry_route(found, clerk),
         LookRoute::Sessions => Ok(Route::Sessions {
             clerk,
             from: number_at(found, "from")?,
@@ -169,6 +159,39 @@ fn look_route(
     }
 }
 
+/// The route of a look at the records of an edition.
+fn records_route(alloc: Global, found: &RouteMatch<'_, '_>, clerk: Str) -> Result<Route, Declined>
+    ensures { Finds result (made_in (look_form clerk of_look.Records) found.now.1) }
+{
+    Ok(Route::Records {
+        clerk,
+        edition: text_at(alloc, found, "edition")?,
+        version: number_at(found, "version")?,
+    })
+}
+
+/// The route of a look at why an attribute is fixed.
+fn explain_route(alloc: Global, found: &RouteMatch<'_, '_>, clerk: Str) -> Result<Route, Declined>
+    ensures { Finds result (made_in (look_form clerk of_look.Explain) found.now.1) }
+{
+    Ok(Route::Explain {
+        clerk,
+        session: number_at(found, "session")?,
+        name: text_at(alloc, found, "name")?,
+    })
+}
+
+/// The route of a look at a session that is carried to another version.
+fn carry_route(found: &RouteMatch<'_, '_>, clerk: Str) -> Result<Route, Declined>
+    ensures { Finds result (made_in (look_form clerk of_look.SeeCarry) found.now.1) }
+{
+    Ok(Route::SeeCarry {
+        clerk,
+        session: number_at(found, "session")?,
+        version: number_at(found, "version")?,
+    })
+}
+
 /// The route of what is asked for at the desk.
 fn desk_route(
     alloc: Global,
@@ -179,47 +202,89 @@ fn desk_route(
 {
     match asked {
         DeskRoute::DeskReport => Ok(Route::DeskReport),
-        DeskRoute::DeskDerive => Ok(Route::DeskDerive {
-            edition: text_at(alloc, found, "edition")?,
-            version: number_at(found, "version")?,
-        }),
+        DeskRoute::DeskDerive => derive_route(alloc, found),
         DeskRoute::DeskPublished => Ok(Route::DeskPublished),
-        DeskRoute::DeskEdition => Ok(Route::DeskEdition {
-            edition: text_at(alloc, found, "edition")?,
-            version: number_at(found, "version")?,
-        }),
-        DeskRoute::DeskRow => Ok(Route::DeskRow {
-            master: text_at(alloc, found, "master")?,
-            version: number_at(found, "version")?,
-            row: number_at(found, "row")?,
-        }),
-        DeskRoute::DeskRegion => Ok(Route::DeskRegion {
-            edition: text_at(alloc, found, "edition")?,
-            version: number_at(found, "version")?,
-            region: number_at(found, "region")?,
-        }),
+        DeskRoute::DeskEdition => edition_route(alloc, found),
+        DeskRoute::DeskRow => row_route(alloc, found),
+        DeskRoute::DeskRegion => region_route(alloc, found),
         DeskRoute::SchemaBody => body_route(alloc, found, Publication::Schema),
         DeskRoute::MasterBody => body_route(alloc, found, Publication::Master),
         DeskRoute::RulebookBody => body_route(alloc, found, Publication::Rulebook),
-        DeskRoute::DeskContradictions => Ok(Route::DeskContradictions {
-            edition: text_at(alloc, found, "edition")?,
-            version: number_at(found, "version")?,
-            rule: text_at(alloc, found, "rule")?,
-        }),
+        DeskRoute::DeskContradictions => contradictions_route(alloc, found),
         DeskRoute::CheckSchema => Ok(Route::CheckSchema),
         DeskRoute::CheckMaster => Ok(Route::CheckMaster {
             name: text_at(alloc, found, "name")?,
         }),
-        DeskRoute::CheckRulebook => Ok(Route::CheckRulebook {
-            name: text_at(alloc, found, "name")?,
-            schema: text_at(alloc, found, "schema")?,
-            version: number_at(found, "version")?,
-        }),
+        DeskRoute::CheckRulebook => rulebook_check_route(alloc, found),
         DeskRoute::CheckEdition => Ok(Route::CheckEdition {
             name: text_at(alloc, found, "name")?,
         }),
         DeskRoute::DeskDump => Ok(Route::DeskDump),
     }
+}
+
+/// The route of what rows a master gives for a region.
+fn derive_route(alloc: Global, found: &RouteMatch<'_, '_>) -> Result<Route, Declined>
+    ensures { Finds result (made_in (desk_form of_desk.DeskDerive) found.now.1) }
+{
+    Ok(Route::DeskDerive {
+        edition: text_at(alloc, found, "edition")?,
+        version: number_at(found, "version")?,
+    })
+}
+
+/// The route of a version of an edition.
+fn edition_route(alloc: Global, found: &RouteMatch<'_, '_>) -> Result<Route, Declined>
+    ensures { Finds result (made_in (desk_form of_desk.DeskEdition) found.now.1) }
+{
+    Ok(Route::DeskEdition {
+        edition: text_at(alloc, found, "edition")?,
+        version: number_at(found, "version")?,
+    })
+}
+
+/// The route of a row of a master.
+fn row_route(alloc: Global, found: &RouteMatch<'_, '_>) -> Result<Route, Declined>
+    ensures { Finds result (made_in (desk_form of_desk.DeskRow) found.now.1) }
+{
+    Ok(Route::DeskRow {
+        master: text_at(alloc, found, "master")?,
+        version: number_at(found, "version")?,
+        row: number_at(found, "row")?,
+    })
+}
+
+/// The route of a region of an edition.
+fn region_route(alloc: Global, found: &RouteMatch<'_, '_>) -> Result<Route, Declined>
+    ensures { Finds result (made_in (desk_form of_desk.DeskRegion) found.now.1) }
+{
+    Ok(Route::DeskRegion {
+        edition: text_at(alloc, found, "edition")?,
+        version: number_at(found, "version")?,
+        region: number_at(found, "region")?,
+    })
+}
+
+/// The route of the contradictions that a rule finds in its master.
+fn contradictions_route(alloc: Global, found: &RouteMatch<'_, '_>) -> Result<Route, Declined>
+    ensures { Finds result (made_in (desk_form of_desk.DeskContradictions) found.now.1) }
+{
+    Ok(Route::DeskContradictions {
+        edition: text_at(alloc, found, "edition")?,
+        version: number_at(found, "version")?,
+        rule: text_at(alloc, found, "rule")?,
+    })
+}
+
+/// The route of a check of a rulebook.
+fn rulebook_check_route(alloc: Global, found: &RouteMatch<'_, '_>) -> Result<Route, Declined>
+    ensures { Finds result (made_in (desk_form of_desk.CheckRulebook) found.now.1) }
+{
+    Ok(Route::CheckRulebook {
+        name: text_at(alloc, found, "name")?,
+        schema: text_at(alloc, found, "schema")?,
+        version: number_at(found, "version")?,
+    })
 }
 
 /// The route of what was published as a text.
