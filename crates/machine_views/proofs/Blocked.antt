@@ -1,5 +1,5 @@
 -- What is blocked is told of attributes and rules of the kit.
-use Rattle.std.proofs.Common.{◌≡◌, ◌<◌, ◌++◌, ◌∷◌, ℕ, List, get_or, arith, length, length-append, map, refl, subst, sym}
+use Rattle.std.proofs.Common.{◌<◌, ◌++◌, ◌∷◌, ℕ, List, get_or, arith, length, length-append, map, refl, subst, sym}
 use Rattle.std.specs.Prelude.{All, not}
 use Rattle.std.specs.List.{range_with_len}
 use Rattle.std.proofs.lemmas.List.{get_or_at}
@@ -16,7 +16,7 @@ use Rattle.fix_blockers.specs.declared.blocked_attribute.BlockedRule.{BlockedRul
 use Rattle.fix_blockers.specs.declared.blocker.Blocker.{Blocker}
 use Rattle.fix_blockers.specs.declared.blocker.Blocker.TheVariants.{Unknown, Pattern, NoRow}
 use Rattle.fix_blockers.specs.Blocked.{AreBlocked, AreBlockedRules}
-use Rattle.fix_blockers.specs.Blockers.{IsBlocker, is_key, is_uncovered, key_attributes, other_attributes, unknown}
+use Rattle.fix_blockers.specs.Blockers.{IsBlocker, is_key, is_uncovered, key_attributes, other_attributes}
 use Rattle.machine_views.specs.Naming.{IsBlockedOf, IsBlockedRuleOf, IsBlockerOf}
 
 -- what holds of all items holds of one between others

@@ -1,5 +1,5 @@
 -- The choices and the dissent of an answer are at attributes of the kit, by steps of it.
-use Rattle.std.proofs.Common.{◌≡◌, ◌<◌, ℕ, List, Some, None, filter, get_or, arith, length}
+use Rattle.std.proofs.Common.{◌<◌, ℕ, List, Some, None, filter, get_or, arith}
 use Rattle.std.specs.Prelude.{All, IfSome}
 use Rattle.std.specs.List.{range_with_len}
 use Rattle.std.proofs.lemmas.List.Elements.{All-filter, All-map, All-nil}

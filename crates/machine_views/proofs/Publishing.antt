@@ -1,5 +1,5 @@
 -- What is shown of what was published, one item after another.
-use Rattle.std.proofs.Common.{◌≡◌, ◌∙◌, ℕ, ◌+◌, ◌-◌, ◌<◌, false, List, [], ◌∷◌, ◌++◌, Option, Some, length, get_or}
+use Rattle.std.proofs.Common.{◌≡◌, ◌∙◌, ℕ, ◌+◌, ◌-◌, ◌<◌, List, [], ◌∷◌, ◌++◌, Option, Some, length, get_or}
 use Rattle.std.proofs.Common.{map, take, inl, inr, refl, sym, ap, subst, arith}
 use Rattle.std.specs.Prelude.{◌==◌, All, Ok, slice_get, slice_index_or, zip}
 use Rattle.std.proofs.lemmas.Bool.{cases_Bool, ne_eqb}
@@ -20,7 +20,7 @@ use Rattle.fix_model.specs.declared.region.Region.{Region}
 use Rattle.fix_model.specs.declared.region.RowVerdict.{RowVerdict}
 use Rattle.fix_model.specs.Regions.{row_state}
 use Rattle.master_rows.specs.declared.master.Master.{Master}
-use Rattle.machine_core.specs.Checked.{Answer, answer_for, done, each, Gives, IsFound, some_or}
+use Rattle.machine_core.specs.Checked.{Answer, answer_for, done, Gives, IsFound, some_or}
 use Rattle.machine_core.specs.DeskLook.Region.{region_shown, row_answers, row_verdict}
 use Rattle.machine_core.specs.DeskLook.Row.{row_shown}
 use Rattle.machine_core.specs.Finding.{edition_named, master_named, numbered}

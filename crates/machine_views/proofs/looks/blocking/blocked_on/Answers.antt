@@ -1,4 +1,4 @@
-use Rattle.std.proofs.Common.{◌≡◌, ◌∙◌, ℕ, List, Ok, Err, Result, subst, sym}
+use Rattle.std.proofs.Common.{◌≡◌, ◌∙◌, ℕ, Ok, Err, Result, subst}
 use Rattle.std.specs.Prelude.{IsErrAnd}
 use Rattle.desk_words.specs.declared.blocked.Blocked.{Blocked}
 use Rattle.desk_words.specs.declared.rows.session.SessionRow.{SessionRow}

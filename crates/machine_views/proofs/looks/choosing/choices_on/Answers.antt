@@ -1,12 +1,9 @@
-use Rattle.std.proofs.Common.{◌≡◌, List, Ok, Option, ap, map}
+use Rattle.std.proofs.Common.{◌≡◌, Ok, map}
 use Rattle.std.specs.Prelude.{option_map}
-use Rattle.desk_words.specs.declared.choices.Choices.{Choices}
-use Rattle.desk_words.specs.declared.choices.ShownChoice.{ShownChoice}
-use Rattle.desk_words.specs.declared.choices.ShownDissent.{ShownDissent}
 use Rattle.fix_choices.specs.Choices.{choices_of}
 use Rattle.fix_choices.specs.Dissents.{dissent_of}
 use Rattle.machine_core.specs.Answers.{state_of}
-use Rattle.machine_core.specs.Look.Choices.{choices_with, shown_choice, shown_dissent}
+use Rattle.machine_core.specs.Look.Choices.{shown_choice, shown_dissent}
 use Rattle.machine_core.specs.Shelves.{bound_on}
 use Rattle.machine_views.specs.Answered.{answer_in}
 use Rattle.machine_views.proofs.looks.choosing.choices_on.Goals as goal

@@ -1,4 +1,4 @@
-use Rattle.std.proofs.Common.{◌<◌, ◌∙◌, ap, arith, length, refl, sym}
+use Rattle.std.proofs.Common.{◌∙◌, refl}
 use Rattle.desk_words.specs.Tables.{published_of, rows_of}
 use Rattle.machine_core.specs.DeskLook.Edition.{Makings}
 use Rattle.machine_core.proofs.Editions.{AreMakings, folded-stand, sheet-found}

@@ -1,4 +1,4 @@
-use Rattle.std.proofs.Common.{◌≡◌, ◌∙◌, ℕ, List, length, refl, arith, ap, subst}
+use Rattle.std.proofs.Common.{◌≡◌, ◌∙◌, ℕ, List, length, arith, ap, subst}
 use Rattle.std.specs.Prelude.{is_some, Result, Ok, Err, IsErrAnd}
 use Rattle.desk_words.specs.declared.reply.Explained.{Explained}
 use Rattle.desk_words.specs.declared.refusal.Refusal.TheVariants.{NotFixed}
@@ -7,11 +7,9 @@ use Rattle.desk_valid.specs.declared.bound.Bound.{Bound}
 use Rattle.fix_model.specs.declared.state.State.{State}
 use Rattle.fix_model.specs.Run.{end_of}
 use Rattle.fix_model.specs.States.{cell_at, fixed_by}
-use Rattle.fix_engine.specs.declared.verdict.Verdict.{Verdict}
-use Rattle.fix_engine.specs.declared.verdict.Verdict.TheVariants.{Fix, Conflict}
 use Rattle.fix_engine.specs.Verdicts.{IsAnswer}
 use Rattle.fix_explain.specs.Reasons.{IsFixed}
-use Rattle.machine_core.specs.Answers.{shown_state, state_of}
+use Rattle.machine_core.specs.Answers.{state_of}
 use Rattle.machine_core.specs.Checked.{Answer, Checked, ◌>>◌, IsFound}
 use Rattle.machine_core.specs.Clerk.Commit.{not_in_conflict}
 use Rattle.machine_core.specs.Look.Explain.{explained_on, explanation_of, fixed_at}
