@@ -4,14 +4,12 @@ use Rattle.std.proofs.Math.ListN.{get_or-eq_default}
 use Rattle.std.proofs.lemmas.Bool.{cases_Bool}
 use Rattle.std.specs.Prelude.{◌↔◌}
 use Rattle.fix_model.specs.declared.kit.Kit.{Kit}
-use Rattle.fix_model.specs.declared.pattern.Pat.{Pat}
-use Rattle.fix_model.specs.declared.pattern.Pat.TheVariants.{Is, IsNot, OneOf, NoneOf, Any}
 use Rattle.fix_model.specs.declared.state.State.{State}
 use Rattle.fix_model.specs.declared.state.Step.{Step}
 use Rattle.fix_model.specs.Alike.{AreAlike}
 use Rattle.fix_model.specs.Application.{Fires}
 use Rattle.fix_model.specs.Pattern.{Matches}
-use Rattle.fix_model.specs.Plain.{IsUnfolded, MatchesExactly, FiresExactly}
+use Rattle.fix_model.specs.Plain.{IsUnfolded, FiresExactly}
 use Rattle.fix_model.specs.Rules.{rule_at, master_text, is_folded}
 use Rattle.fix_model.specs.States.{value_at}
 
@@ -31,22 +29,6 @@ module _ (kit : Kit) (unfolded : IsUnfolded kit) where
     λ equal. subst (λ flag. AreAlike flag one other) (sym (is_folded-none attribute)) equal,
   )
 
-  -- a pattern that matches without folding matches by equality
-  exactly : (pat : Pat) (text : List ℕ) → Matches false pat text → MatchesExactly pat text
-  exactly (Is constant) text m = m
-  exactly (IsNot constant) text m = m
-  exactly (OneOf texts) text m = m
-  exactly (NoneOf texts) text m = m
-  exactly Any text m = m
-
-  -- and the other way round
-  loosely : (pat : Pat) (text : List ℕ) → MatchesExactly pat text → Matches false pat text
-  loosely (Is constant) text m = m
-  loosely (IsNot constant) text m = m
-  loosely (OneOf texts) text m = m
-  loosely (NoneOf texts) text m = m
-  loosely Any text m = m
-
   -- so a step fires exactly by equality
   pub Fires-exact : (state : State) (step : Step) → Fires kit state step ↔ FiresExactly kit state step
   Fires-exact state step =
@@ -59,9 +41,8 @@ module _ (kit : Kit) (unfolded : IsUnfolded kit) where
           uncovered = fires.uncovered;
           matched = λ k d h.
               let cond = get_or rule.conds k d in
-              exactly cond.1 (value_at kit state cond.0)
-              (subst (λ flag. Matches flag cond.1 (value_at kit state cond.0)) (is_folded-none cond.0)
-              (fires.enabled.matched k d h));
+              subst (λ flag. Matches flag cond.1 (value_at kit state cond.0)) (is_folded-none cond.0)
+              (fires.enabled.matched k d h);
           equal = λ k d h.
               let key = get_or rule.keys k d in
               (AreAlike-exact key.0 (value_at kit state key.0) (master_text kit rule step.row key.1)).0
@@ -75,7 +56,7 @@ module _ (kit : Kit) (unfolded : IsUnfolded kit) where
             matched = λ k d h.
                 let cond = get_or rule.conds k d in
                 subst (λ flag. Matches flag cond.1 (value_at kit state cond.0)) (sym (is_folded-none cond.0))
-                (loosely cond.1 (value_at kit state cond.0) (fires.matched k d h));
+                (fires.matched k d h);
           };
           uncovered = fires.uncovered;
           agrees = record {

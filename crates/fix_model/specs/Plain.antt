@@ -1,12 +1,11 @@
 -- Firing where no attribute is folded: by plain equality of texts.
-use Rattle.std.specs.Prelude.{◌≡◌, ◌≢◌, ℕ, ◌<◌, false, List, length, All, ⊤}
-use Rattle.std.specs.List as list
+use Rattle.std.specs.Prelude.{◌≡◌, ℕ, ◌<◌, false, List, length, All}
 use Rattle.fix_model.specs.declared.kit.Kit.{Kit}
 use Rattle.fix_model.specs.declared.pattern.Pat.{Pat}
-use Rattle.fix_model.specs.declared.pattern.Pat.TheVariants.{Is, IsNot, OneOf, NoneOf, Any}
 use Rattle.fix_model.specs.declared.state.State.{State}
 use Rattle.fix_model.specs.declared.state.Step.{Step}
 use Rattle.fix_model.specs.Application.{IsUsable}
+use Rattle.fix_model.specs.Pattern.{MatchesBy}
 use Rattle.fix_model.specs.Rules.{rule_at, master_text}
 use Rattle.fix_model.specs.States.{IsCovered, value_at}
 
@@ -14,13 +13,9 @@ use Rattle.fix_model.specs.States.{IsCovered, value_at}
 abbrev pub IsUnfolded : Kit → Type 0
 IsUnfolded kit = All (λ flag. flag ≡ false) kit.folded
 
--- the pattern matches exactly this text, the other texts, a text of the set, the texts outside it, or every text
+-- the pattern matches the text, where only equal texts count as one
 abbrev pub MatchesExactly : Pat → List ℕ → Type 0
-MatchesExactly (Is constant) text = constant ≡ text
-MatchesExactly (IsNot constant) text = constant ≢ text
-MatchesExactly (OneOf texts) text = list.Any (λ one. one ≡ text) texts
-MatchesExactly (NoneOf texts) text = ¬ list.Any (λ one. one ≡ text) texts
-MatchesExactly Any text = ⊤
+MatchesExactly pat text = MatchesBy (λ one other. one ≡ other) pat text
 
 -- the row is usable, keys and conditions are covered and the head is not, the conditions match, and the values at the
 -- keys equal the row's cells

@@ -1,16 +1,15 @@
 //! A set of rules with its master data.
 ghost use Rattle.std.specs.Prelude.{◌≡◌, ◌<◌, ◌≤◌, ◌≢◌, ◌↔◌, All, AllPairs, Any, length, IsTrue};
 ghost use Rattle.fix_model.specs.Valid.{IsValid, IsValidRule, AreValidKeys, AreValidConds};
-ghost use Rattle.fix_model.specs.Pattern.{IsSized};
 ghost use Rattle.fix_model.specs.States.{Fits, value_at};
 ghost use Rattle.fix_model.specs.Rules.{rule_at, master_of, step_text, IsStepOf, is_folded};
 
-use crate::pattern::Pat;
+use crate::pattern::{Pat, is_sized};
 use crate::rule::Rule;
 use crate::state::{State, Step};
 use desk_base::{
     Duplicate, Grid, List, MAX_ATTRIBUTES, MAX_CONDITIONS, MAX_KEYS, MAX_MASTERS, MAX_RULES,
-    MAX_SET, NoMemory, Text,
+    NoMemory, Text,
 };
 
 /// Editing rules over the attributes of one schema, with the master data that they look into.
@@ -132,15 +131,6 @@ fn has_valid_conds(rule: &Rule, width: u16) -> bool
         && conds.iter().all(|cond| cond.0 != rule.head)
         && conds.iter().all(|cond| is_sized(&cond.1))
         && has_distinct_attributes(conds)
-}
-
-fn is_sized(pat: &Pat) -> bool
-    ensures { IsTrue result ↔ IsSized pat.now }
-{
-    match pat {
-        Pat::OneOf(texts) | Pat::NoneOf(texts) => !texts.is_empty() && texts.len() <= MAX_SET,
-        Pat::Is(_) | Pat::IsNot(_) | Pat::Any => true,
-    }
 }
 
 fn has_distinct_attributes<T>(pairs: &[(u16, T)]) -> bool

@@ -1,9 +1,10 @@
 //! The pattern cells of a rule.
 ghost use Rattle.std.specs.Prelude.{◌↔◌, IsTrue};
-ghost use Rattle.fix_model.specs.Pattern.{Matches, IsAmong};
+ghost use Rattle.fix_model.specs.Alike.{AreAlike};
+ghost use Rattle.fix_model.specs.Pattern.{Matches, IsAmong, IsSized};
 
 use crate::comparison::alike;
-use desk_base::{Duplicate, List, NoMemory, Text};
+use desk_base::{Duplicate, List, MAX_SET, NoMemory, Text};
 
 /// What a rule asks of an attribute. Two texts are compared with regard to ASCII case, unless the
 /// attribute is folded.
@@ -35,12 +36,22 @@ pub fn matches(pat: &Pat, text: &Text, folded: bool) -> bool
 }
 
 fn is_among(texts: &List<Text>, text: &Text, folded: bool) -> bool
-    ensures { IsTrue result ↔ IsAmong folded texts.now text.now }
+    ensures { IsTrue result ↔ IsAmong (AreAlike folded) texts.now text.now }
 {
     texts
         .as_slice()
         .iter()
         .any(|one| alike(one.as_str(), text.as_str(), folded))
+}
+
+/// Whether a finite set has 1 to 64 texts.
+pub(crate) fn is_sized(pat: &Pat) -> bool
+    ensures { IsTrue result ↔ IsSized pat.now }
+{
+    match pat {
+        Pat::OneOf(texts) | Pat::NoneOf(texts) => !texts.is_empty() && texts.len() <= MAX_SET,
+        Pat::Is(_) | Pat::IsNot(_) | Pat::Any => true,
+    }
 }
 
 impl Duplicate for Pat {

@@ -15,8 +15,9 @@ use Rattle.rule_text.specs.declared.token.Token.TheVariants.{Sign}
 use Rattle.rule_text.specs.declared.rulebook.RuleLine.{RuleLine}
 use Rattle.rule_text.specs.Tokens.{piece_at}
 use Rattle.rule_text.specs.Grammar.{next}
-use Rattle.rule_text.specs.Reading.{has_attribute, set_of, with_token}
-use Rattle.rule_text.specs.Rulebooks.{IsPlain, IsSet, IsPattern, AreDistinct, ArePairs}
+use Rattle.rule_text.specs.Reading.{has_attribute, with_token}
+use Rattle.rule_text.specs.Patterns.{set_of}
+use Rattle.rule_text.specs.Rulebooks.{IsPlain, IsPattern, AreDistinct, ArePairs}
 use Rattle.rule_text.specs.Printing.{string_text, attribute_text, listed, set_text}
 use Rattle.rule_text.specs.Printing.{pattern_text, cond_text}
 use Rattle.rule_text.proofs.Parts.{nat_eq-other}
@@ -65,13 +66,13 @@ module _ (schema : Schema) (lines : List RuleLine) (line : RuleLine) (attribute 
   longer pat = record line { conds = line.conds ++ (attribute, pat) ∷ [] }
 
   -- a set, after `in`
-  pub reads-set : (texts : List (List ℕ)) (pat : Pat) (rest : List ℕ) → IsSet texts
-      → pat ≡ set_of (drafted lines line attribute negated texts)
+  pub reads-set : (texts : List (List ℕ)) (rest : List ℕ) → (1 ≤ length texts) × (length texts ≤ 64)
+      → AllByRecursion IsPlain texts
       → Reads schema expected.Open (drafted lines line attribute negated []) (set_text texts ++ rest)
-      expected.AfterCond (drafted lines (longer pat) attribute negated []) rest 0
+      expected.AfterCond (drafted lines (longer (set_of negated texts)) attribute negated []) rest 0
   unfolding next with_token piece_at
-  reads-set [] pat rest set is = let some = set.some in absurd (omega arith)
-  reads-set (text ∷ others) pat rest set is =
+  reads-set [] rest sized plain = let some = sized.0 in absurd (omega arith)
+  reads-set (text ∷ others) rest sized plain =
       let texts = text ∷ others in
       let tail = listed (map string_text texts) ++ (41 ∷ rest) in
       let start = drafted lines line attribute negated [] in
@@ -79,10 +80,10 @@ module _ (schema : Schema) (lines : List RuleLine) (line : RuleLine) (attribute 
       reads-of (set_text texts ++ rest) (40 ∷ tail) (simp append_assoc)
       (reads-token schema expected.Open expected.Item start start 40 tail tail (Sign mark.Opening) 0 0 refl refl refl
       (λ place. refl) refl
-      ▸ reads-texts texts set.fits [] text others (41 ∷ rest) refl set.plain (stops-closing rest)
+      ▸ reads-texts texts sized.1 [] text others (41 ∷ rest) refl plain (stops-closing rest)
       ▸ reads-token schema expected.AfterItem expected.AfterCond full
-      (drafted lines (longer pat) attribute negated []) 41 rest rest (Sign mark.Closing) 0 0 refl refl refl
-      (λ place. rw is refl) refl)
+      (drafted lines (longer (set_of negated texts)) attribute negated []) 41 rest rest (Sign mark.Closing) 0 0 refl
+      refl refl (λ place. refl) refl)
 
 -- what is asked of an attribute
 pub reads-pattern : (schema : Schema) (lines : List RuleLine) (line : RuleLine) (attribute : ℕ) (negated : Bool)
@@ -97,7 +98,7 @@ reads-pattern schema lines line attribute negated (Is constant) rest good stops 
     let start = drafted lines line attribute negated [] in
     let open' = drafted lines line attribute false [] in
     let tail = string_text constant ++ rest in
-    let below = is_long-fits constant good.fits in (
+    let below = is_long-fits constant good.plain.0.fits in (
       false,
       space schema expected.Test start (codes "is " ++ tail)
           ▸ reads-word schema expected.Test expected.Const start open' (codes "is") (32 ∷ tail) 0 refl
@@ -105,13 +106,13 @@ reads-pattern schema lines line attribute negated (Is constant) rest good stops 
           ▸ space schema expected.Const open' tail
           ▸ reads-string schema expected.Const expected.AfterCond open'
           (drafted lines (record line { conds = line.conds ++ (attribute, Is constant) ∷ [] }) attribute false [])
-          constant rest 0 good stops refl (λ place. rw below refl) refl,
+          constant rest 0 good.plain.0 stops refl (λ place. rw below refl) refl,
     )
 reads-pattern schema lines line attribute negated (IsNot constant) rest good stops =
     let start = drafted lines line attribute negated [] in
     let open' = drafted lines line attribute false [] in
     let tail = string_text constant ++ rest in
-    let below = is_long-fits constant good.fits in (
+    let below = is_long-fits constant good.plain.0.fits in (
       false,
       space schema expected.Test start (codes "not " ++ tail)
           ▸ reads-word schema expected.Test expected.Negated start open' (codes "not") (32 ∷ tail) 0 refl
@@ -119,7 +120,7 @@ reads-pattern schema lines line attribute negated (IsNot constant) rest good sto
           ▸ space schema expected.Negated open' tail
           ▸ reads-string schema expected.Negated expected.AfterCond open'
           (drafted lines (record line { conds = line.conds ++ (attribute, IsNot constant) ∷ [] }) attribute false
-          []) constant rest 0 good stops refl (λ place. rw below refl) refl,
+          []) constant rest 0 good.plain.0 stops refl (λ place. rw below refl) refl,
     )
 reads-pattern schema lines line attribute negated (OneOf texts) rest good stops =
     let start = drafted lines line attribute negated [] in
@@ -131,7 +132,7 @@ reads-pattern schema lines line attribute negated (OneOf texts) rest good stops 
           ▸ reads-word schema expected.Test expected.Open start open' (codes "in") (32 ∷ tail) 0 refl
           (stops-space tail) refl (λ place. refl) refl
           ▸ space schema expected.Open open' tail
-          ▸ reads-set schema lines line attribute false texts (OneOf texts) rest good refl),
+          ▸ reads-set schema lines line attribute false texts rest (good.sized refl) good.plain),
     )
 reads-pattern schema lines line attribute negated (NoneOf texts) rest good stops =
     let start = drafted lines line attribute negated [] in
@@ -147,7 +148,7 @@ reads-pattern schema lines line attribute negated (NoneOf texts) rest good stops
           ▸ reads-word schema expected.Negated expected.Open open' turned (codes "in") (32 ∷ tail) 0 refl
           (stops-space tail) refl (λ place. refl) refl
           ▸ space schema expected.Open turned tail
-          ▸ reads-set schema lines line attribute true texts (NoneOf texts) rest good refl),
+          ▸ reads-set schema lines line attribute true texts rest (good.sized refl) good.plain),
     )
 reads-pattern schema lines line attribute negated Any rest good stops =
     let start = drafted lines line attribute negated [] in (

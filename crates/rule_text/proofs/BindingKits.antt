@@ -12,8 +12,6 @@ use Rattle.std.proofs.lemmas.List.Kept.{AllPairs-cons}
 use Rattle.std.proofs.lemmas.List.Quantifiers.{position-Some}
 use Rattle.desk_base.proofs.Options.{option_or-None}
 use Rattle.fix_model.specs.declared.pattern.Pat.{Pat}
-use Rattle.fix_model.specs.declared.pattern.Pat.TheVariants.{Is, IsNot, OneOf, NoneOf, Any}
-use Rattle.fix_model.specs.Pattern.{IsSized}
 use Rattle.fix_model.specs.Valid.{AreValidKeys, AreValidConds, IsValidRule, IsValid}
 use Rattle.schema_core.specs.declared.schema.Schema.{Schema}
 use Rattle.schema_core.specs.Schemas.{IsSchema}
@@ -90,14 +88,6 @@ AreValidKeys-map schema master number head keys some pairs no_key none = record 
       (AllPairs-from_AreDistinct keys pairs.distinct);
 }
 
--- a pattern of a rulebook has a set of 1 to 64 texts, where it has one
-IsSized-from_IsPattern : (pat : Pat) → IsPattern pat → IsSized pat
-IsSized-from_IsPattern (Is constant) is = tt
-IsSized-from_IsPattern (IsNot constant) is = tt
-IsSized-from_IsPattern (OneOf texts) is = (is.some, is.fits)
-IsSized-from_IsPattern (NoneOf texts) is = (is.some, is.fits)
-IsSized-from_IsPattern Any is = tt
-
 -- conditions of a rulebook are valid
 AreValidConds-from_pairs : (schema : Schema) (head : ℕ) (conds : List (ℕ × Pat)) → ArePairs IsPattern schema conds
     → has_attribute conds head ≡ false → AreValidConds (length schema.attributes) head conds
@@ -105,7 +95,7 @@ AreValidConds-from_pairs schema head conds pairs no_cond = record {
   few = pairs.fits;
   attributes = λ i d within. (All-from_recursion _ conds pairs.good i d within).0;
   not_head = All-from_recursion _ conds (All-other conds head no_cond);
-  sets = λ i d within. IsSized-from_IsPattern _ (All-from_recursion _ conds pairs.good i d within).1;
+  sets = λ i d within. (All-from_recursion _ conds pairs.good i d within).1.sized;
   distinct = AllPairs-from_AreDistinct conds pairs.distinct;
 }
 

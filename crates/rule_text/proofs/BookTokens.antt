@@ -5,7 +5,7 @@ use Rattle.std.specs.Prelude.{codes, if◌then◌else◌}
 use Rattle.std.specs.List.{flat_map}
 use Rattle.std.proofs.lemmas.List.{length-append, flat_map_more}
 use Rattle.fix_model.specs.declared.pattern.Pat.{Pat}
-use Rattle.fix_model.specs.declared.pattern.Pat.TheVariants.{Is, IsNot, Any}
+use Rattle.fix_model.specs.declared.pattern.Pat.TheVariants.{Any}
 use Rattle.schema_core.specs.declared.schema.Schema.{Schema}
 use Rattle.rule_text.specs.declared.fault.RuleFault.TheVariants.{AttrTwice, HeadInWhen, TooMany, ConstantLong}
 use Rattle.rule_text.specs.declared.place.Place.{Place}
@@ -23,8 +23,9 @@ use Rattle.rule_text.specs.Grammar.{leads, next}
 use Rattle.rule_text.specs.Tokens.{is_keyword, is_name, is_quoted, is_column, is_sign}
 use Rattle.rule_text.specs.Reading.{content, attribute_of, is_long, draft_following, has_attribute, with_master}
 use Rattle.rule_text.specs.Reading.{with_key_of, with_key_column, with_head_of, with_head_column, with_asked_of}
-use Rattle.rule_text.specs.Reading.{with_cond, with_test, with_constant, with_negated, with_text, set_of, with_set}
+use Rattle.rule_text.specs.Reading.{with_cond, with_test, with_constant, with_negated, with_text, with_set}
 use Rattle.rule_text.specs.Reading.{with_line, with_token, with_tokens, book_of}
+use Rattle.rule_text.specs.Patterns.{constant_of, set_of}
 use Rattle.rule_text.specs.Printing.{attribute_text}
 use Rattle.rule_text.proofs.Walk.{IsChain}
 use Rattle.rule_text.proofs.Sentences.{rulebook-only}
@@ -154,22 +155,22 @@ step-cond schema before after pat texts draft held token is kept no_texts tokens
     (more-cond schema pat draft ∙ tokens)
 
 -- the one constant of a condition
-step-constant : (schema : Schema) (place : Place) (before after : Expected) (pat : List ℕ → Pat) (draft held : Draft)
+step-constant : (schema : Schema) (place : Place) (before after : Expected) (negated : Bool) (draft held : Draft)
     (token : Token)
-    → with_constant pat (content token) place draft ≡ Ok held → draft.texts ≡ [] → expected.AfterCond ≡ after
-    → asked_tokens schema draft ++ pattern_tokens (pat (content token)) ≡ open_tokens schema before draft ++ token ∷ []
+    → with_constant negated (content token) place draft ≡ Ok held → draft.texts ≡ [] → expected.AfterCond ≡ after
+    → asked_tokens schema draft ++ pattern_tokens (constant_of negated (content token)) ≡ open_tokens schema before draft ++ token ∷ []
     → IsStep schema before after draft held token
-step-constant schema place before after pat draft held token read no_texts is tokens = let (short, same) = unless-Ok
-    _ _ _ _ read in step-cond schema before after (pat (content token)) draft.texts draft held token is
+step-constant schema place before after negated draft held token read no_texts is tokens = let (short, same) = unless-Ok
+    _ _ _ _ read in step-cond schema before after (constant_of negated (content token)) draft.texts draft held token is
     (same-draft _ _ same) no_texts tokens
 
 -- the end of a set
 step-closed : (schema : Schema) (after : Expected) (draft held : Draft) → expected.AfterCond ≡ after
-    → record (with_cond (set_of draft) draft) { texts = [] } ≡ held
+    → record (with_cond (set_of draft.negated draft.texts) draft) { texts = [] } ≡ held
     → IsStep schema expected.AfterItem after draft held (Sign mark.Closing)
 step-closed schema after draft held is same =
-    step-cond schema expected.AfterItem after (set_of draft) [] draft held (Sign mark.Closing) is same refl
-    (rw (set_of-tokens draft) (in-parts (asked_tokens schema draft) (set_words draft.negated)
+    step-cond schema expected.AfterItem after (set_of draft.negated draft.texts) [] draft held (Sign mark.Closing) is same refl
+    (rw (set_of-tokens draft.negated draft.texts) (in-parts (asked_tokens schema draft) (set_words draft.negated)
     (with_commas (map text_tokens draft.texts)) (Sign mark.Opening) (Sign mark.Closing)))
 
 -- ---- where the grammar has a choice
@@ -230,7 +231,7 @@ step-after_text schema after token draft held goes read some =
           (Sign mark.Comma ∷ []))))
       | inr (other, others) ↦
           let (closing, is) = led _ _ _ others in
-          let same : record (with_cond (set_of draft) draft) { texts = [] } ≡ with_set token draft = rw closing refl in
+          let same : record (with_cond (set_of draft.negated draft.texts) draft) { texts = [] } ≡ with_set token draft = rw closing refl in
           rw (sign-mark mark.Closing token closing) (step-closed schema after draft held is (same ∙ read))
     ]
 
@@ -243,9 +244,9 @@ step-after_negated : (schema : Schema) (after : Expected) (token : Token) (place
 step-after_negated schema after token place draft held goes read no_texts =
     elim (led_either (is_quoted token) expected.AfterCond after _ goes) [
       | inl (taken, is) ↦
-          let constant : with_negated token place draft ≡ with_constant IsNot (content token) place draft =
+          let constant : with_negated token place draft ≡ with_constant true (content token) place draft =
           rw taken refl in
-          step-constant schema place expected.Negated after IsNot draft held token (sym constant ∙ read) no_texts is
+          step-constant schema place expected.Negated after true draft held token (sym constant ∙ read) no_texts is
           (rw (← quoted-token token taken)
           (sym (append_assoc (asked_tokens schema draft) (Word (codes "not") ∷ []) (token ∷ []))))
       | inr (other, others) ↦
@@ -363,7 +364,7 @@ tokens-step schema expected.AfterItem after token place draft held goes read som
     draft held goes (same-draft _ _ read) some
 tokens-step schema expected.Const after token place draft held goes read no_texts =
     let (taken, is) = led _ _ _ goes in
-    step-constant schema place expected.Const after Is draft held token read no_texts is
+    step-constant schema place expected.Const after false draft held token read no_texts is
     (rw (← quoted-token token taken)
     (sym (append_assoc (asked_tokens schema draft) (Word (codes "is") ∷ []) (token ∷ []))))
 tokens-step schema expected.AfterCond after token place draft held goes read (some, no_texts) =

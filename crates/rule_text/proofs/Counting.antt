@@ -5,8 +5,6 @@ use Rattle.std.proofs.Common.{inr}
 use Rattle.std.specs.Prelude.{codes, filter, if◌then◌else◌}
 use Rattle.std.proofs.lemmas.Bool.{cases_Bool}
 use Rattle.std.proofs.lemmas.List.{length-append}
-use Rattle.fix_model.specs.declared.pattern.Pat.{Pat}
-use Rattle.fix_model.specs.declared.pattern.Pat.TheVariants.{Is, IsNot}
 use Rattle.schema_core.specs.declared.schema.Schema.{Schema}
 use Rattle.rule_text.specs.declared.fault.RuleFault.TheVariants.{AttrTwice, HeadInWhen, TooMany, ConstantLong}
 use Rattle.rule_text.specs.declared.place.Place.{Place}
@@ -101,9 +99,9 @@ module _ (place : Place) (to after : Expected) (draft held : Draft) (is : to ≡
       count-kept to after draft (record draft { attribute = attribute }) held is one (same-draft _ _ same) refl
 
   -- nor a constant
-  pub count-constant : (pat : List ℕ → Pat) (constant : List ℕ) → with_constant pat constant place draft ≡ Ok held
+  pub count-constant : (negated : Bool) (constant : List ℕ) → with_constant negated constant place draft ≡ Ok held
       → HasCounted after draft held
-  count-constant pat constant read = let (short, same) = unless-Ok _ _ _ _ read in count-kept to after draft _ held is
+  count-constant negated constant read = let (short, same) = unless-Ok _ _ _ _ read in count-kept to after draft _ held is
       one (same-draft _ _ same) refl
 
   -- nor a text of a set
@@ -172,9 +170,9 @@ count-step schema expected.Test after token place draft held goes read =
     ]
 count-step schema expected.Negated after token place draft held goes read =
     elim (led_either (is_quoted token) expected.AfterCond after _ goes) [
-      | inl (taken, is) ↦ count-constant place expected.AfterCond after draft held is refl IsNot (content token)
+      | inl (taken, is) ↦ count-constant place expected.AfterCond after draft held is refl true (content token)
           (let constant : with_negated token place draft
-          ≡ with_constant IsNot (content token) place draft = rw taken refl in sym constant ∙ read)
+          ≡ with_constant true (content token) place draft = rw taken refl in sym constant ∙ read)
       | inr (other, others) ↦ let (in-word, is) = led _ _ _ others in count-kept expected.Open after draft _ held is
           refl (same-draft _ _ (let set : with_negated token place draft
           ≡ Ok (record draft { negated = true }) = rw other refl in sym set ∙ read)) refl
@@ -191,7 +189,7 @@ count-step schema expected.AfterItem after token place draft held goes read =
           is refl (same-draft _ _ read) (count-set token draft)
     ]
 count-step schema expected.Const after token place draft held goes read = let (taken, is) = led _ _ _ goes
-    in count-constant place expected.AfterCond after draft held is refl Is (content token) read
+    in count-constant place expected.AfterCond after draft held is refl false (content token) read
 count-step schema expected.AfterCond after token place draft held goes read = count-after_line after token draft held
     (is_sign mark.Comma token) (comma-apart token) goes (same-draft _ _ read)
 

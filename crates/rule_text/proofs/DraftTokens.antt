@@ -1,10 +1,9 @@
 -- What a draft stands for, by what is expected: the tokens that made it.
-use Rattle.std.proofs.Common.{◌≡◌, ◌∙◌, ℕ, ◌≤◌, Bool, true, List, [], ◌∷◌, ◌++◌, length, map, Some, refl, sym, ap}
-use Rattle.std.proofs.Common.{append_assoc, arith, inl, inr}
-use Rattle.std.specs.Prelude.{codes, ⊤, if◌then◌else◌}
+use Rattle.std.proofs.Common.{◌≡◌, ◌∙◌, ℕ, ◌≤◌, Bool, true, false, List, [], ◌∷◌, ◌++◌, length, map, Some, refl, sym, ap}
+use Rattle.std.proofs.Common.{append_assoc, arith}
+use Rattle.std.specs.Prelude.{codes, ⊤}
 use Rattle.std.specs.Str.{bytes_eq}
 use Rattle.std.specs.List.{flat_map}
-use Rattle.std.proofs.lemmas.Bool.{cases_Bool}
 use Rattle.std.proofs.lemmas.List.{map-append}
 use Rattle.std.proofs.lemmas.List.Quantifiers.{position-Some}
 use Rattle.std.proofs.lemmas.Option.{unwrap_or-slice_get}
@@ -21,7 +20,8 @@ use Rattle.rule_text.specs.declared.draft.Draft.{Draft}
 use Rattle.rule_text.specs.BookTokens.{with_commas, pair_tokens, text_tokens, set_tokens, pattern_tokens, cond_tokens}
 use Rattle.rule_text.specs.BookTokens.{conds_tokens, line_tokens, as_string}
 use Rattle.rule_text.specs.Tokens.{is_name, is_quoted, is_column}
-use Rattle.rule_text.specs.Reading.{content, attribute_of, with_cond, set_of}
+use Rattle.rule_text.specs.Reading.{content, attribute_of, with_cond}
+use Rattle.rule_text.specs.Patterns.{words_of, set_of}
 use Rattle.rule_text.specs.Printing.{attribute_text}
 
 -- ---- items with commas
@@ -90,7 +90,7 @@ asked_tokens schema draft = asking_tokens schema draft.line ++ Word (attribute_t
 
 -- what stands before a set
 abbrev pub set_words : Bool → List Token
-set_words negated = if negated then Word (codes "not") ∷ Word (codes "in") ∷ [] else Word (codes "in") ∷ []
+set_words negated = map Word (words_of (set_of negated []))
 
 -- up to the texts of a set
 abbrev pub opened_tokens : Schema → Draft → List Token
@@ -199,9 +199,11 @@ more-cond schema pat draft =
     (sym (append_assoc (asking_tokens schema draft.line) (Word (attribute_text schema draft.attribute) ∷ [])
     (pattern_tokens pat) ∙ append_assoc (headed_tokens schema draft.line) when cond))
 
--- the tokens of the set of the texts that were read
-pub set_of-tokens : (draft : Draft) → pattern_tokens (set_of draft) ≡ set_words draft.negated ++ set_tokens draft.texts
-set_of-tokens draft = elim (cases_Bool draft.negated) [ inl is ↦ rw is refl | inr other ↦ rw other refl ]
+-- the tokens of a set, after its words
+pub set_of-tokens : (negated : Bool) (texts : List (List ℕ))
+    → pattern_tokens (set_of negated texts) ≡ set_words negated ++ set_tokens texts
+set_of-tokens true texts = refl
+set_of-tokens false texts = refl
 
 -- the tokens of a rule that is closed
 pub line_tokens-closed : (schema : Schema) (line : RuleLine)

@@ -4,7 +4,7 @@ use Rattle.std.proofs.Common.{◌++◌, Some, Ok, refl, sym, subst, arith, inl}
 use Rattle.std.proofs.Common.{inr}
 use Rattle.std.specs.Prelude.{codes, if◌then◌else◌}
 use Rattle.std.specs.Str.{bytes_eq}
-use Rattle.fix_model.specs.declared.pattern.Pat.TheVariants.{Is, IsNot, Any}
+use Rattle.fix_model.specs.declared.pattern.Pat.TheVariants.{Any}
 use Rattle.schema_core.specs.declared.schema.Schema.{Schema}
 use Rattle.rule_text.specs.declared.place.Place.{Place}
 use Rattle.rule_text.specs.declared.token.Mark.TheVariants as mark
@@ -18,15 +18,16 @@ use Rattle.rule_text.specs.Grammar.{leads, next}
 use Rattle.rule_text.specs.Tokenizer.{is_between_rules}
 use Rattle.rule_text.specs.Tokens.{is_keyword, is_quoted, is_sign}
 use Rattle.rule_text.specs.Reading.{content, attribute_of, draft_following}
-use Rattle.rule_text.specs.Reading.{with_cond, with_test, with_constant, with_negated, set_of, with_set}
+use Rattle.rule_text.specs.Reading.{with_cond, with_test, with_constant, with_negated, with_set}
 use Rattle.rule_text.specs.Reading.{with_line, with_token, with_tokens}
+use Rattle.rule_text.specs.Patterns.{set_of}
 use Rattle.rule_text.specs.Rulebooks.{IsPlain}
 use Rattle.rule_text.proofs.Parts.{ArePairs-none}
 use Rattle.rule_text.proofs.Walk.{IsSpelled, IsChain}
 use Rattle.rule_text.proofs.Led.{unless-Ok, same-draft, led, led_either, keyword-word, sign-mark, and_then-Ok}
 use Rattle.rule_text.proofs.Held.{AtRule, AtMaster, AtKey, AtColumn, AtHead, AtFrom, AtEnd, AtTest, AtItem, AtClose}
 use Rattle.rule_text.proofs.Held.{Holds, plain-column, quoted-column, name-word, hold-cond, hold-constant}
-use Rattle.rule_text.proofs.Held.{pattern-set_of, hold-line, known_attribute, below_eight}
+use Rattle.rule_text.proofs.Held.{IsPattern-Any, IsPattern-set_of, hold-line, known_attribute, below_eight}
 use Rattle.rule_text.proofs.Held.{hold-name, hold-key_column, hold-key_of, hold-head_of, hold-head_column}
 use Rattle.rule_text.proofs.Held.{HasAsked-kept, hold-asked_of, hold-text}
 
@@ -56,10 +57,10 @@ test-other word token draft other is = rw (is, other) refl
 
 -- after a closed set the draft is at the end of a rule
 pub hold-closed : (schema : Schema) (draft : Draft) → AtClose schema draft
-    → AtEnd schema (record (with_cond (set_of draft) draft) { texts = [] })
+    → AtEnd schema (record (with_cond (set_of draft.negated draft.texts) draft) { texts = [] })
 hold-closed schema draft at =
-    let whole = hold-cond schema (set_of draft) draft (pattern-set_of draft
-    (record { some = at.some; fits = at.item.fits; plain = at.item.plain })) at.item.asked in
+    let whole = hold-cond schema (set_of draft.negated draft.texts) draft
+    (IsPattern-set_of draft.negated draft.texts (at.some, at.item.fits) at.item.plain) at.item.asked in
     record {
       whole = record {
         closed = record { lines = whole.closed.lines; apart = whole.closed.apart };
@@ -94,7 +95,7 @@ hold-after_text schema after token draft held goes read at =
           (subst (AtItem schema) (let same : draft ≡ with_set token draft = rw (sign-mark mark.Comma token taken) refl
           in same ∙ read) at.item)
       | inr (other, others) ↦ let (closing, is) = led _ _ _ others in arrive schema expected.AfterCond after held is
-          (subst (AtEnd schema) (let same : record (with_cond (set_of draft) draft) { texts = [] }
+          (subst (AtEnd schema) (let same : record (with_cond (set_of draft.negated draft.texts) draft) { texts = [] }
           ≡ with_set token draft = rw closing refl in same ∙ read) (hold-closed schema draft at))
     ]
 
@@ -107,9 +108,9 @@ pub hold-after_negated : (schema : Schema) (after : Expected) (token : Token) (p
 hold-after_negated schema after token place draft held spelled goes read at =
     elim (led_either (is_quoted token) expected.AfterCond after _ goes) [
       | inl (taken, is) ↦ arrive schema expected.AfterCond after held is
-          (hold-constant schema IsNot (content token) place draft held
+          (hold-constant schema true (content token) place draft held
           (let constant : with_negated token place draft
-          ≡ with_constant IsNot (content token) place draft = rw taken refl in sym constant ∙ read)
+          ≡ with_constant true (content token) place draft = rw taken refl in sym constant ∙ read)
           (plain-column token spelled (quoted-column token taken)) at)
       | inr (other, others) ↦ let (in-word, is) = led _ _ _ others in arrive schema expected.Open after held is
           (subst (AtItem schema) (same-draft _ _ (let set : with_negated token place draft ≡ Ok
@@ -139,7 +140,7 @@ hold-after_test schema after token draft held goes read at =
           | inr (other'', others'') ↦ let (any-word, is) = led _ _ _ others'' in arrive schema expected.AfterCond
               after held is (subst (AtEnd schema) (let same : with_cond Any draft ≡ with_test token
               draft = rw any-word refl in same ∙ read)
-              (record { whole = hold-cond schema Any draft tt at.asked; no_texts = at.no_texts }))
+              (record { whole = hold-cond schema Any draft IsPattern-Any at.asked; no_texts = at.no_texts }))
         ]
       ]
     ]
@@ -235,7 +236,7 @@ hold-step schema expected.AfterItem after token place draft held spelled goes re
 hold-step schema expected.Const after token place draft held spelled goes read at =
     let (taken, is) =
     led _ _ _ goes in arrive schema expected.AfterCond after held is
-    (hold-constant schema Is (content token) place draft held read
+    (hold-constant schema false (content token) place draft held read
     (plain-column token spelled (quoted-column token taken)) at)
 hold-step schema expected.AfterCond after token place draft held spelled goes read at =
     hold-after_line schema after token draft held (is_sign mark.Comma token) (comma-apart token) goes

@@ -1,11 +1,10 @@
 -- What a draft holds, by what is expected after the tokens so far, and what each part adds.
 use Rattle.std.proofs.Common.{◌≡◌, ℕ, zero, suc, ◌<◌, ◌≤◌, ◌==◌, nat_le, true, false, List, [], ◌∷◌, Bool}
-use Rattle.std.proofs.Common.{◌++◌, length, Option, Some, None, Ok, refl, subst, arith, inl}
-use Rattle.std.proofs.Common.{inr}
+use Rattle.std.proofs.Common.{◌++◌, length, Option, Some, None, Ok, refl, subst, arith}
 use Rattle.std.specs.Prelude.{IsTrue}
 use Rattle.std.specs.Str.{bytes_eq, IsAscii}
 use Rattle.std.specs.List.{list_all, AllByRecursion}
-use Rattle.std.proofs.lemmas.Bool.{cases_Bool, and_parts}
+use Rattle.std.proofs.lemmas.Bool.{and_parts}
 use Rattle.std.proofs.lemmas.Bool.Decides.{nat_tests}
 use Rattle.std.proofs.lemmas.List.{length-append}
 use Rattle.std.proofs.lemmas.List.Quantifiers.{position-Some}
@@ -13,6 +12,7 @@ use Rattle.std.proofs.lemmas.Str.{IsUtf8-from_ascii}
 use Rattle.desk_base.proofs.Lists.{AllByRecursion-push}
 use Rattle.desk_base.specs.Words.{is_word, is_word_byte}
 use Rattle.fix_model.specs.declared.pattern.Pat.{Pat}
+use Rattle.fix_model.specs.declared.pattern.Pat.TheVariants.{Any}
 use Rattle.schema_core.specs.declared.schema.Schema.{Schema}
 use Rattle.rule_text.specs.declared.place.Place.{Place}
 use Rattle.rule_text.specs.declared.token.Token.{Token}
@@ -23,8 +23,9 @@ use Rattle.rule_text.specs.declared.draft.Draft.{Draft}
 use Rattle.rule_text.specs.Tokens.{is_name, is_quoted, is_column}
 use Rattle.rule_text.specs.Reading.{content, attribute_of, is_long, draft_following, has_name, has_attribute, with_name}
 use Rattle.rule_text.specs.Reading.{with_key_of, with_key_column, with_head_of, with_head_column, with_asked_of}
-use Rattle.rule_text.specs.Reading.{with_cond, with_constant, with_text, set_of}
-use Rattle.rule_text.specs.Rulebooks.{is_plain, IsPlain, IsSet, IsPattern, ArePairs, IsLine, AreNamedApart}
+use Rattle.rule_text.specs.Reading.{with_cond, with_constant, with_text}
+use Rattle.rule_text.specs.Patterns.{constant_of, set_of}
+use Rattle.rule_text.specs.Rulebooks.{is_plain, IsPlain, IsPattern, ArePairs, IsLine, AreNamedApart}
 use Rattle.rule_text.proofs.Parts.{has_attribute-push, ArePairs-push, ArePairs-none}
 use Rattle.rule_text.proofs.Parts.{AreNamedApart-push, nat_eq-other}
 use Rattle.rule_text.proofs.Walk.{IsSpelled}
@@ -351,6 +352,21 @@ module _ (schema : Schema) (place : Place) (draft after : Draft) where
         some = rw length-append (omega arith);
       })
 
+-- a plain constant is a pattern of a rulebook
+IsPattern-constant_of : (negated : Bool) (constant : List ℕ) → IsPlain constant → IsPattern (constant_of negated constant)
+IsPattern-constant_of true constant plain = record { sized = λ set. absurd cc; plain = (plain, tt) }
+IsPattern-constant_of false constant plain = record { sized = λ set. absurd cc; plain = (plain, tt) }
+
+-- and so are 1 to 64 plain texts
+pub IsPattern-set_of : (negated : Bool) (texts : List (List ℕ)) → (1 ≤ length texts) × (length texts ≤ 64)
+    → AllByRecursion IsPlain texts → IsPattern (set_of negated texts)
+IsPattern-set_of true texts sized plain = record { sized = λ set. sized; plain = plain }
+IsPattern-set_of false texts sized plain = record { sized = λ set. sized; plain = plain }
+
+-- and any text
+pub IsPattern-Any : IsPattern Any
+IsPattern-Any = record { sized = λ set. absurd cc; plain = tt }
+
 -- a rule with one more condition may be closed
 pub hold-cond : (schema : Schema) (pat : Pat) (draft : Draft) → IsPattern pat → HasAsked schema draft
     → IsWhole schema (with_cond pat draft)
@@ -375,17 +391,13 @@ hold-cond schema pat draft good at =
     }
 
 -- after a constant the draft is at the end of a rule
-pub hold-constant : (schema : Schema) (pat : List ℕ → Pat) (constant : List ℕ) (place : Place) (draft after : Draft)
-    → with_constant pat constant place draft ≡ Ok after → (is_long constant ≡ false → IsPattern (pat constant))
+pub hold-constant : (schema : Schema) (negated : Bool) (constant : List ℕ) (place : Place) (draft after : Draft)
+    → with_constant negated constant place draft ≡ Ok after → (is_long constant ≡ false → IsPlain constant)
     → AtTest schema draft → AtEnd schema after
-hold-constant schema pat constant place draft after read good at =
+hold-constant schema negated constant place draft after read plain at =
     let (short, is) = unless-Ok _ _ _ _ read in
     subst (AtEnd schema) (same-draft _ _ is)
-    (record { whole = hold-cond schema (pat constant) draft (good short) at.asked; no_texts = at.no_texts })
-
--- the set of the texts that were read
-pub pattern-set_of : (draft : Draft) → IsSet draft.texts → IsPattern (set_of draft)
-pattern-set_of draft set = elim (cases_Bool draft.negated) [ inl is ↦ rw is set | inr other ↦ rw other set ]
+    (record { whole = hold-cond schema (constant_of negated constant) draft (IsPattern-constant_of negated constant (plain short)) at.asked; no_texts = at.no_texts })
 
 -- a rule that is closed is one more
 pub hold-line : (schema : Schema) (draft : Draft) → IsWhole schema draft

@@ -1,8 +1,6 @@
 -- Want of memory is nothing that a text reads as.
 use Rattle.std.proofs.Common.{◌≡◌, ◌≢◌, ℕ, zero, suc, List, [], ◌∷◌, Bool, true, false}
 use Rattle.std.specs.Prelude.{Option, Some, None, Result, Ok, Err, if◌then◌else◌}
-use Rattle.fix_model.specs.declared.pattern.Pat.{Pat}
-use Rattle.fix_model.specs.declared.pattern.Pat.TheVariants.{Is, IsNot}
 use Rattle.schema_core.specs.declared.schema.Schema.{Schema}
 use Rattle.rule_text.specs.declared.fault.RuleFault.{RuleFault}
 use Rattle.rule_text.specs.declared.fault.RuleFault.TheVariants.{Syntax, HeadInKeys, HeadInWhen, AttrTwice, NameTwice}
@@ -83,9 +81,9 @@ asked-memory schema word place draft = unless-memory _ _ _ (λ (h : TooMany plac
     (asked_of-memory (attribute_of schema word) place draft)
 
 -- nor that of a constant
-constant-memory : (pat : List ℕ → Pat) (constant : List ℕ) (place : Place) (draft : Draft)
-    → with_constant pat constant place draft ≢ Err NoMemory
-constant-memory pat constant place draft = unless-memory
+constant-memory : (negated : Bool) (constant : List ℕ) (place : Place) (draft : Draft)
+    → with_constant negated constant place draft ≢ Err NoMemory
+constant-memory negated constant place draft = unless-memory
     _ _ _ (λ (h : ConstantLong place.line place.column ≡ NoMemory). cc) (ok-memory _)
 
 -- nor that of a text of a set
@@ -119,11 +117,11 @@ token-memory schema expected.AfterHead token place draft = ok-memory _
 token-memory schema expected.Cond token place draft = asked-memory schema _ place draft
 token-memory schema expected.Test token place draft = ok-memory _
 token-memory schema expected.Negated token place draft = choice-memory (is_quoted token)
-    _ _ (constant-memory IsNot (content token) place draft) (ok-memory _)
+    _ _ (constant-memory true (content token) place draft) (ok-memory _)
 token-memory schema expected.Open token place draft = ok-memory _
 token-memory schema expected.Item token place draft = text-memory _ place draft
 token-memory schema expected.AfterItem token place draft = ok-memory _
-token-memory schema expected.Const token place draft = constant-memory Is _ place draft
+token-memory schema expected.Const token place draft = constant-memory false _ place draft
 token-memory schema expected.AfterCond token place draft = ok-memory _
 
 -- what comes of a result that is none

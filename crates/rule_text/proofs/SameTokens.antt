@@ -1,11 +1,9 @@
 -- Tokens that are the same, columns taken as strings, read alike.
 use Rattle.std.proofs.Common.{◌≡◌, ◌∙◌, ℕ, suc, ◌≤◌, ◌==◌, nat_le, List, [], ◌∷◌, length, map, Option, Some, None, Ok}
-use Rattle.std.proofs.Common.{refl, sym, ap, subst, inl, inr}
+use Rattle.std.proofs.Common.{Bool, true, false, refl, sym, ap, subst, inl, inr}
 use Rattle.std.specs.Prelude.{◌↔◌, filter, if◌then◌else◌}
 use Rattle.std.proofs.lemmas.Bool.{cases_Bool}
 use Rattle.std.proofs.lemmas.Option.{slice_get_past}
-use Rattle.fix_model.specs.declared.pattern.Pat.{Pat}
-use Rattle.fix_model.specs.declared.pattern.Pat.TheVariants.{Is, IsNot}
 use Rattle.schema_core.specs.declared.schema.Schema.{Schema}
 use Rattle.schema_core.specs.Schemas.{IsSchema}
 use Rattle.rule_text.specs.declared.fault.RuleFault.TheVariants.{HeadInKeys, HeadInWhen, AttrTwice, NameTwice}
@@ -101,16 +99,16 @@ module _ (place elsewhere : Place) (draft held : Draft) where
       rw (room, short) same
 
   -- the one constant of a condition
-  moved-constant : (pat : List ℕ → Pat) (constant : List ℕ) → with_constant pat constant place draft ≡ Ok held
-      → with_constant pat constant elsewhere draft ≡ Ok held
-  moved-constant pat constant read = let (short, same) = unless-Ok (is_long constant)
+  moved-constant : (negated : Bool) (constant : List ℕ) → with_constant negated constant place draft ≡ Ok held
+      → with_constant negated constant elsewhere draft ≡ Ok held
+  moved-constant negated constant read = let (short, same) = unless-Ok (is_long constant)
       (ConstantLong place.line place.column) _ _ read in rw short same
 
   -- what stands after `not`
   moved-negated : (token : Token) → with_negated token place draft ≡ Ok held
       → with_negated token elsewhere draft ≡ Ok held
   moved-negated (Word bytes) read = read
-  moved-negated (Quoted bytes) read = moved-constant IsNot bytes read
+  moved-negated (Quoted bytes) read = moved-constant true bytes read
   moved-negated (Sign own) read = read
 
 -- what a token adds, it adds at each place
@@ -136,7 +134,7 @@ with_token-moved schema expected.Negated token place elsewhere draft held read =
 with_token-moved schema expected.Item token place elsewhere draft held read = moved-text place elsewhere draft held
     (content token) read
 with_token-moved schema expected.Const token place elsewhere draft held read = moved-constant place elsewhere draft
-    held Is (content token) read
+    held false (content token) read
 with_token-moved schema other token place elsewhere draft held read = read
 
 -- ---- tokens that are the same

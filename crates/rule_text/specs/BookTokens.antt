@@ -2,7 +2,7 @@
 use Rattle.std.specs.Prelude.{◌≡◌, codes, ℕ, Bool, true, false, if◌then◌else◌, List, [], ◌∷◌, ◌++◌, map, Ok}
 use Rattle.std.specs.List.{flat_map}
 use Rattle.fix_model.specs.declared.pattern.Pat.{Pat}
-use Rattle.fix_model.specs.declared.pattern.Pat.TheVariants.{Is, IsNot, OneOf, NoneOf, Any}
+use Rattle.fix_model.specs.Pattern.{texts_of, is_set}
 use Rattle.schema_core.specs.declared.schema.Schema.{Schema}
 use Rattle.rule_text.specs.declared.rulebook.RuleLine.{RuleLine}
 use Rattle.rule_text.specs.declared.rulebook.Rulebook.{Rulebook}
@@ -12,6 +12,7 @@ use Rattle.rule_text.specs.declared.grammar.Taken.{Taken}
 use Rattle.rule_text.specs.declared.token.Mark.TheVariants.{Colon, Comma, Equals, Arrow, Semicolon, Opening, Closing}
 use Rattle.rule_text.specs.declared.token.Token.{Token}
 use Rattle.rule_text.specs.declared.token.Token.TheVariants.{Word, Quoted, Sign}
+use Rattle.rule_text.specs.Patterns.{words_of}
 use Rattle.rule_text.specs.Tokenizer.{tokens_of}
 use Rattle.rule_text.specs.Printing.{attribute_text}
 
@@ -33,13 +34,13 @@ text_tokens text = Quoted text ∷ []
 abbrev pub set_tokens : List (List ℕ) → List Token
 set_tokens texts = Sign Opening ∷ with_commas (map text_tokens texts) ++ Sign Closing ∷ []
 
--- what is asked of an attribute
+-- what a pattern holds: a set, or a text by itself, if any
+abbrev pub held_tokens : Pat → List Token
+held_tokens pat = if is_set pat then set_tokens (texts_of pat) else map Quoted (texts_of pat)
+
+-- what is asked of an attribute: the words of a pattern and what it holds
 abbrev pub pattern_tokens : Pat → List Token
-pattern_tokens (Is constant) = Word (codes "is") ∷ Quoted constant ∷ []
-pattern_tokens (IsNot constant) = Word (codes "not") ∷ Quoted constant ∷ []
-pattern_tokens (OneOf texts) = Word (codes "in") ∷ set_tokens texts
-pattern_tokens (NoneOf texts) = Word (codes "not") ∷ Word (codes "in") ∷ set_tokens texts
-pattern_tokens Any = Word (codes "any") ∷ []
+pattern_tokens pat = map Word (words_of pat) ++ held_tokens pat
 
 -- a condition
 abbrev pub cond_tokens : Schema → ℕ × Pat → List Token

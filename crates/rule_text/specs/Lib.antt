@@ -2,6 +2,7 @@ pub mod Tokens
 pub mod Grammar
 pub mod Tokenizer
 pub mod Sentences
+pub mod Patterns
 pub mod Reading
 pub mod Rulebooks
 pub mod Printing

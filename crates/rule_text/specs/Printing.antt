@@ -1,12 +1,13 @@
 -- How a rulebook is printed.
 use Rattle.std.specs.Prelude.{codes, ℕ, zero, suc, ◌==◌, if◌then◌else◌, List, [], ◌∷◌, ◌++◌, map, unwrap_or, slice_get}
-use Rattle.std.specs.List.{flat_map}
+use Rattle.std.specs.List.{flat_map, join_with_byte}
 use Rattle.desk_base.specs.Words.{is_word}
 use Rattle.fix_model.specs.declared.pattern.Pat.{Pat}
-use Rattle.fix_model.specs.declared.pattern.Pat.TheVariants.{Is, IsNot, OneOf, NoneOf, Any}
+use Rattle.fix_model.specs.Pattern.{texts_of, is_set}
 use Rattle.schema_core.specs.declared.schema.Schema.{Schema}
 use Rattle.rule_text.specs.declared.rulebook.RuleLine.{RuleLine}
 use Rattle.rule_text.specs.declared.rulebook.Rulebook.{Rulebook}
+use Rattle.rule_text.specs.Patterns.{words_of}
 
 -- each quote twice
 abbrev pub doubled : List ℕ → List ℕ
@@ -44,13 +45,13 @@ pair_text schema pair = attribute_text schema pair.0 ++ codes " = " ++ column_te
 abbrev pub set_text : List (List ℕ) → List ℕ
 set_text texts = codes "(" ++ listed (map string_text texts) ++ codes ")"
 
--- what is asked of an attribute
+-- what a pattern holds: a set, or a text by itself, if any
+abbrev pub held_texts : Pat → List (List ℕ)
+held_texts pat = if is_set pat then set_text (texts_of pat) ∷ [] else map string_text (texts_of pat)
+
+-- what is asked of an attribute: the words of a pattern and what it holds, each after a space
 abbrev pub pattern_text : Pat → List ℕ
-pattern_text (Is constant) = codes " is " ++ string_text constant
-pattern_text (IsNot constant) = codes " not " ++ string_text constant
-pattern_text (OneOf texts) = codes " in " ++ set_text texts
-pattern_text (NoneOf texts) = codes " not in " ++ set_text texts
-pattern_text Any = codes " any"
+pattern_text pat = 32 ∷ join_with_byte 32 (words_of pat ++ held_texts pat)
 
 -- a condition
 abbrev pub cond_text : Schema → ℕ × Pat → List ℕ

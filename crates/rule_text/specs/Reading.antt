@@ -4,7 +4,7 @@ use Rattle.std.specs.Prelude.{length, filter, position, slice_get, Option, Some,
 use Rattle.std.specs.List.{list_any}
 use Rattle.std.specs.Str.{bytes_eq}
 use Rattle.fix_model.specs.declared.pattern.Pat.{Pat}
-use Rattle.fix_model.specs.declared.pattern.Pat.TheVariants.{Is, IsNot, OneOf, NoneOf, Any}
+use Rattle.fix_model.specs.declared.pattern.Pat.TheVariants.{Any}
 use Rattle.schema_core.specs.declared.schema.Schema.{Schema}
 use Rattle.desk_base.specs.declared.limits.TheConstants.{MAX_CONDITIONS, MAX_KEYS, MAX_RULES, MAX_SET, MAX_TEXT}
 use Rattle.rule_text.specs.declared.fault.RuleFault.{RuleFault}
@@ -21,6 +21,7 @@ use Rattle.rule_text.specs.declared.rulebook.RuleLine.{RuleLine}
 use Rattle.rule_text.specs.declared.rulebook.Rulebook.{Rulebook}
 use Rattle.rule_text.specs.declared.draft.Draft.{Draft}
 use Rattle.rule_text.specs.Tokenizer.{is_between_rules, tokens_of}
+use Rattle.rule_text.specs.Patterns.{constant_of, set_of}
 use Rattle.rule_text.specs.Tokens.{is_keyword, is_quoted, is_sign}
 
 -- the bytes of a word, or the content of a string
@@ -122,16 +123,16 @@ with_cond pat draft =
 abbrev pub with_test : Token → Draft → Draft
 with_test token draft = if is_keyword (codes "any") token then with_cond Any draft else record draft { negated = false }
 
--- a condition with one constant
-abbrev pub with_constant : (List ℕ → Pat) → List ℕ → Place → Draft → Result Draft RuleFault
-with_constant pat constant place draft =
+-- a condition with one constant, excluded or asked for
+abbrev pub with_constant : Bool → List ℕ → Place → Draft → Result Draft RuleFault
+with_constant negated constant place draft =
     if is_long constant then Err (ConstantLong place.line place.column)
-    else Ok (with_cond (pat constant) draft)
+    else Ok (with_cond (constant_of negated constant) draft)
 
 -- what stands after `not`: a constant, or `in`
 abbrev pub with_negated : Token → Place → Draft → Result Draft RuleFault
 with_negated token place draft =
-    if is_quoted token then with_constant IsNot (content token) place draft
+    if is_quoted token then with_constant true (content token) place draft
     else Ok (record draft { negated = true })
 
 -- a text of a set
@@ -141,14 +142,11 @@ with_text text place draft =
     else if is_long text then Err (ConstantLong place.line place.column)
     else Ok (record draft { texts = draft.texts ++ text ∷ [] })
 
--- the texts that are read, as a set
-abbrev pub set_of : Draft → Pat
-set_of draft = if draft.negated then NoneOf draft.texts else OneOf draft.texts
-
 -- where a set is closed, its condition
 abbrev pub with_set : Token → Draft → Draft
 with_set token draft =
-    if is_sign mark.Closing token then record (with_cond (set_of draft) draft) { texts = [] } else draft
+    if is_sign mark.Closing token then record (with_cond (set_of draft.negated draft.texts) draft) { texts = [] }
+    else draft
 
 -- where a rule is closed, one more rule
 abbrev pub with_line : Token → Draft → Draft
@@ -175,7 +173,7 @@ with_token schema expected.Negated token place draft = with_negated token place 
 with_token schema expected.Open token place draft = Ok draft
 with_token schema expected.Item token place draft = with_text (content token) place draft
 with_token schema expected.AfterItem token place draft = Ok (with_set token draft)
-with_token schema expected.Const token place draft = with_constant Is (content token) place draft
+with_token schema expected.Const token place draft = with_constant false (content token) place draft
 with_token schema expected.AfterCond token place draft = Ok (with_line token draft)
 
 -- and then what comes of it, where it is no fault

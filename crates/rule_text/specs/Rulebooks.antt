@@ -3,9 +3,9 @@ use Rattle.std.specs.Prelude.{◌≡◌, ℕ, ◌<◌, ◌≤◌, nat_le, Bool, 
 use Rattle.std.specs.List.{list_all, AllByRecursion}
 use Rattle.desk_base.specs.Words.{is_word}
 use Rattle.fix_model.specs.declared.pattern.Pat.{Pat}
-use Rattle.fix_model.specs.declared.pattern.Pat.TheVariants.{Is, IsNot, OneOf, NoneOf, Any}
+use Rattle.fix_model.specs.Pattern.{texts_of, IsSized}
 use Rattle.schema_core.specs.declared.schema.Schema.{Schema}
-use Rattle.desk_base.specs.declared.limits.TheConstants.{MAX_KEYS, MAX_RULES, MAX_SET, MAX_TEXT}
+use Rattle.desk_base.specs.declared.limits.TheConstants.{MAX_KEYS, MAX_RULES, MAX_TEXT}
 use Rattle.rule_text.specs.declared.rulebook.RuleLine.{RuleLine}
 use Rattle.rule_text.specs.declared.rulebook.Rulebook.{Rulebook}
 use Rattle.rule_text.specs.Reading.{has_name, has_attribute}
@@ -20,19 +20,10 @@ pub record IsPlain (text : List ℕ) : Type 0 where
   pub plain : IsTrue (list_all is_plain text)
   pub utf8 : IsUtf8 text
 
--- 1 to 64 such texts
-pub record IsSet (texts : List (List ℕ)) : Type 0 where
-  pub some : 1 ≤ length texts
-  pub fits : length texts ≤ MAX_SET
-  pub plain : AllByRecursion IsPlain texts
-
--- a pattern of such texts
-abbrev pub IsPattern : Pat → Type 0
-IsPattern (Is constant) = IsPlain constant
-IsPattern (IsNot constant) = IsPlain constant
-IsPattern (OneOf texts) = IsSet texts
-IsPattern (NoneOf texts) = IsSet texts
-IsPattern Any = ⊤
+-- a pattern of such texts, 1 to 64 where it holds a set
+pub record IsPattern (pat : Pat) : Type 0 where
+  pub sized : IsSized pat
+  pub plain : AllByRecursion IsPlain (texts_of pat)
 
 -- pairs with distinct attributes: none of the first's stands again after it, and so on
 abbrev pub AreDistinct : {A : Type 0} → List (ℕ × A) → Type 0

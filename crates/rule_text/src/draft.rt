@@ -1,7 +1,6 @@
 //! A rulebook while it is read, token by token.
 ghost use Rattle.std.specs.Prelude.{◌≡◌, ◌≢◌, ◌++◌, ◌∷◌, [], position, Ok, Err, OnOk, IfOk, IfErr};
 ghost use Rattle.std.specs.Str.{bytes_eq};
-ghost use Rattle.fix_model.specs.declared.pattern.Pat.TheVariants as pat;
 ghost use Rattle.schema_core.specs.Schemas.{IsSchema};
 ghost use Rattle.rule_text.specs.Reading.{content, attribute_of, is_long, blank_line, draft_following, has_name};
 ghost use Rattle.rule_text.specs.Reading.{has_attribute, with_name, with_master, with_key, with_key_column};
@@ -10,6 +9,7 @@ ghost use Rattle.rule_text.specs.Reading.{with_constant, with_negated, with_text
 
 use crate::fault::RuleFault;
 use crate::grammar::{Expected, Taken};
+use crate::patterns::{constant_of, set_of};
 use crate::place::Place;
 use crate::rulebook::RuleLine;
 use crate::token::{Mark, Token};
@@ -269,22 +269,23 @@ impl Draft {
         Ok(())
     }
 
-    /// Takes the constant that a text is to be.
+    /// Takes the constant that a text is to be, or is not to be.
     fn take_constant(
         &mut self,
         alloc: Global,
+        negated: bool,
         constant: &[u8],
         place: Place,
     ) -> Result<(), RuleFault>
-        ensures read { OnOk result (with_constant pat.Is constant.now place self.old ≡ Ok self.new) }
+        ensures read { OnOk result (with_constant negated constant.now place self.old ≡ Ok self.new) }
         ensures fault { IfErr result (λ fault. fault ≢ RuleFault.NoMemory
-            → with_constant pat.Is constant.now place self.old ≡ Err fault) }
+            → with_constant negated constant.now place self.old ≡ Err fault) }
     {
         if is_long(constant) {
             return Err(RuleFault::ConstantLong(place.line, place.column));
         }
         let constant = text_of(alloc, constant)?;
-        self.add_cond(Pat::Is(constant))
+        self.add_cond(constant_of(negated, constant))
     }
 
     /// Takes what stands after `not`: the constant that a text is not to be, or `in`.
@@ -293,15 +294,11 @@ impl Draft {
         ensures fault { IfErr result (λ fault. fault ≢ RuleFault.NoMemory
             → with_negated token.now place self.old ≡ Err fault) }
     {
-        if !token.is_quoted() {
-            self.negated = true;
-            return Ok(());
+        if token.is_quoted() {
+            return self.take_constant(alloc, true, token.content(), place);
         }
-        if is_long(token.content()) {
-            return Err(RuleFault::ConstantLong(place.line, place.column));
-        }
-        let constant = text_of(alloc, token.content())?;
-        self.add_cond(Pat::IsNot(constant))
+        self.negated = true;
+        Ok(())
     }
 
     /// Takes a text of a set.
@@ -330,12 +327,7 @@ impl Draft {
             return Ok(());
         }
         let texts = std::mem::replace(&mut self.texts, List::new(alloc));
-        let pat = if self.negated {
-            Pat::NoneOf(texts)
-        } else {
-            Pat::OneOf(texts)
-        };
-        self.add_cond(pat)
+        self.add_cond(set_of(self.negated, texts))
     }
 
     /// Takes what stands after the head or a condition: the rule may be closed.
@@ -377,7 +369,7 @@ impl Draft {
             Expected::Negated => self.take_negated(alloc, token, place),
             Expected::Item => self.take_text(alloc, token.content(), place),
             Expected::AfterItem => self.take_after_text(alloc, token),
-            Expected::Const => self.take_constant(alloc, token.content(), place),
+            Expected::Const => self.take_constant(alloc, false, token.content(), place),
             Expected::AfterHead | Expected::AfterCond => self.take_after_line(alloc, token),
             Expected::Rule
             | Expected::From

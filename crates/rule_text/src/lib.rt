@@ -13,6 +13,7 @@ mod fault;
 mod grammar;
 pub mod laws;
 mod names;
+mod patterns;
 mod place;
 mod printing;
 mod reading;

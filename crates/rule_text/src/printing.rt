@@ -5,9 +5,10 @@ ghost use Rattle.schema_core.specs.Schemas.{IsSchema};
 ghost use Rattle.rule_text.specs.Rulebooks.{IsRulebook, IsLine, IsPlain, IsPattern};
 ghost use Rattle.rule_text.specs.Reading.{read_rules};
 ghost use Rattle.rule_text.specs.Printing.{doubled, string_text, column_text, attribute_text, separator, listed};
-ghost use Rattle.rule_text.specs.Printing.{pair_text, set_text, pattern_text, cond_text, conds_text, line_text};
+ghost use Rattle.rule_text.specs.Printing.{pair_text, set_text, cond_text, conds_text, line_text};
 ghost use Rattle.rule_text.specs.Printing.{printed};
 
+use crate::patterns::put_pattern;
 use crate::rulebook::{RuleLine, Rulebook};
 use desk_base::{List, NoMemory, Text, is_word};
 use fix_model::Pat;
@@ -45,7 +46,7 @@ fn put_line(out: &mut Vec<u8>, schema: &Schema, line: &RuleLine) -> Result<(), N
     put(out, b";\n")
 }
 
-fn put(out: &mut Vec<u8>, bytes: &[u8]) -> Result<(), NoMemory>
+pub fn put(out: &mut Vec<u8>, bytes: &[u8]) -> Result<(), NoMemory>
     ensures { OnOk result (out.new.items ≡ out.old.items ++ bytes.now) }
 {
     out.extend_from_slice(bytes)?;
@@ -60,7 +61,7 @@ fn put_byte(out: &mut Vec<u8>, byte: u8) -> Result<(), NoMemory>
 }
 
 /// A text between quotes, with each quote in it twice.
-fn put_string(out: &mut Vec<u8>, text: &Text) -> Result<(), NoMemory>
+pub fn put_string(out: &mut Vec<u8>, text: &Text) -> Result<(), NoMemory>
     ensures { OnOk result (out.new.items ≡ out.old.items ++ string_text text.now) }
 {
     put_byte(out, b'"')?;
@@ -176,32 +177,8 @@ fn put_cond(
     put_pattern(out, pattern)
 }
 
-/// What is asked of an attribute.
-fn put_pattern(out: &mut Vec<u8>, pattern: &Pat) -> Result<(), NoMemory>
-    ensures { OnOk result (out.new.items ≡ out.old.items ++ pattern_text pattern.now) }
-{
-    match pattern {
-        Pat::Is(constant) => {
-            put(out, b" is ")?;
-            put_string(out, constant)
-        }
-        Pat::IsNot(constant) => {
-            put(out, b" not ")?;
-            put_string(out, constant)
-        }
-        Pat::OneOf(texts) => {
-            put(out, b" in ")?;
-            put_set(out, texts.as_slice())
-        }
-        Pat::NoneOf(texts) => {
-            put(out, b" not in ")?;
-            put_set(out, texts.as_slice())
-        }
-        Pat::Any => put(out, b" any"),
-    }
-}
-
-fn put_set(out: &mut Vec<u8>, texts: &[Text]) -> Result<(), NoMemory>
+/// Texts between parentheses, with commas between.
+pub fn put_set(out: &mut Vec<u8>, texts: &[Text]) -> Result<(), NoMemory>
     ensures { OnOk result (out.new.items ≡ out.old.items ++ set_text texts.now) }
 {
     put_byte(out, b'(')?;
