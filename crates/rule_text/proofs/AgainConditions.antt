@@ -1,7 +1,7 @@
 -- Conditions are read again as they are printed.
 use Rattle.std.proofs.Common.{◌≡◌, ℕ, ◌<◌, ◌≤◌, ◌==◌, Bool, true, false}
 use Rattle.std.proofs.Common.{List, [], ◌∷◌, ◌++◌, length, map, refl, sym}
-use Rattle.std.proofs.Common.{subst, append_assoc, arith}
+use Rattle.std.proofs.Common.{subst, append_assoc, arith, Some, Ok}
 use Rattle.std.specs.Prelude.{codes}
 use Rattle.std.specs.List.{AllByRecursion}
 use Rattle.std.proofs.lemmas.Bool.{or_parts}
@@ -9,12 +9,16 @@ use Rattle.fix_model.specs.declared.pattern.Pat.{Pat}
 use Rattle.fix_model.specs.declared.pattern.Pat.TheVariants.{Is, IsNot, OneOf, NoneOf, Any}
 use Rattle.schema_core.specs.declared.schema.Schema.{Schema}
 use Rattle.schema_core.specs.Schemas.{IsSchema}
+use Rattle.desk_base.specs.Words.{is_word}
+use Rattle.rule_text.specs.declared.grammar.Expected.{Expected}
 use Rattle.rule_text.specs.declared.grammar.Expected.TheVariants as expected
+use Rattle.rule_text.specs.declared.place.Place.{Place}
 use Rattle.rule_text.specs.declared.token.Mark.TheVariants as mark
-use Rattle.rule_text.specs.declared.token.Token.TheVariants.{Sign}
+use Rattle.rule_text.specs.declared.token.Token.TheVariants.{Word, Sign}
 use Rattle.rule_text.specs.declared.rulebook.RuleLine.{RuleLine}
 use Rattle.rule_text.specs.Tokens.{piece_at}
 use Rattle.rule_text.specs.Grammar.{next}
+use Rattle.rule_text.specs.Tokenizer.{is_between_rules}
 use Rattle.rule_text.specs.Reading.{has_attribute, with_token}
 use Rattle.rule_text.specs.Patterns.{set_of}
 use Rattle.rule_text.specs.Rulebooks.{IsPlain, IsPattern, AreDistinct, ArePairs}
@@ -85,6 +89,21 @@ module _ (schema : Schema) (lines : List RuleLine) (line : RuleLine) (attribute 
       (drafted lines (longer (set_of negated texts)) attribute negated []) 41 rest rest (Sign mark.Closing) 0 0 refl
       refl refl (λ place. refl) refl)
 
+-- a word after a space, by which no more is told than whether texts are excluded
+reads-sense : (schema : Schema) (lines : List RuleLine) (line : RuleLine) (attribute : ℕ) (before after : Expected)
+    (negated now : Bool) (word tail : List ℕ)
+    → is_word word ≡ true → next before (Word word) ≡ Some after
+    → ((place : Place) → with_token schema before (Word word) place (drafted lines line attribute negated [])
+    ≡ Ok (drafted lines line attribute now []))
+    → is_between_rules before ≡ false
+    → Reads schema before (drafted lines line attribute negated []) (32 ∷ (word ++ 32 ∷ tail)) after
+    (drafted lines line attribute now []) (32 ∷ tail) 0
+reads-sense schema lines line attribute before after negated now word tail is goes made within =
+    let start = drafted lines line attribute negated [] in
+    space schema before start (word ++ 32 ∷ tail)
+    ▸ reads-word schema before after start (drafted lines line attribute now []) word (32 ∷ tail) 0 is
+    (stops-space tail) goes made (rw within refl)
+
 -- what is asked of an attribute
 pub reads-pattern : (schema : Schema) (lines : List RuleLine) (line : RuleLine) (attribute : ℕ) (negated : Bool)
     (pat : Pat) (rest : List ℕ)
@@ -95,59 +114,46 @@ pub reads-pattern : (schema : Schema) (lines : List RuleLine) (line : RuleLine) 
     []) rest 0
 unfolding next with_token piece_at
 reads-pattern schema lines line attribute negated (Is constant) rest good stops =
-    let start = drafted lines line attribute negated [] in
     let open' = drafted lines line attribute false [] in
-    let tail = string_text constant ++ rest in
-    let below = is_long-fits constant good.plain.0.fits in (
+    let tail = string_text constant ++ rest in (
       false,
-      space schema expected.Test start (codes "is " ++ tail)
-          ▸ reads-word schema expected.Test expected.Const start open' (codes "is") (32 ∷ tail) 0 refl
-          (stops-space tail) refl (λ place. refl) refl
+      reads-sense schema lines line attribute expected.Test expected.Const negated false (codes "is") tail refl refl
+          (λ place. refl) refl
           ▸ space schema expected.Const open' tail
           ▸ reads-string schema expected.Const expected.AfterCond open'
           (drafted lines (record line { conds = line.conds ++ (attribute, Is constant) ∷ [] }) attribute false [])
-          constant rest 0 good.plain.0 stops refl (λ place. rw below refl) refl,
+          constant rest 0 good.plain.0 stops refl (λ place. rw (is_long-fits constant good.plain.0.fits) refl) refl,
     )
 reads-pattern schema lines line attribute negated (IsNot constant) rest good stops =
-    let start = drafted lines line attribute negated [] in
     let open' = drafted lines line attribute false [] in
-    let tail = string_text constant ++ rest in
-    let below = is_long-fits constant good.plain.0.fits in (
+    let tail = string_text constant ++ rest in (
       false,
-      space schema expected.Test start (codes "not " ++ tail)
-          ▸ reads-word schema expected.Test expected.Negated start open' (codes "not") (32 ∷ tail) 0 refl
-          (stops-space tail) refl (λ place. refl) refl
+      reads-sense schema lines line attribute expected.Test expected.Negated negated false (codes "not") tail refl refl
+          (λ place. refl) refl
           ▸ space schema expected.Negated open' tail
           ▸ reads-string schema expected.Negated expected.AfterCond open'
           (drafted lines (record line { conds = line.conds ++ (attribute, IsNot constant) ∷ [] }) attribute false
-          []) constant rest 0 good.plain.0 stops refl (λ place. rw below refl) refl,
+          []) constant rest 0 good.plain.0 stops refl (λ place. rw (is_long-fits constant good.plain.0.fits) refl)
+          refl,
     )
 reads-pattern schema lines line attribute negated (OneOf texts) rest good stops =
-    let start = drafted lines line attribute negated [] in
-    let open' = drafted lines line attribute false [] in
     let tail = set_text texts ++ rest in (
       false,
       reads-of (pattern_text (OneOf texts) ++ rest) (codes " in " ++ tail) (simp append_assoc)
-          (space schema expected.Test start (codes "in " ++ tail)
-          ▸ reads-word schema expected.Test expected.Open start open' (codes "in") (32 ∷ tail) 0 refl
-          (stops-space tail) refl (λ place. refl) refl
-          ▸ space schema expected.Open open' tail
+          (reads-sense schema lines line attribute expected.Test expected.Open negated false (codes "in") tail refl
+          refl (λ place. refl) refl
+          ▸ space schema expected.Open (drafted lines line attribute false []) tail
           ▸ reads-set schema lines line attribute false texts rest (good.sized refl) good.plain),
     )
 reads-pattern schema lines line attribute negated (NoneOf texts) rest good stops =
-    let start = drafted lines line attribute negated [] in
-    let open' = drafted lines line attribute false [] in
-    let turned = drafted lines line attribute true [] in
     let tail = set_text texts ++ rest in (
       true,
       reads-of (pattern_text (NoneOf texts) ++ rest) (codes " not in " ++ tail) (simp append_assoc)
-          (space schema expected.Test start (codes "not in " ++ tail)
-          ▸ reads-word schema expected.Test expected.Negated start open' (codes "not") (codes " in " ++ tail) 0 refl
-          (stops-space _) refl (λ place. refl) refl
-          ▸ space schema expected.Negated open' (codes "in " ++ tail)
-          ▸ reads-word schema expected.Negated expected.Open open' turned (codes "in") (32 ∷ tail) 0 refl
-          (stops-space tail) refl (λ place. refl) refl
-          ▸ space schema expected.Open turned tail
+          (reads-sense schema lines line attribute expected.Test expected.Negated negated false (codes "not")
+          (codes "in " ++ tail) refl refl (λ place. refl) refl
+          ▸ reads-sense schema lines line attribute expected.Negated expected.Open false true (codes "in") tail refl
+          refl (λ place. refl) refl
+          ▸ space schema expected.Open (drafted lines line attribute true []) tail
           ▸ reads-set schema lines line attribute true texts rest (good.sized refl) good.plain),
     )
 reads-pattern schema lines line attribute negated Any rest good stops =
