@@ -1,12 +1,20 @@
 -- Reading parts of a value, one after another.
-use Rattle.std.proofs.Common.{◌≡◌, ℕ, ◌+◌, ◌*◌, List, [], ◌∷◌, ◌++◌, length, Option, Some, None, option_map, refl, ap}
-use Rattle.std.proofs.Common.{sym, ◌∙◌, arith, length-append}
+use Rattle.std.proofs.Common.{◌≡◌, ℕ, ◌+◌, ◌*◌, List, [], ◌∷◌, ◌++◌, length, Option, Some, None, option_map, map, refl, ap}
+use Rattle.std.proofs.Common.{Vec, Global, sym, ◌∙◌, arith, length-append}
 use Rattle.std.proofs.lemmas.Grind.{common_steps}
 use Rattle.serde_json.specs.Data.{Data}
+use Rattle.serde_json.specs.View.{view}
+use Rattle.serde_json.specs.declared.value.Value.{Value, Array}
+use Rattle.serde_json.proofs.Views.{view-Array}
 use Rattle.desk_base.specs.Grid.{rows_of}
 use Rattle.desk_base.proofs.Rows.{rows_of-append}
-use Rattle.json_parts.specs.Parts.{◌>>=◌, each}
+use Rattle.json_parts.specs.Parts.{◌>>=◌, each, items_in}
+use Rattle.json_parts.proofs.Reading.{all_items-items_of}
 use Rattle.case_json.specs.Masters.{row_in}
+
+-- the items of a value that is an array of values
+pub items_in-Array : (values : Vec Value Global) → items_in (view (Array values)) ≡ Some (map view values.items)
+items_in-Array values = rw (view-Array, all_items-items_of) refl
 
 -- what stands after the parts grows by the next one
 pub append-next : {A : Type 0} (parts : List A) (part : A) (rest : Option (List A))

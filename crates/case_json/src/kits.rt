@@ -5,6 +5,7 @@ ghost use Rattle.serde_json.specs.View.{view};
 ghost use Rattle.case_json.specs.Kits.{folded_of, kit_in};
 
 use crate::attributes::Attributes;
+use crate::masters::masters_of;
 use crate::records::listed;
 use desk_base::{List, flags_of};
 use fix_model::Kit;
@@ -29,15 +30,16 @@ pub fn folded(
     }
 }
 
-/// The rules and masters over these attributes, valid or not.
-pub fn kit(alloc: Global, attributes: &Attributes, value: &Value) -> Result<Kit, PartFault>
-    ensures kit { IfOk result (λ kit. kit_in attributes.now (view value.now) ≡ Some kit) }
-    ensures none { IsErrOf result PartFault.WrongForm → kit_in attributes.now (view value.now) ≡ None }
+/// The rules and masters over these attributes, valid or not. The masters are read last, since they are taken out of
+/// the value.
+pub fn kit(alloc: Global, attributes: &Attributes, value: Value) -> Result<Kit, PartFault>
+    ensures kit { IfOk result (λ kit. kit_in attributes.now (view value) ≡ Some kit) }
+    ensures none { IsErrOf result PartFault.WrongForm → kit_in attributes.now (view value) ≡ None }
     ensures width { IfOk result (λ kit. kit.width ≡ length attributes.now) }
 {
-    let rules = read_field(alloc, attributes, "rules", value)?;
-    let masters = read_field(alloc, attributes, "masters", value)?;
-    let folded = folded(alloc, attributes, value)?;
+    let rules = read_field(alloc, attributes, "rules", &value)?;
+    let folded = folded(alloc, attributes, &value)?;
+    let masters = masters_of(alloc, value)?;
     Ok(Kit {
         width: attributes.count(),
         rules,

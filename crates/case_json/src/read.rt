@@ -38,14 +38,14 @@ impl From<NoMemory> for CaseFault {
 }
 
 /// The parts of a case, whose attributes may stand twice and whose kit need not be valid.
-fn parts(alloc: Global, value: &Value) -> Result<Case, PartFault>
-    ensures parts { IfOk result (λ case. parts_of (view value.now) ≡ Some case) }
-    ensures none { IsErrOf result PartFault.WrongForm → parts_of (view value.now) ≡ None }
+fn parts(alloc: Global, value: Value) -> Result<Case, PartFault>
+    ensures parts { IfOk result (λ case. parts_of (view value) ≡ Some case) }
+    ensures none { IsErrOf result PartFault.WrongForm → parts_of (view value) ≡ None }
     ensures fits { IfOk result PartsFit }
 {
-    let attributes: Attributes = read_field(alloc, &(), "attributes", value)?;
+    let attributes: Attributes = read_field(alloc, &(), "attributes", &value)?;
+    let state = state(alloc, &attributes, &value)?;
     let kit = kit(alloc, &attributes, value)?;
-    let state = state(alloc, &attributes, value)?;
     Ok(Case {
         attributes: attributes.into_words(),
         kit,
@@ -73,12 +73,12 @@ pub fn has_case_keys(value: &Value) -> bool
 }
 
 /// The case that the value is.
-fn case_in(alloc: Global, value: &Value) -> Result<Case, PartFault>
-    ensures case { IfOk result (λ case. IsCaseOf (view value.now) case) }
+fn case_in(alloc: Global, value: Value) -> Result<Case, PartFault>
+    ensures case { IfOk result (λ case. IsCaseOf (view value) case) }
     ensures fits { IfOk result PartsFit }
-    ensures none { IsErrOf result PartFault.WrongForm → ((case : Case) → ¬ IsCaseOf (view value.now) case) }
+    ensures none { IsErrOf result PartFault.WrongForm → ((case : Case) → ¬ IsCaseOf (view value) case) }
 {
-    if !has_case_keys(value) {
+    if !has_case_keys(&value) {
         return Err(PartFault::WrongForm);
     }
     let case = parts(alloc, value)?;
@@ -101,7 +101,7 @@ pub fn case_of(alloc: Global, bytes: &[u8]) -> Result<Case, CaseFault>
     let Some(value) = json_of(alloc, bytes)? else {
         return Err(CaseFault::NotJson);
     };
-    match case_in(alloc, &value) {
+    match case_in(alloc, value) {
         Ok(case) => Ok(case),
         Err(PartFault::WrongForm) => Err(CaseFault::NotACase),
         Err(PartFault::NoMemory) => Err(CaseFault::NoMemory),
