@@ -1,15 +1,16 @@
 -- What the leads of the rules tell of the steps that dissent.
-use Rattle.std.proofs.Common.{◌≡◌, ◌≢◌, ◌⊎◌, ◌<◌, ◌≤◌, ◌+◌, ◌∙◌, ℕ, List, length, get_or, set, sym, refl}
+use Rattle.std.proofs.Common.{◌≡◌, ◌≢◌, ◌⊎◌, ◌<◌, ◌≤◌, ◌+◌, ◌∙◌, ℕ, List, length, get_or, set, sym, refl, ap}
 use Rattle.std.proofs.Common.{subst, eqb, eqb-true, inl, inr, arith}
 use Rattle.std.specs.Prelude.{IsSome, MatchOption, Option, Some, None}
 use Rattle.std.proofs.lemmas.Bool.{cases_Bool, eqb-false}
 use Rattle.std.proofs.lemmas.List.{get_or-set_other, get_or-set_same}
 use Rattle.fix_model.specs.declared.kit.Kit.{Kit}
+use Rattle.fix_model.specs.declared.rule.Rule.{Rule}
 use Rattle.fix_model.specs.declared.state.State.{State}
 use Rattle.fix_model.specs.declared.state.Step.{Step}
 use Rattle.fix_model.specs.Application.{IsEnabled, RowAgrees}
 use Rattle.fix_model.specs.Fix.{Dissents, IsLeastDissent}
-use Rattle.fix_model.specs.Hit.{IsOtherRow}
+use Rattle.fix_model.specs.Hit.{IsOtherRow, SharesLook}
 use Rattle.fix_model.specs.Order.{IsBefore}
 use Rattle.fix_model.specs.Rules.{rule_at, from_text}
 use Rattle.fix_model.specs.Run.{IsFinal}
@@ -29,6 +30,36 @@ each-set P items count item d within each new place below = elim (cases_Bool (eq
       let apart = eqb-false place count other in
       rw (get_or-set_other items count place item d apart) (each place (omega arith))
 ]
+
+-- rules with the same look and the same head are the same
+same_rule : (one other : Rule) → one.keys ≡ other.keys → one.head ≡ other.head → one.from ≡ other.from
+    → one.master ≡ other.master → one.conds ≡ other.conds → one ≡ other
+same_rule one other keys head from master conds =
+    ap (λ it. record one { keys = it }) keys
+    ∙ ap (λ it. record one { keys = other.keys; head = it }) head
+    ∙ ap (λ it. record one { keys = other.keys; head = other.head; from = it }) from
+    ∙ ap (λ it. record other { master = it; conds = one.conds }) master
+    ∙ ap (λ it. record other { conds = it }) conds
+
+-- what a rule does, an equal one does
+IsLead-equal : (kit : Kit) (end : State) (place other : ℕ) (lead : Lead) → rule_at kit other ≡ rule_at kit place
+    → IsLead kit end other lead → IsLead kit end place lead
+IsLead-equal kit end place other Nothing same nothing = rw same at nothing
+IsLead-equal kit end place other (Keeps hit) same keeps = (
+  record { enabled = rw same at keeps.0.enabled; found = rw same at keeps.0.found },
+  rw same at keeps.1,
+)
+IsLead-equal kit end place other (Leaves hit) same leaves = (
+  record { enabled = rw same at leaves.0.enabled; found = rw same at leaves.0.found },
+  rw same at leaves.1,
+)
+
+-- what a rule does, another does that shares its look and has its head
+pub IsLead-shared : (kit : Kit) (end : State) (place earlier : ℕ) (lead : Lead) → SharesLook kit place earlier
+    → (rule_at kit earlier).head ≡ (rule_at kit place).head → IsLead kit end earlier lead → IsLead kit end place lead
+IsLead-shared kit end place earlier lead shares head =
+    IsLead-equal kit end place earlier lead (same_rule (rule_at kit earlier) (rule_at kit place) (sym shares.keys) head
+    (sym shares.from) (sym shares.master) (sym shares.conds))
 
 module _ (kit : Kit) (end : State) (place row : ℕ) where
   -- the other row that was found

@@ -216,7 +216,8 @@ fn goes_on(flags: &[bool], rule: &Rule, left_out: u16) -> bool
     rule.head != left_out && !is_flagged(flags, rule.head) && has_flags(flags, rule)
 }
 
-fn head_of<L, B: Book<L>>(book: &B, rule: u16) -> u16
+/// The head of a rule, counted from 0.
+pub(crate) fn head_of<L, B: Book<L>>(book: &B, rule: u16) -> u16
     requires { rule < length (B.kit book.now).rules }
     ensures { result ≡ (rule_at (B.kit book.now) rule).head }
 {

@@ -76,11 +76,27 @@ pub fn has_flag(flags: &[bool]) -> bool
     false
 }
 
-/// Whether another attribute than this one is flagged.
-pub fn has_other(flags: &[bool], attribute: u16) -> bool
+/// The last place that is flagged, counted from 0, or 0 where none is.
+pub fn last_flagged(flags: &[bool]) -> usize
+    ensures { (place : ℕ) → IsFlagged flags.now place → (place ≤ result) × IsFlagged flags.now result }
+{
+    let mut last = 0;
+    'flags: for (place, flag) in flags.iter().enumerate() {
+        if *flag {
+            last = place;
+        }
+    }
+    last
+}
+
+/// Whether another attribute than this one is flagged. A likely one is tried first.
+pub fn has_other(flags: &[bool], attribute: u16, likely: usize) -> bool
     ensures { MatchBool result ((other : ℕ) × IsFlagged flags.now other × (other ≢ attribute))
         ((other : ℕ) → IsFlagged flags.now other → other ≡ attribute) }
 {
+    if likely < flags.len() && flags[likely] && likely != usize::from(attribute) {
+        return true;
+    }
     'flags: for (place, flag) in flags.iter().enumerate() {
         if *flag && place != usize::from(attribute) {
             return true;

@@ -1,5 +1,5 @@
 //! What the rules do at the end of the first run.
-ghost use Rattle.std.specs.Prelude.{◌≡◌, ◌<◌, ◌≤◌, ◌↔◌, length, IsTrue, IfOk, slice_index_or, vec_capacity};
+ghost use Rattle.std.specs.Prelude.{◌≡◌, ◌<◌, ◌≤◌, ◌↔◌, ℕ, length, IsTrue, IfOk, slice_index_or, vec_capacity};
 ghost use Rattle.fix_model.specs.Rules.{IsStepOf};
 ghost use Rattle.fix_model.specs.Run.{IsFinal};
 ghost use Rattle.fix_model.specs.States.{Fits};
@@ -7,6 +7,7 @@ ghost use Rattle.fix_engine.specs.Departures.{Keeps};
 ghost use Rattle.fix_engine.specs.Leads.{AreLeads, IsLead, TellsDissent, is_keeping, leaving_row};
 ghost use Rattle.fix_engine.specs.Looks.{Knows, LooksAround};
 
+use crate::departing::head_of;
 use crate::looks::Looks;
 use desk_base::{MAX_RULES, Steps};
 use fix_model::{Book, Hit, State, Step, enabled, value};
@@ -79,9 +80,33 @@ impl Leads {
     {
         self.leads.clear();
         'rules: for rule in 0..book.rules().len() as u16 {
-            let lead = looks.lead_of(book, state, rule, counts);
+            let lead = self.next_lead(looks, book, state, rule, counts);
             self.leads.push(lead).unwrap();
         }
+    }
+
+    /// What the next rule does: the same as an earlier one with its look and its head, where it has one.
+    fn next_lead<L, B: Book<L>>(
+        &self,
+        looks: &mut Looks,
+        book: &B,
+        state: &State,
+        rule: u16,
+        counts: &mut Steps<L>,
+    ) -> Lead
+        requires rule_within { rule < length (B.kit book.now).rules }
+        requires knows { Knows (B.kit book.now) state.now looks.old }
+        requires ended { IsFinal (B.kit book.now) state.now }
+        requires before { (place : ℕ) → place < rule
+            → IsLead (B.kit book.now) state.now place (slice_index_or self.now.leads.items place Lead.Nothing) }
+        ensures lead { IsLead (B.kit book.now) state.now rule result }
+        ensures looks { LooksAround (B.kit book.now) state.now looks.old looks.new counts.old counts.new }
+    {
+        let earlier = book.earliest(rule);
+        if earlier < rule && head_of(book, earlier) == head_of(book, rule) {
+            return self.lead(earlier);
+        }
+        looks.lead_of(book, state, rule, counts)
     }
 
     /// What a rule does, nothing past the last rule.

@@ -7,7 +7,7 @@ ghost use Rattle.fix_engine.specs.Departures.{AreDepartures, IsLedTo};
 ghost use Rattle.fix_engine.specs.Turns.{ArePassedBefore, BeginsElsewhere, CanDepartSomewhere, IsLeastOf, IsLeastOfAll};
 ghost use Rattle.fix_engine.specs.Turns.{IsLeftFrom, IsPassed, IsTurn};
 
-use crate::flags::has_other;
+use crate::flags::{has_other, last_flagged};
 use crate::leads::{Lead, Leads};
 use crate::runs::make;
 use crate::waking::woken;
@@ -63,8 +63,9 @@ impl Leads {
         ensures room { length run.new.items + uncovered_count state.new ≤ vec_capacity run.new }
         ensures capacity { vec_capacity run.old ≤ vec_capacity run.new }
     {
+        let likely = last_flagged(departures);
         let mut from = 0;
-        'turns: while let Some(turn) = self.next_turn(from, departures, book, state) {
+        'turns: while let Some(turn) = self.next_turn(from, departures, likely, book, state) {
             make::<L, B>(book, state, turn.step);
             run.push(turn.step).unwrap();
             if turn.departs {
@@ -77,11 +78,12 @@ impl Leads {
     }
 
     /// The next step of the second run, or none where no run ends in another record. None that does begins with a rule
-    /// before the first one.
+    /// before the first one. An attribute at which a run is likely to depart makes it faster, and changes nothing.
     fn next_turn<L, B: Book<L>>(
         &self,
         from: u16,
         departures: &[bool],
+        likely: usize,
         book: &B,
         state: &State,
     ) -> Option<Turn>
@@ -95,7 +97,7 @@ impl Leads {
     {
         let count = book.rules().len() as u16;
         'rules: for rule in from..count {
-            if let Some(turn) = self.turn_of(departures, book, state, rule) {
+            if let Some(turn) = self.turn_of(departures, likely, book, state, rule) {
                 return Some(turn);
             }
         }
@@ -106,6 +108,7 @@ impl Leads {
     fn turn_of<L, B: Book<L>>(
         &self,
         departures: &[bool],
+        likely: usize,
         book: &B,
         state: &State,
         rule: u16,
@@ -126,7 +129,7 @@ impl Leads {
             Lead::Nothing => None,
             Lead::Leaves(hit) => Some(Turn::departing(rule, hit.first)),
             Lead::Keeps(hit) => {
-                if has_other(departures, this.head) {
+                if has_other(departures, this.head, likely) {
                     return Some(Turn::keeping(rule, hit.first));
                 }
                 match hit.other {

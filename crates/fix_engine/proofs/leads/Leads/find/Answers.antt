@@ -11,15 +11,15 @@ pub rules-preserved : goal.rules-preserved
 rules-preserved g c =
     let before = c.rules.invariant in
     let leads = c.rules.self.leads.items in
-    let lead : Lead = c.lead_of-lead.result in
+    let lead : Lead = c.next_lead-lead.result in
     let pushed : c.push.new.self.items ≡ leads ++ lead ∷ [] = rw c.unwrap.ensures at c.push.ensures.items in
     rw pushed (record {
       whole = omega (arith, length_push leads lead, before.whole);
       each = each-push (IsLead (g.B.Book.kit c.args.book.now) c.args.state.now) leads c.rules.rule lead Nothing
-          before.whole before.each c.lead_of-lead.ensures.lead;
+          before.whole before.each c.next_lead-lead.ensures.lead;
       looks = LooksAround-then (g.B.Book.kit c.args.book.now) c.args.state.now c.args.state.now c.args.looks.now
-          c.rules.looks c.lead_of-lead.new.self c.args.counts.now c.rules.counts c.lead_of-lead.new.counts
-          before.looks c.lead_of-lead.ensures.looks;
+          c.rules.looks c.next_lead-lead.new.looks c.args.counts.now c.rules.counts c.next_lead-lead.new.counts
+          before.looks c.next_lead-lead.ensures.looks;
       room = omega (arith, before.room, c.push.ensures.capacity);
     })
 
