@@ -52,7 +52,7 @@ impl State {
         ensures cells { IfOk result (λ state. state.cells ≡ map confirmed_cell confirmed.now) }
         ensures fits { IfOk result (λ state. (kit : Kit) → length typed ≡ kit.width → Fits kit state) }
     {
-        let mut cells = List::new(alloc);
+        let mut cells = Vec::with_capacity(alloc, confirmed.len())?;
         'flags: for flag in confirmed {
             let cell = if *flag {
                 Cell::Confirmed
@@ -61,7 +61,10 @@ impl State {
             };
             cells.push(cell)?;
         }
-        Ok(State { typed, cells })
+        Ok(State {
+            typed,
+            cells: List::from_vec(cells),
+        })
     }
 }
 
