@@ -1,67 +1,13 @@
-"""The methods that are compared: each takes records as they were typed, and gives them back cleaned."""
+"""The two methods that fixdesk_clean is compared with: each takes typed records, and gives them back cleaned."""
 
 from __future__ import annotations
 
-import shutil
 import sqlite3
-import subprocess
 from collections import Counter, defaultdict
 from contextlib import closing
-from dataclasses import dataclass
-from pathlib import Path
 
 from registries import Registry
 from sheets import Row, Sheet
-
-_VERDICT = "verdict"
-
-
-class ProgramFailed(Exception):
-    """fixdesk_clean ended with another status than 0."""
-
-
-@dataclass(frozen=True)
-class Cleaned:
-    """What fixdesk_clean wrote: the records, the verdict on each, and the sheets of changes and of conflicts."""
-
-    records: Sheet
-    verdicts: list[str]
-    changes: Sheet
-    conflicts: Sheet
-
-
-def version(program: Path) -> str:
-    """The line by which fixdesk_clean names itself."""
-    return subprocess.run([program, "--version"], check=True, capture_output=True, text=True).stdout.strip()
-
-
-def by_fixdesk(program: Path, registry: Registry, dirty: Sheet, folder: Path) -> Cleaned:
-    """Runs fixdesk_clean in the folder, where all files that it reads and writes stay."""
-    shutil.copy(registry.schema, folder)
-    shutil.copy(registry.rules, folder)
-    for name, master in registry.masters.items():
-        master.write(folder / f"{name}.csv")
-    dirty.write(folder / "dirty.csv")
-    words = [str(program), "--known", ",".join(registry.known), "--verdict", _VERDICT, "--changes", "changes.csv"]
-    if registry.folded:
-        words += ["--folded", ",".join(registry.folded)]
-    words += [registry.schema.name, registry.rules.name, *(f"{name}={name}.csv" for name in registry.masters)]
-    with (folder / "dirty.csv").open("rb") as typed, (folder / "clean.csv").open("wb") as clean:
-        run = subprocess.run(words, cwd=folder, stdin=typed, stdout=clean, stderr=subprocess.PIPE, text=True)
-    if run.returncode:
-        raise ProgramFailed(f"{' '.join(words)} ended with status {run.returncode}: {run.stderr.strip()}")
-    return _written(folder)
-
-
-def _written(folder: Path) -> Cleaned:
-    """What fixdesk_clean wrote in the folder."""
-    clean = Sheet.read(folder / "clean.csv")
-    return Cleaned(
-        records=Sheet(clean.columns[:-1], [row[:-1] for row in clean.rows]),
-        verdicts=[row[-1] for row in clean.rows],
-        changes=Sheet.read(folder / "changes.csv"),
-        conflicts=Sheet.read(folder / "changes.csv.conflicts"),
-    )
 
 
 def by_join(registry: Registry, dirty: Sheet) -> Sheet:

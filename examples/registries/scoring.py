@@ -8,8 +8,8 @@ from dataclasses import dataclass
 from enum import Enum
 from functools import cached_property
 
-from cleaning import Cleaned
 from registries import Registry
+from running import Cleaned
 from sheets import Sheet
 
 Change = tuple[str, str, str, str]

@@ -24,11 +24,16 @@ class Sheet:
         return cls(columns, [tuple(record.get(column, "") for column in columns) for record in records])
 
     @classmethod
+    def parse(cls, text: Iterable[str]) -> Sheet:
+        """The sheet in the lines of a CSV text that has a header."""
+        lines = csv.reader(text)
+        return cls(tuple(next(lines)), [tuple(line) for line in lines])
+
+    @classmethod
     def read(cls, path: Path) -> Sheet:
         """The sheet in a CSV file that has a header."""
         with path.open(encoding="utf-8", newline="") as file:
-            lines = csv.reader(file)
-            return cls(tuple(next(lines)), [tuple(line) for line in lines])
+            return cls.parse(file)
 
     def write(self, path: Path) -> None:
         """Writes the sheet to a CSV file that has a header."""
