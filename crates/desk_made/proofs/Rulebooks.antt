@@ -1,7 +1,7 @@
 -- The rulebook `b` is a rulebook over the schema `big`.
 use Rattle.std.proofs.Common.{◌≡◌, ◌≢◌, ℕ, suc, ◌+◌, ◌%◌, ◌<◌, ◌≤◌, List, [], ◌∷◌, ◌++◌, length, length-append}
-use Rattle.std.proofs.Common.{get_or, refl, arith}
-use Rattle.std.specs.Prelude.{All, AllPairs, IsTrue}
+use Rattle.std.proofs.Common.{false, get_or, refl, arith}
+use Rattle.std.specs.Prelude.{All, AllPairs, IsTrue, codes}
 use Rattle.std.specs.Fmt.{decimal}
 use Rattle.std.specs.List.{list_all}
 use Rattle.std.specs.Str.{bytes_eq}
@@ -17,6 +17,7 @@ use Rattle.desk_base.proofs.Utf8.{bytes_eq-apart}
 use Rattle.desk_base.specs.Words.{is_word}
 use Rattle.rule_text.specs.declared.rulebook.RuleLine.{RuleLine}
 use Rattle.rule_text.specs.Rulebooks.{AreNamedApart, ArePairs, IsLine, IsPlain, IsRulebook, is_plain}
+use Rattle.rule_text.proofs.Held.{IsPattern-constant_of}
 use Rattle.desk_made.specs.Rulebook.{dissenting, leading, leading_lines, rule_name, rulebook}
 use Rattle.desk_made.specs.Schema.{big}
 use Rattle.desk_made.proofs.Numbers.{are_word_bytes-decimal, is_word-letter, length-decimal}
@@ -73,7 +74,14 @@ IsLine-dissenting = record {
   from = IsPlain-pair 99 51 refl (omega arith) (omega arith);
   conds = record {
     fits = omega arith;
-    good = ((rw length-big (omega arith), IsPlain-pair 111 110 refl (omega arith) (omega arith)), tt);
+    good = (
+      (
+        rw length-big (omega arith),
+        IsPattern-constant_of false (codes "on")
+            (IsPlain-pair 111 110 refl (omega arith) (omega arith)),
+      ),
+      tt,
+    );
     distinct = (refl, tt);
   };
   no_cond = refl;

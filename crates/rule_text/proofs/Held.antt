@@ -353,7 +353,7 @@ module _ (schema : Schema) (place : Place) (draft after : Draft) where
       })
 
 -- a plain constant is a pattern of a rulebook
-IsPattern-constant_of : (negated : Bool) (constant : List ℕ) → IsPlain constant → IsPattern (constant_of negated constant)
+pub IsPattern-constant_of : (negated : Bool) (constant : List ℕ) → IsPlain constant → IsPattern (constant_of negated constant)
 IsPattern-constant_of true constant plain = record { sized = λ set. absurd cc; plain = (plain, tt) }
 IsPattern-constant_of false constant plain = record { sized = λ set. absurd cc; plain = (plain, tt) }
 
