@@ -30,6 +30,14 @@ get_or-replicate_self item zero place = refl
 get_or-replicate_self item (suc count) zero = refl
 get_or-replicate_self item (suc count) (suc place) = get_or-replicate_self item count place
 
+-- a list whose items are all one repeats it
+pub replicate-each : {A : Type 0} (item : A) (items : List A)
+    → ((place : ℕ) → place < length items → get_or items place item ≡ item) → items ≡ replicate (length items) item
+replicate-each item [] each = refl
+replicate-each item (first ∷ others) each =
+    rw (each 0 (omega arith)) (ap (λ rest. item ∷ rest)
+    (replicate-each item others (λ place within. each (suc place) (omega arith))))
+
 -- all of them are pending
 pub pending_count-replicate : (count : ℕ) → pending_count (replicate count Pending) ≡ count
 pending_count-replicate zero = refl

@@ -34,16 +34,20 @@ impl Looks {
         })
     }
 
-    /// Remembers no look, for as many rules.
+    /// Remembers no look, for as many rules. It writes only where a look is remembered.
     pub(crate) fn forget(&mut self, rules: &[Rule])
         requires { length rules.now ≤ vec_capacity self.old.remembered }
         ensures forgotten { self.new.remembered.items ≡ replicate (length rules.now) Remembered.Pending }
         ensures room { vec_capacity self.old.remembered ≤ vec_capacity self.new.remembered }
     {
-        self.remembered.clear();
         self.remembered
             .resize(rules.len(), Remembered::Pending)
             .unwrap();
+        'places: for place in 0..self.remembered.len() {
+            if let Remembered::Done(_) = self.remembered[place] {
+                self.remembered[place] = Remembered::Pending;
+            }
+        }
     }
 
     /// What a look for the rule finds. It is made where it was not made yet, for this rule or another that shares it,
