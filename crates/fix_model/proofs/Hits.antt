@@ -1,7 +1,7 @@
 -- Rows that agree where all keys are covered.
-use Rattle.std.proofs.Common.{◌≡◌, ◌<◌, ◌≤◌, ℕ, inl, inr, leb, leb-true, leb-false, Bool, true, false, refl}
+use Rattle.std.proofs.Common.{◌≡◌, ◌<◌, ◌≤◌, ℕ, inl, inr, leb, leb-true, leb-false, refl}
 use Rattle.std.proofs.lemmas.Bool.{cases_Bool}
-use Rattle.std.specs.Prelude.{◌↔◌, All, MatchBool, MatchOption, IsTrue, List, Option, Some, None, is_some}
+use Rattle.std.specs.Prelude.{◌↔◌, All, MatchOption, IsTrue, List, Option, Some, None, is_some}
 use Rattle.fix_model.specs.declared.rule.Rule.{Rule}
 use Rattle.fix_model.specs.declared.state.State.{State}
 use Rattle.fix_model.specs.declared.book.Hit.{Hit}
@@ -21,12 +21,6 @@ least_from_none_below P row none other there = elim (cases_Bool (leb row other))
   | inl within ↦ leb-true row other within
   | inr below ↦ absurd (none other (leb-false row other below) there)
 ]
-
--- of two facts of which the second fails, a test of the first tells both
-pub tells_both : (test : Bool) (P same : Type 0) → (test ≡ true → P) → (P → test ≡ true) → ¬ same
-    → MatchBool test (P × ¬ same) (P → same)
-tells_both true P same told back other = (told refl, other)
-tells_both false P same told back other = λ p. absurd (let e = back p in cc)
 
 -- what holds in each of two cases changes case by case
 pub match_option : {A : Type 0} {P R : Type 0} (Q S : A → Type 0) (found : Option A) → (P → R)

@@ -103,11 +103,11 @@ impl<'a> Sought<'a> {
             (Meets master.now rule.now self.now row
             → cell_text master.now row rule.now.from ≡ cell_text master.now first rule.now.from) }
     {
-        let text = master.cell(row, rule.from).as_str();
-        if text == master.cell(first, rule.from).as_str() {
+        if !self.agrees(master, rule, row) {
             return false;
         }
-        self.agrees(master, rule, row)
+        let text = master.cell(row, rule.from).as_str();
+        text != master.cell(first, rule.from).as_str()
     }
 
     fn is_alike(&self, master: &Grid, row: u32) -> bool
