@@ -7,6 +7,7 @@ pub mod Roomy
 pub mod Memory
 pub mod Places
 pub mod Plans
+pub mod Shared
 pub mod Sinks
 pub mod Texts
 pub mod Words

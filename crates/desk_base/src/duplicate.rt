@@ -59,7 +59,7 @@ impl<A: Duplicate + Drop, B: Duplicate> Duplicate for (A, B) {
 pub fn copies<T: Duplicate + Drop>(alloc: Global, items: &[T]) -> Result<Vec<T>, NoMemory>
     ensures copied { IfOk result (λ made. made.items ≡ items.now) }
 {
-    let mut made = Vec::new(alloc);
+    let mut made = Vec::with_capacity(alloc, items.len())?;
     'items: for item in items {
         made.push(item.copy()?)?;
     }

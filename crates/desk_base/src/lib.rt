@@ -1,7 +1,7 @@
 //! What every crate of the desk stands on: cells and lists that never abort for want of memory, a
 //! grid of master data, counted steps, and the streams that a program reads and writes.
 //!
-//! A clause sees a `Text` as its bytes, a `List` as its items, a `Room` as its items and the places
+//! A clause sees a `Text` as its bytes, a `List` or a `Shared` list as its items, a `Room` as its items and the places
 //! that are reserved after them, a `Grid` as its rows of cells, and a `Source` or a `Sink` as the
 //! bytes that it has left or holds, with a count of its faults. `specs/` says what the words mean.
 #![tactic(auto)]
@@ -16,6 +16,7 @@ mod list;
 mod memory;
 mod places;
 mod room;
+mod shared;
 mod sink;
 mod source;
 mod steps;
@@ -39,6 +40,7 @@ pub use list::List;
 pub use memory::{CallPlan, MemLink, MemSink, MemSource};
 pub use places::{are_apart, are_distinct, flags_of, has_text, is_utf8, place_of};
 pub use room::Room;
+pub use shared::Shared;
 pub use sink::{Sink, StdSink, write_all};
 pub use source::{Source, StdSource};
 pub use steps::Steps;

@@ -52,7 +52,7 @@ pub fn flags_of(alloc: Global, count: u16, places: &[u16]) -> Result<List<bool>,
     ensures flags { IfOk result (λ flags. flags ≡ flags_of count places.now) }
     ensures full { IfOk result (λ flags. length flags ≡ count) }
 {
-    let mut flags = List::new(alloc);
+    let mut flags = List::with_capacity(alloc, usize::from(count))?;
     'places: for place in 0..count {
         flags.push(is_listed(places, place))?;
     }

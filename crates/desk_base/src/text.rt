@@ -7,23 +7,34 @@ use crate::error::NoMemory;
 use crate::limits::MAX_TEXT;
 use std::alloc::Global;
 use std::marker::Model;
+use std::rc::RcStr;
 use thiserror::Error;
 
-/// The text of one cell. The empty text is a blank.
-#[derive(Debug, Drop)]
+/// The text of one cell. The empty text is a blank. A copy shares its bytes, so it costs the same for any length.
+#[derive(Debug)]
 pub struct Text {
-    content: String,
+    /// The bytes, or none for a blank.
+    content: Option<RcStr>,
 }
 
 impl Model for Text {
-    ghost use Rattle.std.specs.Prelude.{ℕ, List, ◌≤◌, length, string_bytes};
-    ghost use Rattle.desk_base.specs.declared.limits.TheConstants.{MAX_TEXT};
+    ghost use Rattle.std.specs.Prelude.{ℕ, List, option_map};
+    ghost use Rattle.std.specs.Rc.{rc_str_bytes};
+    ghost use Rattle.desk_base.specs.Shared.{IsShared, shared_bytes};
 
     ghost Value = { List ℕ };
 
-    ghost view = { λ t. string_bytes t.content };
+    ghost view = { λ t. shared_bytes (option_map rc_str_bytes t.content) };
 
-    ghost invariant = { λ t. length (string_bytes t.content) ≤ MAX_TEXT };
+    ghost invariant = { λ t. IsShared (option_map rc_str_bytes t.content) };
+}
+
+/// One call lets a text go, whatever owned it (`docs/gate.md`).
+impl Drop for Text {
+    fn drop(self) {
+        let Text { content } = self;
+        drop(content);
+    }
 }
 
 /// Why some bytes are no text of a cell.
@@ -73,8 +84,13 @@ impl Text {
         requires { length text.now ≤ MAX_TEXT }
         ensures { IfOk result (λ made. made ≡ text.now) }
     {
-        let content = String::from_str(alloc, text)?;
-        Ok(Text { content })
+        if text.is_empty() {
+            return Ok(Text { content: None });
+        }
+        let content = RcStr::from_str(alloc, text)?;
+        Ok(Text {
+            content: Some(content),
+        })
     }
 
     /// The text as Rust's, of at most 200 bytes.
@@ -83,20 +99,26 @@ impl Text {
         ensures fits { length self.now ≤ MAX_TEXT }
         ensures utf8 { IsUtf8 self.now }
     {
-        self.content.as_str()
+        match &self.content {
+            Some(content) => content.as_str(),
+            None => "",
+        }
     }
 
     /// Whether this is the empty text.
     pub fn is_blank(&self) -> bool
         ensures { IsTrue result ↔ (self.now ≡ []) }
     {
-        self.content.is_empty()
+        self.content.is_none()
     }
 }
 
 impl Duplicate for Text {
     fn copy(&self) -> Result<Text, NoMemory> {
-        let content = self.content.clone()?;
+        let content = match &self.content {
+            Some(content) => Some(content.clone()?),
+            None => None,
+        };
         Ok(Text { content })
     }
 }
