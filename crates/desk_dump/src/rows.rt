@@ -126,8 +126,8 @@ impl DumpRow for SessionRow {
 
     fn write_fields(&self, out: &mut JsonText) -> Result<(), AllocError> {
         self.edition.show(out)?;
-        self.typed.show(out)?;
-        self.confirmed.show(out)?;
+        show_all(out, self.typed.as_slice())?;
+        show_all(out, self.confirmed.as_slice())?;
         self.stage.show(out)?;
         self.batch.show(out)
     }

@@ -7,7 +7,7 @@ ghost use Rattle.desk_packing.specs.RowFormats.{region_format, rulebook, schema,
 use crate::error::{FieldFault, UnpackFault};
 use crate::packs::Packs;
 use crate::texts::{pack_bytes, unpack_bytes};
-use desk_base::{List, Text};
+use desk_base::{List, Shared, Text};
 use desk_words::{
     Act, BatchRow, ClerkRow, Digest, EditionRow, MasterRow, RecordRow, RegionRow, RulebookRow,
     SchemaRow, SessionRow, Stage,
@@ -204,8 +204,8 @@ impl Packs for SessionRow {
 
     fn unpack(alloc: Global, bytes: &[u8]) -> Result<(SessionRow, &[u8]), UnpackFault> {
         let (edition, rest) = u32::unpack(alloc, bytes)?;
-        let (typed, rest) = List::<Text>::unpack(alloc, rest)?;
-        let (confirmed, rest) = List::<bool>::unpack(alloc, rest)?;
+        let (typed, rest) = Shared::<Text>::unpack(alloc, rest)?;
+        let (confirmed, rest) = Shared::<bool>::unpack(alloc, rest)?;
         let (stage, rest) = Stage::unpack(alloc, rest)?;
         let (batch, rest) = u32::unpack(alloc, rest)?;
         let row = SessionRow {

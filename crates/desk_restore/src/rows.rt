@@ -5,7 +5,7 @@ ghost use Rattle.desk_restore.specs.Reading.{batch_in, clerk_in, edition_in, mas
 ghost use Rattle.desk_restore.specs.Reading.{rulebook_in, schema_in, session_in};
 
 use crate::parts::{InDump, body};
-use desk_base::{List, Text};
+use desk_base::{List, Shared, Text};
 use desk_words::{
     Act, BatchRow, Change, ClerkRow, Digest, EditionRow, MasterRow, RecordRow, RegionRow,
     RulebookRow, SchemaRow, SessionRow, Stage,
@@ -156,8 +156,8 @@ pub fn session(alloc: Global, values: &[Value]) -> Result<Change, PartFault>
         place,
         SessionRow {
             edition,
-            typed,
-            confirmed,
+            typed: Shared::of(typed)?,
+            confirmed: Shared::of(confirmed)?,
             stage,
             batch,
         },

@@ -4,7 +4,7 @@ ghost use Rattle.fix_model.specs.declared.kit.Kit.{Kit as KitOf};
 ghost use Rattle.fix_model.specs.States.{Fits};
 ghost use Rattle.machine_core.specs.Answers.{state_of};
 
-use desk_base::{Duplicate, NoMemory};
+use desk_base::NoMemory;
 use desk_words::SessionRow;
 use fix_model::State;
 use std::alloc::Global;
@@ -15,5 +15,6 @@ pub fn state_of(alloc: Global, session: &SessionRow) -> Result<State, NoMemory>
     ensures state { IfOk result (λ state. state ≡ state_of session.now) }
     ensures fits { IfOk result (λ state. (kit : KitOf) → length session.now.typed ≡ kit.width → Fits kit state) }
 {
-    State::new(alloc, session.typed.copy()?, session.confirmed.as_slice())
+    let typed = session.typed.to_list(alloc)?;
+    State::new(alloc, typed, session.confirmed.as_slice())
 }

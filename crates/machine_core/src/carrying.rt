@@ -14,7 +14,7 @@ use crate::own::Own;
 use crate::sessions::active_session;
 use crate::stop::Stop;
 use crate::words::words_of;
-use desk_base::NoMemory;
+use desk_base::{NoMemory, Shared};
 use desk_carry::moved;
 use desk_words::{Kind, Refusal, SessionRow, Tables};
 use std::alloc::Global;
@@ -72,8 +72,8 @@ fn carried_to(
     )?;
     Ok(SessionRow {
         edition,
-        typed: moved.typed,
-        confirmed: moved.confirmed,
+        typed: Shared::of(moved.typed)?,
+        confirmed: Shared::of(moved.confirmed)?,
         stage: session.stage,
         batch: session.batch,
     })

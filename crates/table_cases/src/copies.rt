@@ -137,7 +137,7 @@ fn try_all_sessions(alloc: Global, lists: &[Room<SessionRow>]) -> Result<(), Fai
 fn try_sessions(alloc: Global, rows: &[SessionRow]) -> Result<(), Fail> {
     for row in rows {
         try_copy(alloc, Change::Session(1, 2, row.copy()?))?;
-        try_copy(alloc, state(alloc, row.typed.copy()?, row)?)?;
+        try_copy(alloc, state(alloc, row.typed.to_list(alloc)?, row)?)?;
     }
     Ok(())
 }

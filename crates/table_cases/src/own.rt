@@ -1,6 +1,6 @@
 //! The rows of the clerks' own lists. The first field is the clerk, counted from 0.
 use crate::fields::{field, flags, number, stage, texts};
-use desk_base::{NoMemory, Room};
+use desk_base::{NoMemory, Room, Shared};
 use desk_words::{BatchRow, RecordRow, SessionRow, Tables};
 use std::alloc::Global;
 use std::test::Fail;
@@ -37,8 +37,8 @@ fn session(alloc: Global, line: &str) -> Result<SessionRow, Fail> {
     let confirmed = flags(alloc, confirmed)?;
     Ok(SessionRow {
         edition,
-        typed,
-        confirmed,
+        typed: Shared::of(typed)?,
+        confirmed: Shared::of(confirmed)?,
         stage,
         batch,
     })

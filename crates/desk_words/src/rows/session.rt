@@ -2,7 +2,7 @@
 ghost use Rattle.std.specs.Prelude.{◌≡◌};
 ghost use Rattle.desk_words.specs.Words.{stage_word};
 
-use desk_base::{Duplicate, List, NoMemory, Text};
+use desk_base::{Duplicate, NoMemory, Shared, Text};
 
 /// How far a session has come.
 #[derive(Clone, Copy, Debug, PartialEq, Eq)]
@@ -25,15 +25,15 @@ impl Stage {
     }
 }
 
-/// A record that a clerk keys over an edition.
+/// A record that a clerk keys over an edition. A copy shares texts and flags.
 #[derive(Debug, Drop)]
 pub struct SessionRow {
     /// The place of the edition that the session is pinned to.
     pub edition: u32,
     /// The typed text of each attribute.
-    pub typed: List<Text>,
+    pub typed: Shared<Text>,
     /// For each attribute whether the clerk vouches for the typed text.
-    pub confirmed: List<bool>,
+    pub confirmed: Shared<bool>,
     pub stage: Stage,
     /// The number of the batch that made the session, counted from 1, or 0.
     pub batch: u32,

@@ -11,7 +11,7 @@ ghost use Rattle.machine_core.specs.Shelves.{AreHeld};
 use crate::clerk::bytes::{bytes_in, within_replaced};
 use crate::clerk::enter::type_over;
 use crate::clerk::opening::open_session;
-use desk_base::{Duplicate, List, NoMemory, Str, Text};
+use desk_base::{List, NoMemory, Shared, Str, Text};
 use desk_words::{Act, SessionRow, Tables};
 use machine_core::{Deed, Own, Stop, shelved, typed_cells};
 use master_index::Shelf;
@@ -60,19 +60,30 @@ pub fn confirm_row(
     let session = open_session(alloc, tables, shelf, own, number)?;
     let attributes = shelved(shelf, session.edition).names.attributes.as_slice();
     let texts = typed_cells(alloc, attributes, cells)?;
-    Ok(with_cells(session, texts)?)
+    Ok(with_cells(alloc, session, texts)?)
 }
 
 /// The session with these cells typed and confirmed.
-fn with_cells(session: &SessionRow, cells: List<(usize, Text)>) -> Result<SessionRow, NoMemory>
+fn with_cells(
+    alloc: Global,
+    session: &SessionRow,
+    cells: List<(usize, Text)>,
+) -> Result<SessionRow, NoMemory>
     requires typed { All (λ cell. cell.0 < length session.now.typed) cells }
     requires confirmed { All (λ cell. cell.0 < length session.now.confirmed) cells }
     ensures { IfOk result (λ after. after ≡ with_cells session.now cells) }
 {
-    let mut after = session.copy()?;
-    confirm_at(&mut after.confirmed, cells.as_slice());
-    type_over(&mut after.typed, cells);
-    Ok(after)
+    let mut typed = session.typed.to_list(alloc)?;
+    let mut confirmed = session.confirmed.to_list(alloc)?;
+    confirm_at(&mut confirmed, cells.as_slice());
+    type_over(&mut typed, cells);
+    Ok(SessionRow {
+        edition: session.edition,
+        typed: Shared::of(typed)?,
+        confirmed: Shared::of(confirmed)?,
+        stage: session.stage,
+        batch: session.batch,
+    })
 }
 
 /// Sets the flags at the places of these cells.

@@ -9,7 +9,7 @@ ghost use Rattle.machine_core.specs.Shelves.{AreHeld};
 
 use crate::clerk::bytes::{bytes_in, within_bytes};
 use crate::clerk::opening::open_edition;
-use desk_base::{List, NoMemory, Str, Text, flags_of};
+use desk_base::{List, NoMemory, Shared, Str, Text, flags_of};
 use desk_words::{Act, SessionRow, Stage, Tables, Which};
 use machine_core::{Deed, Own, Stop, attributes_of, shelved, typed_cells, within};
 use master_index::Shelf;
@@ -84,8 +84,8 @@ pub(crate) fn new_session(
     let confirmed = flags_of(alloc, width, confirmed)?;
     Ok(SessionRow {
         edition,
-        typed,
-        confirmed,
+        typed: Shared::of(typed)?,
+        confirmed: Shared::of(confirmed)?,
         stage: Stage::Active,
         batch,
     })
@@ -95,7 +95,7 @@ pub(crate) fn new_session(
 fn blanks(alloc: Global, count: u16) -> Result<List<Text>, NoMemory>
     ensures { IfOk result (λ texts. texts ≡ replicate count []) }
 {
-    let mut texts = List::new(alloc);
+    let mut texts = List::with_capacity(alloc, usize::from(count))?;
     'texts: for _ in 0..count {
         texts.push(Text::of(alloc, "")?)?;
     }

@@ -9,7 +9,7 @@ ghost use Rattle.machine_core.specs.Own.{IsOwn};
 ghost use Rattle.machine_core.specs.Shelves.{AreHeld};
 
 use crate::clerk::opening::open_session;
-use desk_base::{Duplicate, List, Str, Text};
+use desk_base::{Duplicate, List, NoMemory, Shared, Str, Text};
 use desk_words::{Act, Refusal, SessionRow, Tables};
 use machine_core::{Deed, Own, Stop, attribute_of, shelved};
 use master_index::Shelf;
@@ -53,9 +53,30 @@ fn withdraw_row(
     let session = open_session(alloc, tables, shelf, own, number)?;
     let attributes = shelved(shelf, session.edition).names.attributes.as_slice();
     let places = confirmed_places(alloc, attributes, session.confirmed.as_slice(), names)?;
-    let mut after = session.copy()?;
-    clear(&mut after.confirmed, places.as_slice());
-    Ok(after)
+    Ok(without_flags(alloc, session, places.as_slice())?)
+}
+
+/// The session with the flags at these places taken off.
+fn without_flags(
+    alloc: Global,
+    session: &SessionRow,
+    places: &[usize],
+) -> Result<SessionRow, NoMemory>
+    requires { All (λ place. place < length session.now.confirmed) places.now }
+    ensures { IfOk result (λ after. after ≡ record session.now {
+      confirmed = cleared session.now.confirmed places.now;
+    }) }
+{
+    let typed = session.typed.copy()?;
+    let mut confirmed = session.confirmed.to_list(alloc)?;
+    clear(&mut confirmed, places);
+    Ok(SessionRow {
+        edition: session.edition,
+        typed,
+        confirmed: Shared::of(confirmed)?,
+        stage: session.stage,
+        batch: session.batch,
+    })
 }
 
 /// The places of confirmed attributes with these names.

@@ -33,4 +33,6 @@ returns-clause-change c =
       c.in_ok-confirmed.ensures.part,
       c.in_ok-stage.ensures.part,
       c.in_ok-batch.ensures.part,
+      c.in_ok-of.ensures,
+      c.in_ok-of-2.ensures,
     ) refl

@@ -23,11 +23,4 @@ pub returns-clause-finds : goal.returns-clause-finds
 returns-clause-finds c =
     let bound = c.shelved.ensures.bound (published_of (rows_of c.args.tables.now)) c.in_ok-session.ensures.held in
     let places = rw (c.as_slice.ensures, c.as_slice-attributes.ensures) at c.in_ok-places.ensures.finds in
-    rw (
-      c.in_ok-session.ensures.finds,
-      bound,
-      places,
-      c.clear.ensures,
-      c.as_slice-2.ensures,
-      c.in_ok-after.ensures.copied,
-    ) refl
+    rw (c.in_ok-session.ensures.finds, bound, places, c.in_ok-without_flags.ensures, c.as_slice-2.ensures) refl
