@@ -15,3 +15,4 @@ pub mod Derived
 pub mod Choosing
 pub mod Blocked
 pub mod Contradicting
+pub mod Known

@@ -13,8 +13,6 @@ use Rattle.fix_model.specs.Run.{IsRun, end_of}
 use Rattle.fix_engine.specs.declared.verdict.Verdict.{Verdict}
 use Rattle.fix_engine.specs.declared.verdict.Verdict.TheVariants.{Fix, Conflict}
 use Rattle.fix_engine.specs.Verdicts.{IsAnswer}
-use Rattle.fix_engine.specs.WorkSeen.{WorkSeen}
-use Rattle.master_index.specs.declared.shelf.Shelved.{Shelved}
 use Rattle.desk_words.specs.declared.rows.edition.EditionRow.{EditionRow}
 use Rattle.desk_words.specs.declared.rows.session.SessionRow.{SessionRow}
 use Rattle.desk_words.specs.declared.view.Outcome.{Outcome}
@@ -26,12 +24,8 @@ use Rattle.desk_valid.specs.Bindings.{bound_at}
 use Rattle.machine_core.specs.Answers.{shown_state, state_of}
 use Rattle.machine_core.specs.Checked.{Answer, Gives, IsFound}
 use Rattle.machine_core.specs.Clerk.Commit.{not_in_conflict}
-use Rattle.machine_core.specs.Look.Report.{assessment_of}
-use Rattle.machine_core.specs.Shelves.{bound_on}
 use Rattle.machine_core.specs.Views.{edition_at, named_step, outcome_of, view_cell, view_of, view_with}
-use Rattle.machine_views.specs.declared.answers.Answered.{Answered}
-use Rattle.machine_views.specs.Answered.{IsAnswered, NamesSteps, answer_in}
-use Rattle.machine_views.specs.Counts.{assessed}
+use Rattle.machine_views.specs.Answered.{NamesSteps}
 
 module _ (kit : Kit) where
   -- the steps of a run are steps of the kit
@@ -110,14 +104,3 @@ module _ (published : Published) (number : ℕ) (session : SessionRow) (bound : 
         first = steps i;
         outcome = told i;
       }
-
--- a session is assessed by the answer for its state
-pub assessment-given : (published : Published) (session : SessionRow) (shelved : Shelved) (work : WorkSeen)
-    (answered : Answered) → bound_at published session.edition ≡ Some (bound_on shelved)
-    → IsAnswered shelved session work answered
-    → Gives (assessment_of published session) (Ok (assessed session answered))
-assessment-given published session shelved work answered here is = rw here (
-  answer_in work answered.verdict,
-  is.answer,
-  λ i. Ok (record { session = session; verdict = answered.verdict; cells = (is.shown i).cells }),
-)

@@ -11,13 +11,8 @@ use Rattle.fix_model.specs.declared.region.RowVerdict.{RowVerdict}
 use Rattle.fix_model.specs.Regions.{row_state}
 use Rattle.machine_core.specs.Checked.{Answer, Checked, answer_for, each, Gives}
 use Rattle.machine_core.specs.DeskLook.Region.{row_verdict}
-use Rattle.machine_core.specs.Look.Report.{Assessment, assessment_of, is_certain_fix, is_conflict, is_partial_fix}
-use Rattle.machine_views.specs.declared.answers.Answered.{Answered}
+use Rattle.machine_core.specs.Look.Report.{assessment_of, is_certain_fix, is_conflict, is_partial_fix}
 use Rattle.machine_views.specs.declared.counting.Verdicts.{Verdicts}
-
--- a session with what the rules make of it
-abbrev pub assessed : SessionRow → Answered → Assessment
-assessed session answered = record { session = session; verdict = answered.verdict; cells = answered.shown.cells }
 
 -- how many have each verdict
 abbrev pub verdicts_of : {A : Type 0} → (A → Verdict) → List A → Verdicts

@@ -10,14 +10,15 @@ use Rattle.desk_words.specs.declared.rows.session.Stage.{Stage}
 use Rattle.desk_words.specs.declared.rows.session.Stage.TheVariants.{Active, Committed, Abandoned}
 use Rattle.desk_words.specs.Tables.{Published, Rows}
 use Rattle.desk_valid.specs.Tallies.{is_active}
-use Rattle.fix_model.specs.declared.state.Cell.{Cell}
 use Rattle.machine_core.specs.Checked.{Gives, each}
 use Rattle.machine_core.specs.Look.Report.{Assessment, assessment_of, is_abandoned, is_committed, is_confirmed_cell}
 use Rattle.machine_core.specs.Look.Report.{is_fixed_cell, is_uncovered_cell, report_line}
-use Rattle.machine_views.specs.declared.looks.counts.Cells.{Cells}
 use Rattle.machine_views.specs.declared.looks.counts.Counts.{Counts}
 use Rattle.machine_views.specs.declared.looks.counts.Stages.{Stages}
+use Rattle.machine_views.specs.declared.upshots.Cells.{Cells}
+use Rattle.machine_views.specs.declared.upshots.Upshot.{Upshot}
 use Rattle.machine_views.specs.Counts.{AreAtMost, one_more, verdicts_of}
+use Rattle.machine_views.specs.Upshots.{AreCellsUpTo, cells_in, cells_of_both}
 
 -- how many sessions are at each stage
 abbrev pub stages_of : List Assessment → Stages
@@ -50,21 +51,22 @@ with_stage counts Active = record counts { active = counts.active + 1 }
 with_stage counts Committed = record counts { committed = counts.committed + 1 }
 with_stage counts Abandoned = record counts { abandoned = counts.abandoned + 1 }
 
--- with these attributes more
-abbrev pub with_cells : Cells → List Cell → Cells
-with_cells counts cells = record {
-  confirmed = counts.confirmed + count_by is_confirmed_cell cells;
-  fixed = counts.fixed + count_by is_fixed_cell cells;
-  uncovered = counts.uncovered + count_by is_uncovered_cell cells;
-}
-
 -- one more session
 abbrev pub with_session : Counts → Assessment → Counts
 with_session counts one = record {
   sessions = counts.sessions + 1;
   stages = with_stage counts.stages one.session.stage;
   verdicts = one_more counts.verdicts one.verdict;
-  cells = with_cells counts.cells one.cells;
+  cells = cells_of_both counts.cells (cells_in one.cells);
+}
+
+-- one more session at a stage, with what it came to
+abbrev pub with_upshot : Counts → Stage → Upshot → Counts
+with_upshot counts stage upshot = record {
+  sessions = counts.sessions + 1;
+  stages = with_stage counts.stages stage;
+  verdicts = one_more counts.verdicts upshot.verdict;
+  cells = cells_of_both counts.cells upshot.cells;
 }
 
 -- no more than so many are at a stage
@@ -72,12 +74,6 @@ pub record AreStagesUpTo (most : ℕ) (counts : Stages) : Type 0 where
   pub active : counts.active ≤ most
   pub committed : counts.committed ≤ most
   pub abandoned : counts.abandoned ≤ most
-
--- no more than so many attributes came to their value in one way
-pub record AreCellsUpTo (most : ℕ) (counts : Cells) : Type 0 where
-  pub confirmed : counts.confirmed ≤ most
-  pub fixed : counts.fixed ≤ most
-  pub uncovered : counts.uncovered ≤ most
 
 -- no more is counted than so many sessions have
 pub record AreFew (most : ℕ) (counts : Counts) : Type 0 where

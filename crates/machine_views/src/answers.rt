@@ -1,5 +1,6 @@
 //! What the rules make of a session.
 ghost use Rattle.std.specs.Prelude.{◌≡◌, ◌≤◌, length, IfOk, OnOk};
+ghost use Rattle.desk_base.specs.declared.limits.TheConstants.{MAX_ATTRIBUTES};
 ghost use Rattle.desk_words.specs.Tables.{published_of, rows_of};
 ghost use Rattle.desk_valid.specs.Valid.{AreValid};
 ghost use Rattle.fix_engine.specs.Verdicts.{IsAnswer};
@@ -13,7 +14,9 @@ ghost use Rattle.machine_core.specs.Shelves.{AreHeld, IsFirst, IsFullRoom, bound
 ghost use Rattle.machine_core.specs.Tests.{session_of};
 ghost use Rattle.machine_views.specs.Answered.{IsAnswered, IsBookFor, Suits, answer_in};
 ghost use Rattle.machine_views.specs.Looking.{IsSessionFirst};
+ghost use Rattle.machine_views.specs.Upshots.{AreCellsUpTo, cells_in};
 
+use crate::upshots::{Cells, Upshot};
 use desk_base::{NoMemory, Steps};
 use desk_words::{SessionRow, Tables};
 use fix_engine::{Verdict, Work, apply, decide};
@@ -27,6 +30,21 @@ use std::alloc::Global;
 pub(crate) struct Answered {
     pub verdict: Verdict,
     pub shown: State,
+}
+
+impl Answered {
+    /// What the session came to.
+    pub fn upshot(&self) -> Upshot
+        requires { length self.now.shown.cells ≤ MAX_ATTRIBUTES }
+        ensures verdict { result.verdict ≡ self.now.verdict }
+        ensures cells { result.cells ≡ cells_in self.now.shown.cells }
+        ensures few { AreCellsUpTo MAX_ATTRIBUTES result.cells }
+    {
+        Upshot {
+            verdict: self.verdict,
+            cells: Cells::of(self.shown.cells.as_slice()),
+        }
+    }
 }
 
 /// The session of a clerk with this number, counted from 1. Its edition comes first on the shelf.

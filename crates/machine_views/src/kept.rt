@@ -10,9 +10,11 @@ ghost use Rattle.machine_core.specs.OwnRows.{HasOwnTarget, IsSoundDeed};
 ghost use Rattle.machine_core.specs.Shelves.{AreHeld, IsFirst, IsFullRoom};
 ghost use Rattle.machine_views.specs.Doing.{DoesAsTold, PutsBatch, PutsOne, StandsFirst};
 ghost use Rattle.machine_views.specs.Looking.{IsSessionFirst, IsTargetFirst};
+ghost use Rattle.machine_views.specs.Upshots.{AreTrue};
 
 use crate::batches::{batched, put_verdicts, session_verdicts, sessions_in};
-use crate::views::view_of;
+use crate::upshots::{SessionAt, Upshots};
+use crate::views::{view_and_upshot, view_of};
 use desk_base::NoMemory;
 use desk_words::{Act, BatchRow, Batched, RecordRow, Reply, SessionRow, Tables, View};
 use fix_engine::Work;
@@ -20,13 +22,15 @@ use machine_core::{Deed, Own};
 use master_index::Shelf;
 use std::alloc::Global;
 
-/// The reply of a clerk's act, whose target is a place counted from 0: what is replied to its repeat. The edition of a
-/// session that is shown comes first on the shelf.
+/// The reply of an act of the clerk at a place, whose target is a place counted from 0: what is replied to its repeat.
+/// The edition of a session that is shown comes first on the shelf.
 pub fn kept_reply(
     alloc: Global,
     tables: &Tables,
     shelf: &mut Shelf,
     work: &mut Work,
+    upshots: &mut Upshots,
+    clerk: u32,
     own: &Own,
     act: Act,
     target: u32,
@@ -34,6 +38,7 @@ pub fn kept_reply(
     requires valid { AreValid (rows_of tables.now) }
     requires held { AreHeld (published_of (rows_of tables.now)) shelf.old }
     requires room { IsFullRoom work.old }
+    requires known { AreTrue (published_of (rows_of tables.now)) upshots.old }
     requires own { IsOwn (rows_of tables.now) own.now }
     requires target { HasOwnTarget own.now act target }
     ensures reply { IfOk result
@@ -41,12 +46,15 @@ pub fn kept_reply(
     ensures first { OnOk result (IsTargetFirst own.now.sessions act target shelf.new) }
     ensures held { AreHeld (published_of (rows_of tables.now)) shelf.new }
     ensures room { IsFullRoom work.new }
+    ensures known { AreTrue (published_of (rows_of tables.now)) upshots.new }
 {
     match act {
         Act::Opened => Ok(Reply::Opened(view_kept(alloc, tables, shelf, work, own, target)?)),
         Act::Changed => Ok(Reply::View(view_kept(alloc, tables, shelf, work, own, target)?)),
         Act::Committed => Ok(committed(target + 1, &own.records()[target as usize])),
-        Act::Batched => Ok(Reply::Batched(batch_kept(alloc, tables, shelf, work, own, target)?)),
+        Act::Batched => Ok(Reply::Batched(batch_kept(
+            alloc, tables, shelf, work, upshots, clerk, own, target,
+        )?)),
         // A clerk has no other acts.
         _ => unreachable!(),
     }
@@ -82,37 +90,48 @@ fn batch_kept(
     tables: &Tables,
     shelf: &mut Shelf,
     work: &mut Work,
+    upshots: &mut Upshots,
+    clerk: u32,
     own: &Own,
     place: u32,
 ) -> Result<Batched, NoMemory>
     requires valid { AreValid (rows_of tables.now) }
     requires held { AreHeld (published_of (rows_of tables.now)) shelf.old }
     requires room { IsFullRoom work.old }
+    requires known { AreTrue (published_of (rows_of tables.now)) upshots.old }
     requires own { IsOwn (rows_of tables.now) own.now }
     requires place { place < length own.now.batches }
     ensures batch { IfOk result (λ batch. Gives
         (kept_reply (published_of (rows_of tables.now)) own.now Act.Batched place) (Ok (Reply.Batched batch))) }
     ensures held { AreHeld (published_of (rows_of tables.now)) shelf.new }
     ensures room { IsFullRoom work.new }
+    ensures known { AreTrue (published_of (rows_of tables.now)) upshots.new }
 {
     let row = &own.batches()[place as usize];
     let sessions = sessions_in(own.sessions(), row);
-    let verdicts = session_verdicts(alloc, tables, shelf, work, sessions)?;
+    let first = SessionAt {
+        clerk,
+        place: row.first - 1,
+    };
+    let verdicts = session_verdicts(alloc, tables, shelf, work, upshots, first, sessions)?;
     Ok(batched(place + 1, row, verdicts))
 }
 
-/// The reply of a new write, over the rows after it.
+/// The reply of a new write of the clerk at a place, over the rows after it.
 pub fn deed_reply(
     alloc: Global,
     tables: &Tables,
     shelf: &mut Shelf,
     work: &mut Work,
+    upshots: &mut Upshots,
+    clerk: u32,
     own: &Own,
     deed: &Deed,
 ) -> Result<Reply, NoMemory>
     requires valid { AreValid (rows_of tables.now) }
     requires held { AreHeld (published_of (rows_of tables.now)) shelf.old }
     requires room { IsFullRoom work.old }
+    requires known { AreTrue (published_of (rows_of tables.now)) upshots.old }
     requires sound { IsSoundDeed (published_of (rows_of tables.now)) own.now deed.now }
     requires told { DoesAsTold own.now deed.now deed.now.act }
     ensures reply { IfOk result (λ reply. Gives
@@ -121,29 +140,40 @@ pub fn deed_reply(
     ensures first { OnOk result (StandsFirst deed.now deed.now.act shelf.new) }
     ensures held { AreHeld (published_of (rows_of tables.now)) shelf.new }
     ensures room { IsFullRoom work.new }
+    ensures known { AreTrue (published_of (rows_of tables.now)) upshots.new }
 {
     match deed.act {
-        Act::Opened => Ok(Reply::Opened(view_put(alloc, tables, shelf, work, own, deed)?)),
-        Act::Changed => Ok(Reply::View(view_put(alloc, tables, shelf, work, own, deed)?)),
+        Act::Opened => Ok(Reply::Opened(view_put(
+            alloc, tables, shelf, work, upshots, clerk, own, deed,
+        )?)),
+        Act::Changed => Ok(Reply::View(view_put(
+            alloc, tables, shelf, work, upshots, clerk, own, deed,
+        )?)),
         Act::Committed => Ok(committed(deed.target + 1, put_record(deed))),
-        Act::Batched => Ok(Reply::Batched(batch_put(alloc, tables, shelf, work, own, deed)?)),
+        Act::Batched => Ok(Reply::Batched(batch_put(
+            alloc, tables, shelf, work, upshots, clerk, own, deed,
+        )?)),
         // A clerk has no other acts.
         _ => unreachable!(),
     }
 }
 
-/// The session that a deed puts alone, as it stands then. Its edition comes first on the shelf.
+/// The session that a deed puts alone, as it stands then. Its edition comes first on the shelf, and what it comes to is
+/// kept.
 fn view_put(
     alloc: Global,
     tables: &Tables,
     shelf: &mut Shelf,
     work: &mut Work,
+    upshots: &mut Upshots,
+    clerk: u32,
     own: &Own,
     deed: &Deed,
 ) -> Result<View, NoMemory>
     requires valid { AreValid (rows_of tables.now) }
     requires held { AreHeld (published_of (rows_of tables.now)) shelf.old }
     requires room { IsFullRoom work.old }
+    requires known { AreTrue (published_of (rows_of tables.now)) upshots.old }
     requires sound { IsSoundDeed (published_of (rows_of tables.now)) own.now deed.now }
     requires one { PutsOne deed.now }
     ensures view { IfOk result (λ view. Gives
@@ -151,9 +181,17 @@ fn view_put(
     ensures first { OnOk result (All (λ put. IsFirst put.1.edition shelf.new) deed.now.sessions) }
     ensures held { AreHeld (published_of (rows_of tables.now)) shelf.new }
     ensures room { IsFullRoom work.new }
+    ensures known { AreTrue (published_of (rows_of tables.now)) upshots.new }
 {
     let session = put_session(deed);
-    view_of(alloc, tables, shelf, work, deed.target + 1, session)
+    let number = deed.target + 1;
+    let (view, upshot) = view_and_upshot(alloc, tables, shelf, work, number, session)?;
+    let at = SessionAt {
+        clerk,
+        place: deed.target,
+    };
+    upshots.note(at, session, upshot);
+    Ok(view)
 }
 
 /// The batch that a deed puts, with the verdicts on its sessions.
@@ -162,12 +200,15 @@ fn batch_put(
     tables: &Tables,
     shelf: &mut Shelf,
     work: &mut Work,
+    upshots: &mut Upshots,
+    clerk: u32,
     own: &Own,
     deed: &Deed,
 ) -> Result<Batched, NoMemory>
     requires valid { AreValid (rows_of tables.now) }
     requires held { AreHeld (published_of (rows_of tables.now)) shelf.old }
     requires room { IsFullRoom work.old }
+    requires known { AreTrue (published_of (rows_of tables.now)) upshots.old }
     requires sound { IsSoundDeed (published_of (rows_of tables.now)) own.now deed.now }
     requires batch { PutsBatch own.now deed.now }
     ensures batch { IfOk result (λ batch. Gives
@@ -175,8 +216,10 @@ fn batch_put(
         (Ok (Reply.Batched batch))) }
     ensures held { AreHeld (published_of (rows_of tables.now)) shelf.new }
     ensures room { IsFullRoom work.new }
+    ensures known { AreTrue (published_of (rows_of tables.now)) upshots.new }
 {
-    let verdicts = put_verdicts(alloc, tables, shelf, work, deed.sessions.as_slice())?;
+    let sessions = deed.sessions.as_slice();
+    let verdicts = put_verdicts(alloc, tables, shelf, work, upshots, clerk, sessions)?;
     Ok(batched(deed.target + 1, put_batch(deed), verdicts))
 }
 

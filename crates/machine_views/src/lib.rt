@@ -7,6 +7,7 @@ mod counting;
 mod kept;
 mod looks;
 mod made;
+mod upshots;
 mod views;
 
 pub use kept::{deed_reply, kept_reply};
@@ -16,4 +17,5 @@ pub use looks::{
     sessions_from, suggestion_of, view_at,
 };
 pub use made::{kept_made, region_made};
+pub use upshots::Upshots;
 pub use views::view_of;

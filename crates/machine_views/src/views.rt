@@ -12,8 +12,10 @@ ghost use Rattle.machine_core.specs.Sessions.{IsSessionOf};
 ghost use Rattle.machine_core.specs.Shelves.{AreHeld, IsFirst, IsFullRoom, bound_on};
 ghost use Rattle.machine_core.specs.Views.{name_at, named_step, outcome_of, shown_cell, view_cell, view_of};
 ghost use Rattle.machine_views.specs.Answered.{IsBookFor, IsNamedBook, NamesSteps, answer_in};
+ghost use Rattle.machine_views.specs.Upshots.{IsUpshotOf};
 
 use crate::answers::{answer_to, book_for};
+use crate::upshots::Upshot;
 use desk_base::{Duplicate, List, NoMemory, Text};
 use desk_words::{Outcome, SessionRow, Shown, ShownStep, Tables, View, ViewCell};
 use fix_engine::{Verdict, Work};
@@ -41,12 +43,36 @@ pub fn view_of(
     ensures held { AreHeld (published_of (rows_of tables.now)) shelf.new }
     ensures room { IsFullRoom work.new }
 {
+    let (view, _) = view_and_upshot(alloc, tables, shelf, work, number, session)?;
+    Ok(view)
+}
+
+/// A session as it is shown under this number, and what it came to. Its edition comes first on the shelf.
+pub(crate) fn view_and_upshot(
+    alloc: Global,
+    tables: &Tables,
+    shelf: &mut Shelf,
+    work: &mut Work,
+    number: u32,
+    session: &SessionRow,
+) -> Result<(View, Upshot), NoMemory>
+    requires valid { AreValid (rows_of tables.now) }
+    requires held { AreHeld (published_of (rows_of tables.now)) shelf.old }
+    requires room { IsFullRoom work.old }
+    requires session { IsSessionOf (published_of (rows_of tables.now)) session.now }
+    ensures view { IfOk result
+        (λ made. Gives (view_of (published_of (rows_of tables.now)) number session.now) (Ok made.0)) }
+    ensures upshot { IfOk result (λ made. IsUpshotOf (published_of (rows_of tables.now)) session.now made.1) }
+    ensures first { OnOk result (IsFirst session.now.edition shelf.new) }
+    ensures held { AreHeld (published_of (rows_of tables.now)) shelf.new }
+    ensures room { IsFullRoom work.new }
+{
     hold(alloc, tables, shelf, session.edition)?;
     let shelved = book_for(tables, shelf, session);
     view_on(alloc, tables, shelved, work, number, session)
 }
 
-/// A session as it is shown, by the book of its edition.
+/// A session as it is shown, by the book of its edition, and what it came to.
 fn view_on(
     alloc: Global,
     tables: &Tables,
@@ -54,12 +80,13 @@ fn view_on(
     work: &mut Work,
     number: u32,
     session: &SessionRow,
-) -> Result<View, NoMemory>
+) -> Result<(View, Upshot), NoMemory>
     requires book { IsBookFor (published_of (rows_of tables.now)) session.now shelved.now }
     requires edition { session.now.edition < length tables.now.editions.items }
     requires room { IsFullRoom work.old }
     ensures view { IfOk result
-        (λ view. Gives (view_of (published_of (rows_of tables.now)) number session.now) (Ok view)) }
+        (λ made. Gives (view_of (published_of (rows_of tables.now)) number session.now) (Ok made.0)) }
+    ensures upshot { IfOk result (λ made. IsUpshotOf (published_of (rows_of tables.now)) session.now made.1) }
     ensures room { IsFullRoom work.new }
 {
     let answered = answer_to(alloc, work, shelved, session)?;
@@ -67,7 +94,7 @@ fn view_on(
     let first = named_steps(alloc, shelved, work.first())?;
     let outcome = outcome_of(alloc, shelved, work.second(), answered.verdict)?;
     let edition = &tables.editions.as_slice()[session.edition as usize];
-    Ok(View {
+    let view = View {
         session: number,
         edition: edition.name.copy()?,
         version: edition.version,
@@ -75,7 +102,8 @@ fn view_on(
         cells,
         first,
         outcome,
-    })
+    };
+    Ok((view, answered.upshot()))
 }
 
 /// Each attribute with its value, in their order.
@@ -85,8 +113,9 @@ fn view_cells(alloc: Global, shelved: &Shelved, state: &State) -> Result<List<Vi
     ensures { IfOk result (λ cells.
         cells ≡ map (view_cell (bound_on shelved.now) state.now) (range_with_len 0 shelved.now.book.width)) }
 {
-    let mut cells = List::new(alloc);
-    'attributes: for attribute in 0..Book::<()>::width(&shelved.book) {
+    let width = Book::<()>::width(&shelved.book);
+    let mut cells = List::with_capacity(alloc, usize::from(width))?;
+    'attributes: for attribute in 0..width {
         cells.push(view_cell(alloc, shelved, state, attribute)?)?;
     }
     Ok(cells)
@@ -207,7 +236,7 @@ pub(crate) fn named_steps(
     requires steps { All (IsStepOf shelved.now.book) steps.now }
     ensures { IfOk result (λ named. named ≡ map (named_step (bound_on shelved.now)) steps.now) }
 {
-    let mut named = List::new(alloc);
+    let mut named = List::with_capacity(alloc, steps.len())?;
     'steps: for step in steps {
         named.push(named_step(shelved, *step)?)?;
     }

@@ -6,6 +6,7 @@ use Rattle.desk_words.specs.declared.change.Change.{Change}
 use Rattle.desk_words.specs.Changes.{changed, changed_all}
 use Rattle.desk_words.specs.Tables.{Published, Rows, published_of}
 use Rattle.desk_valid.specs.Bindings.{bound_at}
+use Rattle.desk_valid.specs.declared.bound.Bound.{Bound}
 use Rattle.desk_valid.specs.Valid.{AreValid}
 use Rattle.fix_engine.specs.WorkSeen.{WorkSeen}
 use Rattle.master_index.specs.declared.shelf.Shelved.{Shelved}
@@ -13,7 +14,10 @@ use Rattle.machine_core.specs.Shelves.{AreHeld, bound_on}
 use Rattle.machine_laws.proofs.Kept.{bound_at-more}
 use Rattle.machine_laws.proofs.Lists.{Begins}
 use Rattle.machine_laws.proofs.More.{AreMore, AreMore-changed, AreMore-same}
+use Rattle.machine_views.specs.Upshots.{AreTrue}
+use Rattle.machine_views.specs.declared.upshots.Upshots.{Upshots}
 use Rattle.session_machine.specs.Seats.{IsSeated}
+use Rattle.machine_views.proofs.Known.{AreTrue-later}
 use Rattle.machine_core.proofs.Widths.{edition-stands}
 
 -- a list begins with all that the list before it begins with
@@ -41,6 +45,14 @@ AreMore-changed_all rows (change ∷ changes) = AreMore-through (published_of ro
     (published_of (changed rows change)) (published_of (changed_all rows (change ∷ changes)))
     (AreMore-changed rows change) (AreMore-changed_all (changed rows change) changes)
 
+-- an edition that is bound stays bound so
+bound-stays : (rows : Rows) (changes : List Change) → AreValid rows → (edition : ℕ) (bound : Bound)
+    → bound_at (published_of rows) edition ≡ Some bound
+    → bound_at (published_of (changed_all rows changes)) edition ≡ Some bound
+bound-stays rows changes valid edition bound is =
+    bound_at-more rows valid (published_of (changed_all rows changes)) (AreMore-changed_all rows changes) edition
+    (edition-stands (published_of rows) edition bound is) ∙ is
+
 -- so each book that is held is that of its edition still
 AreHeld-changed : (rows : Rows) (changes : List Change) (held : List (ℕ × Shelved)) → AreValid rows
     → AreHeld (published_of rows) held → AreHeld (published_of (changed_all rows changes)) held
@@ -48,18 +60,21 @@ AreHeld-changed rows changes held valid are =
     let later : Published = published_of (changed_all rows changes) in
     All-weaker (λ pair. bound_at (published_of rows) pair.0 ≡ Some (bound_on pair.1))
     (λ pair. bound_at later pair.0 ≡ Some (bound_on pair.1))
-    (λ pair bound. bound_at-more rows valid later (AreMore-changed_all rows changes) pair.0
-    (edition-stands (published_of rows) pair.0 (bound_on pair.1) bound) ∙ bound) held are
+    (λ pair bound. bound-stays rows changes valid pair.0 (bound_on pair.1) bound) held are
 
 -- and a desk is seated whether changes that leave valid tables were made or not
 pub IsSeated-settled : {E : Type 0} (rows after : Rows) (changes : List Change) (shelf : List (ℕ × Shelved))
-    (room : WorkSeen) (result : Result (Unit {0}) E) → IsSeated rows shelf room → AreValid (changed_all rows changes)
-    → OnOk result (after ≡ changed_all rows changes) → OnErr result (after ≡ rows) → IsSeated after shelf room
-IsSeated-settled rows after changes shelf room (Ok done) seated valid made stayed = record {
+    (room : WorkSeen) (upshots : Upshots) (result : Result (Unit {0}) E) → IsSeated rows shelf room upshots
+    → AreValid (changed_all rows changes) → OnOk result (after ≡ changed_all rows changes)
+    → OnErr result (after ≡ rows) → IsSeated after shelf room upshots
+IsSeated-settled rows after changes shelf room upshots (Ok done) seated valid made stayed = record {
   valid = subst AreValid (sym made) valid;
   held = subst (λ tables. AreHeld (published_of tables) shelf) (sym made)
       (AreHeld-changed rows changes shelf seated.valid seated.held);
   room = seated.room;
+  known = subst (λ tables. AreTrue (published_of tables) upshots) (sym made)
+      (AreTrue-later (published_of rows) (published_of (changed_all rows changes)) upshots
+      (bound-stays rows changes seated.valid) seated.known);
 }
-IsSeated-settled rows after changes shelf room (Err fail) seated valid made stayed =
-    subst (λ tables. IsSeated tables shelf room) (sym stayed) seated
+IsSeated-settled rows after changes shelf room upshots (Err fail) seated valid made stayed =
+    subst (λ tables. IsSeated tables shelf room upshots) (sym stayed) seated

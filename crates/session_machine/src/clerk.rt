@@ -8,6 +8,7 @@ ghost use Rattle.machine_core.specs.Machine.{clerk_of, machine};
 ghost use Rattle.machine_core.specs.Outcomes.{Answers, Finds, WantsNone};
 ghost use Rattle.machine_core.specs.Own.{own_of};
 ghost use Rattle.machine_core.specs.Shelves.{AreHeld, IsFullRoom};
+ghost use Rattle.machine_views.specs.Upshots.{AreTrue};
 ghost use Rattle.session_machine.specs.Booked.{IsBooked};
 
 mod changing;
@@ -20,6 +21,7 @@ use desk_words::{Change, ClerkRow, ClerkWork, Look, Refusal, Reply, Tables, Tick
 use fix_engine::Work;
 use looking::look_reply;
 use machine_core::{Own, Stop, Use, use_of};
+use machine_views::Upshots;
 use master_index::Shelf;
 use std::alloc::Global;
 use writing::{fresh, repeated};
@@ -30,6 +32,7 @@ pub fn clerk_write(
     totalled: &Totalled,
     shelf: &mut Shelf,
     room: &mut Work,
+    upshots: &mut Upshots,
     name: &Str,
     ticket: &Ticket,
     work: &ClerkWork,
@@ -37,20 +40,24 @@ pub fn clerk_write(
     requires valid { AreValid totalled.now }
     requires held { AreHeld (published_of totalled.now) shelf.old }
     requires room { IsFullRoom room.old }
+    requires known { AreTrue (published_of totalled.now) upshots.old }
     requires numbered { 1 ≤ ticket.now.number }
     ensures answers { Answers result (machine totalled.now (Clerk name.now ticket.now work.now)) }
     ensures booked { IfOk result
         (λ made. IsBooked totalled.now (Clerk name.now ticket.now work.now) made.0 shelf.new) }
     ensures held { AreHeld (published_of totalled.now) shelf.new }
     ensures room { IsFullRoom room.new }
+    ensures known { AreTrue (published_of totalled.now) upshots.new }
 {
     let tables = totalled.tables();
     let place = clerk_of(tables, name)?;
     let own = own_at(totalled, place);
     let used = use_of(own.row(), ticket)?;
     match used {
-        Use::Repeated => repeated(alloc, tables, shelf, room, place, &own),
-        Use::Fresh => fresh(alloc, tables, shelf, room, place, &own, ticket, work),
+        Use::Repeated => repeated(alloc, tables, shelf, room, upshots, place, &own),
+        Use::Fresh => fresh(
+            alloc, tables, shelf, room, upshots, place, &own, ticket, work,
+        ),
     }
 }
 
@@ -60,21 +67,24 @@ pub fn clerk_look(
     totalled: &Totalled,
     shelf: &mut Shelf,
     room: &mut Work,
+    upshots: &mut Upshots,
     name: &Str,
     look: &Look,
 ) -> Result<(Reply, List<Change>), Stop>
     requires valid { AreValid totalled.now }
     requires held { AreHeld (published_of totalled.now) shelf.old }
     requires room { IsFullRoom room.old }
+    requires known { AreTrue (published_of totalled.now) upshots.old }
     ensures answers { Answers result (machine totalled.now (LookAt name.now look.now)) }
     ensures booked { IfOk result (λ made. IsBooked totalled.now (LookAt name.now look.now) made.0 shelf.new) }
     ensures held { AreHeld (published_of totalled.now) shelf.new }
     ensures room { IsFullRoom room.new }
+    ensures known { AreTrue (published_of totalled.now) upshots.new }
 {
     let tables = totalled.tables();
     let place = clerk_of(tables, name)?;
     let own = own_at(totalled, place);
-    let reply = look_reply(alloc, tables, shelf, room, &own, look)?;
+    let reply = look_reply(alloc, tables, shelf, room, upshots, place, &own, look)?;
     Ok((reply, List::new(alloc)))
 }
 

@@ -30,6 +30,7 @@ use desk_words::{Change, Command, Refusal, Reply, Tables};
 use fix_engine::Work;
 use keeper_core::{KeepFail, Keeper};
 use machine_core::{Machine, SettleFail, StartFail, Stop, Weighed, hold, shelved};
+use machine_views::Upshots;
 use master_index::{Shelf, Shelved};
 use std::alloc::Global;
 use std::marker::Model;
@@ -41,6 +42,7 @@ pub struct Desk {
     totalled: Totalled,
     shelf: Shelf,
     room: Work,
+    upshots: Upshots,
 }
 
 impl Model for Desk {
@@ -50,7 +52,7 @@ impl Model for Desk {
 
     ghost view = { λ d. record { rows = d.totalled; shelf = d.shelf } };
 
-    ghost invariant = { λ d. IsSeated d.totalled d.shelf d.room };
+    ghost invariant = { λ d. IsSeated d.totalled d.shelf d.room d.upshots };
 }
 
 impl Desk {
@@ -67,6 +69,7 @@ impl Desk {
             totalled,
             shelf,
             room,
+            upshots: Upshots::new(alloc),
         })
     }
 
@@ -119,18 +122,21 @@ impl Desk {
         ensures booked { IfOk result (λ made. IsBooked self.old.rows command.now made.0 self.new.shelf) }
         ensures rows { self.new.rows ≡ self.old.rows }
     {
-        let (totalled, shelf, room) = (&self.totalled, &mut self.shelf, &mut self.room);
+        let (totalled, shelf) = (&self.totalled, &mut self.shelf);
+        let (room, upshots) = (&mut self.room, &mut self.upshots);
         match command {
             Command::Steward(ticket, work) => {
                 steward_write(self.alloc, totalled, shelf, room, ticket, work)
             }
             Command::Clerk(name, ticket, work) => {
-                clerk_write(self.alloc, totalled, shelf, room, name, ticket, work)
+                clerk_write(
+                    self.alloc, totalled, shelf, room, upshots, name, ticket, work,
+                )
             }
             Command::Look(name, look) => {
-                clerk_look(self.alloc, totalled, shelf, room, name, look)
+                clerk_look(self.alloc, totalled, shelf, room, upshots, name, look)
             }
-            Command::Desk(look) => desk_look(self.alloc, totalled, shelf, room, look),
+            Command::Desk(look) => desk_look(self.alloc, totalled, shelf, room, upshots, look),
         }
     }
 

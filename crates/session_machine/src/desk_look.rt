@@ -8,6 +8,7 @@ ghost use Rattle.machine_core.specs.DeskLook.{desk_reply};
 ghost use Rattle.machine_core.specs.Machine.{machine};
 ghost use Rattle.machine_core.specs.Outcomes.{Answers};
 ghost use Rattle.machine_core.specs.Shelves.{AreHeld, IsFullRoom};
+ghost use Rattle.machine_views.specs.Upshots.{AreTrue};
 ghost use Rattle.session_machine.specs.Booked.{IsBooked};
 
 use desk_base::List;
@@ -16,7 +17,7 @@ use desk_words::{Change, DeskLook, Reply, Tables};
 use fix_engine::Work;
 use machine_core::{Stop, checked};
 use machine_views::{
-    body_of, catalogue, contradictions_shown, derived_sheet, desk_report, edition_shown,
+    Upshots, body_of, catalogue, contradictions_shown, derived_sheet, desk_report, edition_shown,
     region_shown, row_shown,
 };
 use master_index::Shelf;
@@ -28,18 +29,22 @@ pub fn desk_look(
     totalled: &Totalled,
     shelf: &mut Shelf,
     room: &mut Work,
+    upshots: &mut Upshots,
     look: &DeskLook,
 ) -> Result<(Reply, List<Change>), Stop>
     requires valid { AreValid totalled.now }
     requires held { AreHeld (published_of totalled.now) shelf.old }
     requires room { IsFullRoom room.old }
+    requires known { AreTrue (published_of totalled.now) upshots.old }
     ensures answers { Answers result (machine totalled.now (Desk look.now)) }
     ensures booked { IfOk result (λ made. IsBooked totalled.now (Desk look.now) made.0 shelf.new) }
     ensures held { AreHeld (published_of totalled.now) shelf.new }
     ensures room { IsFullRoom room.new }
+    ensures known { AreTrue (published_of totalled.now) upshots.new }
 {
     let tables = totalled.tables();
-    let reply = desk_reply(alloc, tables, totalled.master_cells(), shelf, room, look)?;
+    let cells = totalled.master_cells();
+    let reply = desk_reply(alloc, tables, cells, shelf, room, upshots, look)?;
     Ok((reply, List::new(alloc)))
 }
 
@@ -50,6 +55,7 @@ fn desk_reply(
     cells: u64,
     shelf: &mut Shelf,
     room: &mut Work,
+    upshots: &mut Upshots,
     look: &DeskLook,
 ) -> Result<Reply, Stop>
     requires valid { AreValid (rows_of tables.now) }
@@ -57,12 +63,14 @@ fn desk_reply(
     requires few { cells < 2 ^ 63 }
     requires held { AreHeld (published_of (rows_of tables.now)) shelf.old }
     requires room { IsFullRoom room.old }
+    requires known { AreTrue (published_of (rows_of tables.now)) upshots.old }
     ensures answers { Answers result (desk_reply (rows_of tables.now) look.now) }
     ensures held { AreHeld (published_of (rows_of tables.now)) shelf.new }
     ensures room { IsFullRoom room.new }
+    ensures known { AreTrue (published_of (rows_of tables.now)) upshots.new }
 {
     match look {
-        DeskLook::Report => Ok(Reply::Report(desk_report(alloc, tables, shelf, room)?)),
+        DeskLook::Report => { Ok(Reply::Report(desk_report(alloc, tables, shelf, room, upshots)?)) }
         DeskLook::Derive {
             edition,
             version,

@@ -1,15 +1,12 @@
 //! What a report counts of sessions.
-ghost use Rattle.std.specs.Prelude.{◌≡◌, ◌+◌, ◌-◌, ◌≤◌, ◌^◌, ℕ, [], count_by, length};
+ghost use Rattle.std.specs.Prelude.{◌≡◌, ◌+◌, ◌-◌, ◌≤◌, ◌^◌, ℕ, []};
 ghost use Rattle.desk_base.specs.declared.limits.TheConstants.{MAX_ATTRIBUTES};
-ghost use Rattle.machine_core.specs.Look.Report.{is_confirmed_cell, is_fixed_cell, is_uncovered_cell};
-ghost use Rattle.machine_views.specs.Counts.{assessed};
-ghost use Rattle.machine_views.specs.Reporting.{AreCellsUpTo, AreFew, AreStagesUpTo, counts_of, with_cells};
-ghost use Rattle.machine_views.specs.Reporting.{with_session, with_stage};
+ghost use Rattle.machine_views.specs.Reporting.{AreFew, AreStagesUpTo, counts_of, with_stage, with_upshot};
+ghost use Rattle.machine_views.specs.Upshots.{AreCellsUpTo};
 
-use crate::answers::Answered;
 use crate::counting::Verdicts;
-use desk_words::{SessionRow, Stage};
-use fix_model::Cell;
+use crate::upshots::{Cells, Upshot};
+use desk_words::Stage;
 
 /// How many sessions are at each stage.
 #[derive(Clone, Copy, Debug, PartialEq, Eq)]
@@ -54,80 +51,6 @@ impl Stages {
     }
 }
 
-/// How many attributes came to their value in each way.
-#[derive(Clone, Copy, Debug, PartialEq, Eq)]
-pub struct Cells {
-    pub confirmed: u64,
-    pub fixed: u64,
-    pub uncovered: u64,
-}
-
-impl Cells {
-    /// None yet.
-    pub fn none() -> Cells
-        ensures { result ≡ record { confirmed = 0; fixed = 0; uncovered = 0 } }
-    {
-        Cells {
-            confirmed: 0,
-            fixed: 0,
-            uncovered: 0,
-        }
-    }
-
-    /// With the attributes of one more session.
-    pub fn with(self, cells: &[Cell]) -> Cells
-        requires few { AreCellsUpTo (2 ^ 63) self }
-        requires narrow { length cells.now ≤ MAX_ATTRIBUTES }
-        ensures more { result ≡ with_cells self cells.now }
-        ensures most { (most : ℕ) → AreCellsUpTo most self → AreCellsUpTo (most + MAX_ATTRIBUTES) result }
-    {
-        Cells {
-            confirmed: self.confirmed + confirmed_count(cells) as u64,
-            fixed: self.fixed + fixed_count(cells) as u64,
-            uncovered: self.uncovered + uncovered_count(cells) as u64,
-        }
-    }
-}
-
-/// How many cells are confirmed.
-fn confirmed_count(cells: &[Cell]) -> usize
-    ensures { result ≡ count_by is_confirmed_cell cells.now }
-{
-    cells.iter().filter(|cell| is_confirmed(cell)).count()
-}
-
-/// How many cells a rule fixed.
-fn fixed_count(cells: &[Cell]) -> usize
-    ensures { result ≡ count_by is_fixed_cell cells.now }
-{
-    cells.iter().filter(|cell| is_fixed(cell)).count()
-}
-
-/// How many cells are uncovered.
-fn uncovered_count(cells: &[Cell]) -> usize
-    ensures { result ≡ count_by is_uncovered_cell cells.now }
-{
-    cells.iter().filter(|cell| is_uncovered(cell)).count()
-}
-
-fn is_confirmed(cell: &Cell) -> bool
-    ensures { result ≡ is_confirmed_cell cell.now }
-{
-    matches!(cell, Cell::Confirmed)
-}
-
-fn is_fixed(cell: &Cell) -> bool
-    ensures { result ≡ is_fixed_cell cell.now }
-{
-    matches!(cell, Cell::Fixed(_))
-}
-
-fn is_uncovered(cell: &Cell) -> bool
-    ensures { result ≡ is_uncovered_cell cell.now }
-{
-    matches!(cell, Cell::Uncovered)
-}
-
 /// Sessions, counted: how many there are, at which stages, with which verdicts, and their attributes.
 #[derive(Clone, Copy, Debug, PartialEq, Eq)]
 pub struct Counts {
@@ -151,18 +74,18 @@ impl Counts {
         }
     }
 
-    /// One more session, with what the rules make of it.
-    pub fn with(self, session: &SessionRow, answered: &Answered) -> Counts
+    /// One more session at this stage, with what it came to.
+    pub fn with(self, stage: Stage, upshot: Upshot) -> Counts
         requires few { AreFew (2 ^ 41) self }
-        requires narrow { length answered.now.shown.cells ≤ MAX_ATTRIBUTES }
-        ensures more { result ≡ with_session self (assessed session.now answered.now) }
+        requires narrow { AreCellsUpTo MAX_ATTRIBUTES upshot.cells }
+        ensures more { result ≡ with_upshot self stage upshot }
         ensures most { (most : ℕ) → AreFew most self → AreFew (most + 1) result }
     {
         Counts {
             sessions: self.sessions + 1,
-            stages: self.stages.with(session.stage),
-            verdicts: self.verdicts.with(answered.verdict),
-            cells: self.cells.with(answered.shown.cells.as_slice()),
+            stages: self.stages.with(stage),
+            verdicts: self.verdicts.with(upshot.verdict),
+            cells: self.cells.and(upshot.cells),
         }
     }
 }

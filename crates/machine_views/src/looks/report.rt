@@ -11,9 +11,11 @@ ghost use Rattle.machine_core.specs.Own.{IsOwn};
 ghost use Rattle.machine_core.specs.Sessions.{IsSessionOf};
 ghost use Rattle.machine_core.specs.Shelves.{AreHeld, IsFullRoom};
 ghost use Rattle.machine_views.specs.Reporting.{AreCountsOn, AreFew, AreLinesOver, all_sessions, line_of, sessions_of};
+ghost use Rattle.machine_views.specs.Upshots.{AreTrue};
 
-use crate::counting::assess;
+use crate::counting::upshot_at;
 use crate::looks::counts::Counts;
+use crate::upshots::{SessionAt, Upshots};
 use desk_base::{Duplicate, List, NoMemory, Text};
 use desk_valid::own_list;
 use desk_words::{EditionRow, ReportLine, ReportSheet, SessionRow, Tables};
@@ -22,26 +24,31 @@ use machine_core::Own;
 use master_index::Shelf;
 use std::alloc::Global;
 
-/// A clerk's report: a line for each edition, over the clerk's sessions.
+/// The report of the clerk at a place: a line for each edition, over the clerk's sessions.
 pub fn clerk_report(
     alloc: Global,
     tables: &Tables,
     shelf: &mut Shelf,
     work: &mut Work,
+    upshots: &mut Upshots,
+    clerk: u32,
     own: &Own,
 ) -> Result<ReportSheet, NoMemory>
     requires valid { AreValid (rows_of tables.now) }
     requires held { AreHeld (published_of (rows_of tables.now)) shelf.old }
     requires room { IsFullRoom work.old }
+    requires known { AreTrue (published_of (rows_of tables.now)) upshots.old }
     requires own { IsOwn (rows_of tables.now) own.now }
     ensures report { IfOk result (λ sheet. Gives
         (report_of (published_of (rows_of tables.now)) (Some own.now.row.name) own.now.sessions) (Ok sheet)) }
     ensures held { AreHeld (published_of (rows_of tables.now)) shelf.new }
     ensures room { IsFullRoom work.new }
+    ensures known { AreTrue (published_of (rows_of tables.now)) upshots.new }
 {
-    let clerk = own.row().name.copy()?;
-    let lines = lines_over(alloc, tables, shelf, work, Some(own.sessions()))?;
-    Ok(sheet(Some(clerk), lines))
+    let name = own.row().name.copy()?;
+    let own = Some((clerk, own.sessions()));
+    let lines = lines_over(alloc, tables, shelf, work, upshots, own)?;
+    Ok(sheet(Some(name), lines))
 }
 
 /// The desk's report: a line for each edition, over the sessions of all clerks.
@@ -50,16 +57,19 @@ pub fn desk_report(
     tables: &Tables,
     shelf: &mut Shelf,
     work: &mut Work,
+    upshots: &mut Upshots,
 ) -> Result<ReportSheet, NoMemory>
     requires valid { AreValid (rows_of tables.now) }
     requires held { AreHeld (published_of (rows_of tables.now)) shelf.old }
     requires room { IsFullRoom work.old }
+    requires known { AreTrue (published_of (rows_of tables.now)) upshots.old }
     ensures report { IfOk result (λ sheet. Gives (report_of (published_of (rows_of tables.now)) None
         (flat_map (λ sessions. sessions) (rows_of tables.now).sessions)) (Ok sheet)) }
     ensures held { AreHeld (published_of (rows_of tables.now)) shelf.new }
     ensures room { IsFullRoom work.new }
+    ensures known { AreTrue (published_of (rows_of tables.now)) upshots.new }
 {
-    let lines = lines_over(alloc, tables, shelf, work, None)?;
+    let lines = lines_over(alloc, tables, shelf, work, upshots, None)?;
     Ok(sheet(None, lines))
 }
 
@@ -82,23 +92,26 @@ fn lines_over(
     tables: &Tables,
     shelf: &mut Shelf,
     work: &mut Work,
-    own: Option<&[SessionRow]>,
+    upshots: &mut Upshots,
+    own: Option<(u32, &[SessionRow])>,
 ) -> Result<List<ReportLine>, NoMemory>
     requires valid { AreValid (rows_of tables.now) }
     requires held { AreHeld (published_of (rows_of tables.now)) shelf.old }
     requires room { IsFullRoom work.old }
-    requires sessions { IfSome own (λ sessions. All (IsSessionOf (published_of (rows_of tables.now))) sessions.now) }
-    requires short { IfSome own (λ sessions. length sessions.now < 2 ^ 31) }
+    requires known { AreTrue (published_of (rows_of tables.now)) upshots.old }
+    requires sessions { IfSome own (λ own. All (IsSessionOf (published_of (rows_of tables.now))) own.1.now) }
+    requires short { IfSome own (λ own. length own.1.now < 2 ^ 31) }
     ensures lines { IfOk result (AreLinesOver (published_of (rows_of tables.now))
-        (sessions_of (rows_of tables.now) (option_map (λ sessions. sessions.now) own.entry))
+        (sessions_of (rows_of tables.now) (option_map (λ own. own.1.now) own.entry))
         (length tables.now.editions.items)) }
     ensures few { IfOk result (λ lines. sum_by (λ line. line.sessions) lines < 2 ^ 64) }
     ensures held { AreHeld (published_of (rows_of tables.now)) shelf.new }
     ensures room { IsFullRoom work.new }
+    ensures known { AreTrue (published_of (rows_of tables.now)) upshots.new }
 {
     let mut lines = List::new(alloc);
     'editions: for edition in 0..tables.editions.len() {
-        let counts = counts_on(alloc, tables, shelf, work, own, edition as u32)?;
+        let counts = counts_on(alloc, tables, shelf, work, upshots, own, edition as u32)?;
         lines.push(report_line(&tables.editions.as_slice()[edition], counts)?)?;
     }
     Ok(lines)
@@ -130,31 +143,36 @@ fn counts_on(
     tables: &Tables,
     shelf: &mut Shelf,
     work: &mut Work,
-    own: Option<&[SessionRow]>,
+    upshots: &mut Upshots,
+    own: Option<(u32, &[SessionRow])>,
     edition: u32,
 ) -> Result<Counts, NoMemory>
     requires valid { AreValid (rows_of tables.now) }
     requires held { AreHeld (published_of (rows_of tables.now)) shelf.old }
     requires room { IsFullRoom work.old }
-    requires sessions { IfSome own (λ sessions. All (IsSessionOf (published_of (rows_of tables.now))) sessions.now) }
-    requires short { IfSome own (λ sessions. length sessions.now < 2 ^ 31) }
+    requires known { AreTrue (published_of (rows_of tables.now)) upshots.old }
+    requires sessions { IfSome own (λ own. All (IsSessionOf (published_of (rows_of tables.now))) own.1.now) }
+    requires short { IfSome own (λ own. length own.1.now < 2 ^ 31) }
     ensures counts { IfOk result (AreCountsOn (published_of (rows_of tables.now)) edition
-        (sessions_of (rows_of tables.now) (option_map (λ sessions. sessions.now) own.entry))) }
+        (sessions_of (rows_of tables.now) (option_map (λ own. own.1.now) own.entry))) }
     ensures few { IfOk result (AreFew (2 ^ 40)) }
     ensures held { AreHeld (published_of (rows_of tables.now)) shelf.new }
     ensures room { IsFullRoom work.new }
+    ensures known { AreTrue (published_of (rows_of tables.now)) upshots.new }
 {
     match own {
-        Some(sessions) => counted(
+        Some((clerk, sessions)) => counted(
             alloc,
             tables,
             shelf,
             work,
+            upshots,
+            clerk,
             sessions,
             edition,
             Counts::none(),
         ),
-        None => all_counted(alloc, tables, shelf, work, edition),
+        None => all_counted(alloc, tables, shelf, work, upshots, edition),
     }
 }
 
@@ -164,31 +182,39 @@ fn all_counted(
     tables: &Tables,
     shelf: &mut Shelf,
     work: &mut Work,
+    upshots: &mut Upshots,
     edition: u32,
 ) -> Result<Counts, NoMemory>
     requires valid { AreValid (rows_of tables.now) }
     requires held { AreHeld (published_of (rows_of tables.now)) shelf.old }
     requires room { IsFullRoom work.old }
+    requires known { AreTrue (published_of (rows_of tables.now)) upshots.old }
     ensures counts { IfOk result
         (AreCountsOn (published_of (rows_of tables.now)) edition (all_sessions (rows_of tables.now))) }
     ensures few { IfOk result (AreFew (2 ^ 40)) }
     ensures held { AreHeld (published_of (rows_of tables.now)) shelf.new }
     ensures room { IsFullRoom work.new }
+    ensures known { AreTrue (published_of (rows_of tables.now)) upshots.new }
 {
     let mut counts = Counts::none();
     'clerks: for clerk in 0..tables.sessions.len() {
         let sessions = own_list(&tables.sessions, clerk);
-        counts = counted(alloc, tables, shelf, work, sessions, edition, counts)?;
+        let place = clerk as u32;
+        counts = counted(
+            alloc, tables, shelf, work, upshots, place, sessions, edition, counts,
+        )?;
     }
     Ok(counts)
 }
 
-/// The sessions on an edition among these, counted with those before.
+/// The sessions on an edition among these of the clerk at a place, counted with those before.
 fn counted(
     alloc: Global,
     tables: &Tables,
     shelf: &mut Shelf,
     work: &mut Work,
+    upshots: &mut Upshots,
+    clerk: u32,
     sessions: &[SessionRow],
     edition: u32,
     before: Counts,
@@ -196,6 +222,7 @@ fn counted(
     requires valid { AreValid (rows_of tables.now) }
     requires held { AreHeld (published_of (rows_of tables.now)) shelf.old }
     requires room { IsFullRoom work.old }
+    requires known { AreTrue (published_of (rows_of tables.now)) upshots.old }
     requires sessions { All (IsSessionOf (published_of (rows_of tables.now))) sessions.now }
     requires short { length sessions.now < 2 ^ 31 }
     requires few { AreFew (2 ^ 40) before }
@@ -206,12 +233,15 @@ fn counted(
         (λ counts. (most : ℕ) → AreFew most before → AreFew (most + length sessions.now) counts) }
     ensures held { AreHeld (published_of (rows_of tables.now)) shelf.new }
     ensures room { IsFullRoom work.new }
+    ensures known { AreTrue (published_of (rows_of tables.now)) upshots.new }
 {
     let mut counts = before;
-    'sessions: for session in sessions {
+    'sessions: for (place, session) in sessions.iter().enumerate() {
         if session.edition == edition {
-            let answered = assess(alloc, tables, shelf, work, session)?;
-            counts = counts.with(session, &answered);
+            let place = place as u32;
+            let at = SessionAt { clerk, place };
+            let upshot = upshot_at(alloc, tables, shelf, work, upshots, at, session)?;
+            counts = counts.with(session.stage, upshot);
         }
     }
     Ok(counts)

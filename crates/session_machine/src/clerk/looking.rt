@@ -8,6 +8,7 @@ ghost use Rattle.machine_core.specs.Outcomes.{Answers};
 ghost use Rattle.machine_core.specs.Own.{IsOwn};
 ghost use Rattle.machine_core.specs.Shelves.{AreHeld, IsFullRoom};
 ghost use Rattle.machine_views.specs.Looking.{IsSessionFirst};
+ghost use Rattle.machine_views.specs.Upshots.{AreTrue};
 ghost use Rattle.session_machine.specs.Looked.{IsLookFirst};
 
 use desk_base::{List, Str};
@@ -16,7 +17,7 @@ use fix_engine::Work;
 use machine_clerk::confirm_row;
 use machine_core::{Own, Stop};
 use machine_views::{
-    blocked_at, carrying, choices_at, clerk_report, explain, records_of, sessions_from,
+    Upshots, blocked_at, carrying, choices_at, clerk_report, explain, records_of, sessions_from,
     suggestion_of, view_at, view_of,
 };
 use master_index::Shelf;
@@ -29,17 +30,21 @@ pub fn look_reply(
     tables: &Tables,
     shelf: &mut Shelf,
     room: &mut Work,
+    upshots: &mut Upshots,
+    clerk: u32,
     own: &Own,
     look: &Look,
 ) -> Result<Reply, Stop>
     requires valid { AreValid (rows_of tables.now) }
     requires held { AreHeld (published_of (rows_of tables.now)) shelf.old }
     requires room { IsFullRoom room.old }
+    requires known { AreTrue (published_of (rows_of tables.now)) upshots.old }
     requires own { IsOwn (rows_of tables.now) own.now }
     ensures answers { Answers result (look_reply (published_of (rows_of tables.now)) own.now look.now) }
     ensures first { OnOk result (IsLookFirst own.now.sessions look.now shelf.new) }
     ensures held { AreHeld (published_of (rows_of tables.now)) shelf.new }
     ensures room { IsFullRoom room.new }
+    ensures known { AreTrue (published_of (rows_of tables.now)) upshots.new }
 {
     match look {
         Look::View { session } => {
@@ -51,7 +56,9 @@ pub fn look_reply(
         Look::Preview { session, cells } => {
             Ok(Reply::View(preview(alloc, tables, shelf, room, own, *session, cells)?))
         }
-        Look::Report => Ok(Reply::Report(clerk_report(alloc, tables, shelf, room, own)?)),
+        Look::Report => Ok(Reply::Report(clerk_report(
+            alloc, tables, shelf, room, upshots, clerk, own,
+        )?)),
         Look::Records { edition, version } => {
             Ok(Reply::Records(records_of(alloc, tables, own, edition, *version)?))
         }

@@ -9,6 +9,7 @@ ghost use Rattle.machine_core.specs.Outcomes.{Answers};
 ghost use Rattle.machine_core.specs.Own.{own_of};
 ghost use Rattle.machine_core.specs.Shelves.{AreHeld, IsFullRoom};
 ghost use Rattle.machine_core.specs.declared.ticket.Use.TheVariants.{Fresh, Repeated};
+ghost use Rattle.machine_views.specs.Upshots.{AreTrue};
 ghost use Rattle.session_machine.specs.Booked.{IsBooked};
 ghost use Rattle.session_machine.specs.Written.{clerk_changes};
 
@@ -18,7 +19,7 @@ use desk_words::{Change, ClerkWork, Reply, Tables, Ticket};
 use fix_engine::Work;
 use machine_clerk::deed_of;
 use machine_core::{Own, Stop};
-use machine_views::{deed_reply, kept_reply};
+use machine_views::{Upshots, deed_reply, kept_reply};
 use master_index::Shelf;
 use std::alloc::Global;
 
@@ -28,12 +29,14 @@ pub fn repeated(
     tables: &Tables,
     shelf: &mut Shelf,
     room: &mut Work,
+    upshots: &mut Upshots,
     place: u32,
     own: &Own,
 ) -> Result<(Reply, List<Change>), Stop>
     requires valid { AreValid (rows_of tables.now) }
     requires held { AreHeld (published_of (rows_of tables.now)) shelf.old }
     requires room { IsFullRoom room.old }
+    requires known { AreTrue (published_of (rows_of tables.now)) upshots.old }
     requires place { 0 < place }
     requires within { place < length tables.now.clerks.items }
     requires own { own.now ≡ own_of (rows_of tables.now) place }
@@ -44,9 +47,12 @@ pub fn repeated(
         (λ made. IsBooked (rows_of tables.now) command made.0 shelf.new) }
     ensures held { AreHeld (published_of (rows_of tables.now)) shelf.new }
     ensures room { IsFullRoom room.new }
+    ensures known { AreTrue (published_of (rows_of tables.now)) upshots.new }
 {
     let row = own.row();
-    let reply = kept_reply(alloc, tables, shelf, room, own, row.act, row.target)?;
+    let reply = kept_reply(
+        alloc, tables, shelf, room, upshots, place, own, row.act, row.target,
+    )?;
     Ok((reply, List::new(alloc)))
 }
 
@@ -56,6 +62,7 @@ pub fn fresh(
     tables: &Tables,
     shelf: &mut Shelf,
     room: &mut Work,
+    upshots: &mut Upshots,
     place: u32,
     own: &Own,
     ticket: &Ticket,
@@ -64,6 +71,7 @@ pub fn fresh(
     requires valid { AreValid (rows_of tables.now) }
     requires held { AreHeld (published_of (rows_of tables.now)) shelf.old }
     requires room { IsFullRoom room.old }
+    requires known { AreTrue (published_of (rows_of tables.now)) upshots.old }
     requires place { 0 < place }
     requires within { place < length tables.now.clerks.items }
     requires own { own.now ≡ own_of (rows_of tables.now) place }
@@ -72,9 +80,10 @@ pub fn fresh(
         (λ made. IsBooked (rows_of tables.now) command made.0 shelf.new) }
     ensures held { AreHeld (published_of (rows_of tables.now)) shelf.new }
     ensures room { IsFullRoom room.new }
+    ensures known { AreTrue (published_of (rows_of tables.now)) upshots.new }
 {
     let deed = deed_of(alloc, tables, shelf, room, own, work)?;
-    let reply = deed_reply(alloc, tables, shelf, room, own, &deed)?;
+    let reply = deed_reply(alloc, tables, shelf, room, upshots, place, own, &deed)?;
     let changes = changes_of(alloc, place, own.row(), ticket, deed)?;
     Ok((reply, changes))
 }

@@ -2,6 +2,7 @@ use Rattle.std.proofs.Common.{map, take}
 use Rattle.desk_words.specs.Tables.{published_of, rows_of}
 use Rattle.machine_core.specs.Shelves.{AreHeld, IsFullRoom}
 use Rattle.machine_views.specs.Counts.{AreAtMost, AreSessionVerdicts}
+use Rattle.machine_views.specs.Upshots.{AreTrue}
 use Rattle.machine_views.proofs.batches.put_verdicts.Given as goal
 
 -- the verdicts on the sessions so far are counted
@@ -12,4 +13,5 @@ invariant-puts l = record {
   few : AreAtMost l.put-index l.verdicts;
   held : AreHeld (published_of (rows_of l.tables)) l.shelf;
   room : IsFullRoom l.work;
+  known : AreTrue (published_of (rows_of l.tables)) l.upshots;
 }

@@ -8,7 +8,7 @@ use Rattle.machine_views.proofs.kept.batch_put.Goals as goal
 
 pub put_verdicts-requires-clause-sessions : goal.put_verdicts-requires-clause-sessions
 put_verdicts-requires-clause-sessions c =
-    rw c.as_slice.ensures (batch-stand (published_of (rows_of c.args.tables.now)) c.args.own.now c.args.deed.now
+    rw c.as_slice-sessions.ensures (batch-stand (published_of (rows_of c.args.tables.now)) c.args.own.now c.args.deed.now
     c.requires.sound c.requires.batch)
 
 pub put_verdicts-requires-clause-few : goal.put_verdicts-requires-clause-few
@@ -16,15 +16,15 @@ put_verdicts-requires-clause-few c =
     let published = published_of (rows_of c.args.tables.now) in
     let count = batch-count published c.args.own.now c.args.deed.now c.requires.sound c.requires.batch in
     let short = batch-short published c.args.own.now c.args.deed.now c.requires.sound c.requires.batch in
-    omega (arith, ap length c.as_slice.ensures, count, short)
+    omega (arith, ap length c.as_slice-sessions.ensures, count, short)
 
 pub batched-requires-clause-most : goal.batched-requires-clause-most
 batched-requires-clause-most c =
     let row : BatchRow = c.put_batch.result.now in
     let same : c.requires.batch.row ≡ row =
     same_Some c.requires.batch.row row (sym c.requires.batch.is ∙ c.put_batch.ensures) in
-    let count : length c.as_slice.result.now ≡ row.count =
-    ap length c.as_slice.ensures
+    let count : length c.as_slice-sessions.result.now ≡ row.count =
+    ap length c.as_slice-sessions.ensures
     ∙ batch-count (published_of (rows_of c.args.tables.now)) c.args.own.now c.args.deed.now c.requires.sound
     c.requires.batch
     ∙ ap (λ (one : BatchRow). one.count) same in
@@ -42,6 +42,6 @@ batched-requires-clause-word c =
 pub returns-clause-batch : goal.returns-clause-batch
 returns-clause-batch c =
     let published = published_of (rows_of c.args.tables.now) in
-    let counted = rw c.as_slice.ensures at c.in_ok-verdicts.ensures.verdicts in
+    let counted = rw c.as_slice-sessions.ensures at c.in_ok-verdicts.ensures.verdicts in
     rw c.batched.ensures (batch-given published c.args.own.now c.args.deed.now c.requires.sound c.requires.batch
     c.put_batch.result.now c.in_ok-verdicts.verdicts c.put_batch.ensures counted)

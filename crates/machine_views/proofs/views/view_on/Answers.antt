@@ -3,6 +3,7 @@ use Rattle.machine_core.specs.Answers.{state_of}
 use Rattle.machine_core.specs.Shelves.{bound_on}
 use Rattle.machine_views.specs.Answered.{answer_in}
 use Rattle.machine_core.proofs.ReadRows.{edition-read}
+use Rattle.machine_views.proofs.Known.{upshot-given}
 use Rattle.machine_views.proofs.Told.{first-run, run-steps, told-steps, view-given, view-parts}
 use Rattle.machine_views.proofs.views.view_on.Goals as goal
 
@@ -38,3 +39,9 @@ returns-clause-view c =
     c.in_ok-answered.answered.shown row c.in_ok-copy.field-0 c.in_ok-cells.cells c.in_ok-first.first
     c.in_ok-outcome.outcome edition c.in_ok-copy.ensures.copied c.in_ok-answered.ensures.answered.shown
     c.in_ok-cells.ensures first outcome)
+
+pub returns-clause-upshot : goal.returns-clause-upshot
+returns-clause-upshot c =
+    upshot-given (published_of (rows_of c.args.tables.now)) c.args.session.now c.args.shelved.now
+    c.answer_to.new.work c.in_ok-answered.answered c.upshot.result c.requires.book.bound
+    c.in_ok-answered.ensures.answered c.upshot.ensures.verdict c.upshot.ensures.cells c.upshot.ensures.few

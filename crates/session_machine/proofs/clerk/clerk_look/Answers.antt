@@ -11,6 +11,7 @@ use Rattle.machine_core.specs.Outcomes.{Answers}
 use Rattle.machine_core.specs.Own.{IsOwn, Own, own_of}
 use Rattle.machine_core.specs.Shelves.{AreHeld}
 use Rattle.machine_views.proofs.Keeping.{own-rows}
+use Rattle.machine_views.specs.Upshots.{AreTrue}
 use Rattle.session_machine.specs.Booked.{IsBooked}
 use Rattle.session_machine.specs.Looked.{IsLookFirst}
 use Rattle.session_machine.proofs.ClerkBooks.{look-booked}
@@ -32,6 +33,11 @@ pub look_reply-requires-clause-held : goal.look_reply-requires-clause-held
 look_reply-requires-clause-held c =
     let Held : Rows → Type 0 = λ rows. AreHeld (published_of rows) c.args.shelf.now in
     subst Held (sym c.tables-tables.ensures.tables) c.requires.held
+
+pub look_reply-requires-clause-known : goal.look_reply-requires-clause-known
+look_reply-requires-clause-known c =
+    let Known : Rows → Type 0 = λ rows. AreTrue (published_of rows) c.args.upshots.now in
+    subst Known (sym c.tables-tables.ensures.tables) c.requires.known
 
 pub look_reply-requires-clause-own : goal.look_reply-requires-clause-own
 look_reply-requires-clause-own c = record {
@@ -104,3 +110,13 @@ returns-clause-booked c =
     subst Booked c.tables-tables.ensures.tables (look-booked rows held c.args.name.now place c.in_ok-place.ensures.finds
     (own_of rows place) refl (own-rows rows (own_of rows place) valid is) c.args.look.now
     (subst First own c.in_ok-reply.ensures.first) reply (subst Shown own c.in_ok-reply.ensures.answers))
+
+pub returns-in_err-reply-clause-known : goal.returns-in_err-reply-clause-known
+returns-in_err-reply-clause-known c =
+    let Known : Rows → Type 0 = λ rows. AreTrue (published_of rows) c.look_reply.new.upshots in
+    subst Known c.tables-tables.ensures.tables c.in_err-reply.ensures.known
+
+pub returns-clause-known : goal.returns-clause-known
+returns-clause-known c =
+    let Known : Rows → Type 0 = λ rows. AreTrue (published_of rows) c.look_reply.new.upshots in
+    subst Known c.tables-tables.ensures.tables c.in_ok-reply.ensures.known

@@ -13,6 +13,7 @@ use Rattle.machine_core.specs.Shelves.{AreHeld}
 use Rattle.machine_core.specs.Ticket.{use_of}
 use Rattle.machine_core.specs.declared.ticket.Use.{Use}
 use Rattle.machine_core.specs.declared.ticket.Use.TheVariants.{Fresh, Repeated}
+use Rattle.machine_views.specs.Upshots.{AreTrue}
 use Rattle.session_machine.specs.Booked.{IsBooked}
 use Rattle.session_machine.proofs.ClerkOwn.{own-row, own-there}
 use Rattle.session_machine.proofs.ClerkWrites.{write-stopped, write-told, write-unnamed}
@@ -47,6 +48,11 @@ repeated-requires-clause-held c =
     let Held : Rows → Type 0 = λ rows. AreHeld (published_of rows) c.args.shelf.now in
     subst Held (sym c.tables-tables.ensures.tables) c.requires.held
 
+pub repeated-requires-clause-known : goal.repeated-requires-clause-known
+repeated-requires-clause-known c =
+    let Known : Rows → Type 0 = λ rows. AreTrue (published_of rows) c.args.upshots.now in
+    subst Known (sym c.tables-tables.ensures.tables) c.requires.known
+
 pub repeated-requires-clause-own : goal.repeated-requires-clause-own
 repeated-requires-clause-own c = own-there c.args.totalled.now (rows_of c.tables-tables.result.now)
     c.tables-tables.ensures.tables c.in_ok-place.place c.own_at-own.result c.own_at-own.ensures
@@ -69,6 +75,11 @@ pub fresh-requires-clause-held : goal.fresh-requires-clause-held
 fresh-requires-clause-held c =
     let Held : Rows → Type 0 = λ rows. AreHeld (published_of rows) c.args.shelf.now in
     subst Held (sym c.tables-tables.ensures.tables) c.requires.held
+
+pub fresh-requires-clause-known : goal.fresh-requires-clause-known
+fresh-requires-clause-known c =
+    let Known : Rows → Type 0 = λ rows. AreTrue (published_of rows) c.args.upshots.now in
+    subst Known (sym c.tables-tables.ensures.tables) c.requires.known
 
 pub fresh-requires-clause-own : goal.fresh-requires-clause-own
 fresh-requires-clause-own c = own-there c.args.totalled.now (rows_of c.tables-tables.result.now)
@@ -126,3 +137,13 @@ returns-in-Fresh-clause-booked c =
     let held = c.fresh.new.shelf in
     let Booked : Rows → Type 0 = λ rows. IfOk c.fresh.result (λ made. IsBooked rows command made.0 held) in
     subst Booked c.tables-tables.ensures.tables (c.fresh.ensures.booked command)
+
+pub returns-in-Repeated-clause-known : goal.returns-in-Repeated-clause-known
+returns-in-Repeated-clause-known c =
+    let Known : Rows → Type 0 = λ rows. AreTrue (published_of rows) c.repeated.new.upshots in
+    subst Known c.tables-tables.ensures.tables c.repeated.ensures.known
+
+pub returns-in-Fresh-clause-known : goal.returns-in-Fresh-clause-known
+returns-in-Fresh-clause-known c =
+    let Known : Rows → Type 0 = λ rows. AreTrue (published_of rows) c.fresh.new.upshots in
+    subst Known c.tables-tables.ensures.tables c.fresh.ensures.known

@@ -8,6 +8,7 @@ use Rattle.machine_core.specs.Checked.{Gives}
 use Rattle.machine_core.specs.Machine.{machine}
 use Rattle.machine_core.specs.Outcomes.{Answers}
 use Rattle.machine_core.specs.Shelves.{AreHeld}
+use Rattle.machine_views.specs.Upshots.{AreTrue}
 use Rattle.session_machine.specs.Booked.{IsBooked}
 use Rattle.session_machine.proofs.DeskLooks.{desk-booked, desk-gives, desk-stopped}
 use Rattle.session_machine.proofs.desk_look.desk_look.Goals as goal
@@ -17,13 +18,18 @@ desk_reply-requires-clause-valid c = subst AreValid (sym c.tables-tables.ensures
 
 pub desk_reply-requires-clause-cells : goal.desk_reply-requires-clause-cells
 desk_reply-requires-clause-cells c =
-    let Counted : Rows → Type 0 = λ rows. c.master_cells.result ≡ master_cells rows.masters in
-    subst Counted (sym c.tables-tables.ensures.tables) c.master_cells.ensures.cells
+    let Counted : Rows → Type 0 = λ rows. c.master_cells-cells.result ≡ master_cells rows.masters in
+    subst Counted (sym c.tables-tables.ensures.tables) c.master_cells-cells.ensures.cells
 
 pub desk_reply-requires-clause-held : goal.desk_reply-requires-clause-held
 desk_reply-requires-clause-held c =
     let Held : Rows → Type 0 = λ rows. AreHeld (published_of rows) c.args.shelf.now in
     subst Held (sym c.tables-tables.ensures.tables) c.requires.held
+
+pub desk_reply-requires-clause-known : goal.desk_reply-requires-clause-known
+desk_reply-requires-clause-known c =
+    let Known : Rows → Type 0 = λ rows. AreTrue (published_of rows) c.args.upshots.now in
+    subst Known (sym c.tables-tables.ensures.tables) c.requires.known
 
 pub returns-in_err-reply-clause-answers : goal.returns-in_err-reply-clause-answers
 returns-in_err-reply-clause-answers c =
@@ -60,3 +66,13 @@ pub returns-clause-held : goal.returns-clause-held
 returns-clause-held c =
     let Held : Rows → Type 0 = λ rows. AreHeld (published_of rows) c.desk_reply.new.shelf in
     subst Held c.tables-tables.ensures.tables c.in_ok-reply.ensures.held
+
+pub returns-in_err-reply-clause-known : goal.returns-in_err-reply-clause-known
+returns-in_err-reply-clause-known c =
+    let Known : Rows → Type 0 = λ rows. AreTrue (published_of rows) c.desk_reply.new.upshots in
+    subst Known c.tables-tables.ensures.tables c.in_err-reply.ensures.known
+
+pub returns-clause-known : goal.returns-clause-known
+returns-clause-known c =
+    let Known : Rows → Type 0 = λ rows. AreTrue (published_of rows) c.desk_reply.new.upshots in
+    subst Known c.tables-tables.ensures.tables c.in_ok-reply.ensures.known

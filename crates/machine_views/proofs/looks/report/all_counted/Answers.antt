@@ -38,6 +38,7 @@ clerks-preserved c =
           (c.in_ok-counts.ensures.most (clerk * 2 ^ 31) c.clerks.invariant.few);
       held = c.in_ok-counts.ensures.held;
       room = c.in_ok-counts.ensures.room;
+      known = c.in_ok-counts.ensures.known;
     }
 
 pub returns-clause-counts : goal.returns-clause-counts

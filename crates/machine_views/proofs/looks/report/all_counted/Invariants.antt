@@ -3,6 +3,7 @@ use Rattle.std.specs.List.{flat_map}
 use Rattle.desk_words.specs.Tables.{published_of, rows_of}
 use Rattle.machine_core.specs.Shelves.{AreHeld, IsFullRoom}
 use Rattle.machine_views.specs.Reporting.{AreCountsOn, AreFew}
+use Rattle.machine_views.specs.Upshots.{AreTrue}
 use Rattle.machine_views.proofs.looks.report.all_counted.Given as goal
 
 -- the sessions of the clerks so far are counted
@@ -13,4 +14,5 @@ invariant-clerks l = record {
   few : AreFew (l.clerk * 2 ^ 31) l.counts;
   held : AreHeld (published_of (rows_of l.tables)) l.shelf;
   room : IsFullRoom l.work;
+  known : AreTrue (published_of (rows_of l.tables)) l.upshots;
 }

@@ -22,7 +22,7 @@ pub returns-clause-report : goal.returns-clause-report
 returns-clause-report c =
     let published = published_of (rows_of c.args.tables.now) in
     let lines = c.in_ok-lines.lines in
-    let clerk = c.in_ok-clerk.ensures.copied in
+    let clerk = c.in_ok-name.ensures.copied in
     let name = ap (λ (row : ClerkRow). row.name) c.row.ensures in
     report-given published (Some c.args.own.now.row.name) c.args.own.now.sessions lines _
     (AreLinesOver-same published _ _ _ lines c.sessions.ensures c.in_ok-lines.ensures.lines)

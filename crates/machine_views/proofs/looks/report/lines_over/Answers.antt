@@ -1,4 +1,4 @@
-use Rattle.std.proofs.Common.{◌<◌, List, arith, length, Bor}
+use Rattle.std.proofs.Common.{ℕ, ◌<◌, List, arith, length, Bor}
 use Rattle.std.specs.Prelude.{option_map}
 use Rattle.desk_words.specs.declared.rows.session.SessionRow.{SessionRow}
 use Rattle.desk_words.specs.Tables.{published_of, rows_of}
@@ -14,7 +14,7 @@ editions-preserved c =
     let rows = rows_of c.args.tables.now in
     let published = published_of rows in
     let edition = c.editions.edition in
-    let sessions = sessions_of rows (option_map (λ (own : Bor (List SessionRow)). own.now) c.args.own) in
+    let sessions = sessions_of rows (option_map (λ (own : ℕ × Bor (List SessionRow)). own.1.now) c.args.own) in
     let row = c.index-as_slice-edition.result in
     let counts = c.in_ok-counts.counts in
     let line = c.in_ok-report_line.field-0 in
@@ -29,12 +29,13 @@ editions-preserved c =
           c.in_ok-counts.ensures.few c.in_ok-report_line.ensures c.in_ok-push.ensures.pushed;
       held = c.in_ok-counts.ensures.held;
       room = c.in_ok-counts.ensures.room;
+      known = c.in_ok-counts.ensures.known;
     }
 
 pub returns-clause-lines : goal.returns-clause-lines
 returns-clause-lines c =
     let rows = rows_of c.args.tables.now in
-    let sessions = sessions_of rows (option_map (λ (own : Bor (List SessionRow)). own.now) c.args.own) in
+    let sessions = sessions_of rows (option_map (λ (own : ℕ × Bor (List SessionRow)). own.1.now) c.args.own) in
     AreLinesOver-all (published_of rows) sessions c.editions.edition (length rows.editions) c.editions.lines
     (omega (arith, c.editions-test.false, c.editions.auto.edition-end, c.len-edition-end.ensures))
     c.editions.invariant.lines

@@ -18,21 +18,25 @@ invariant_of-self c = elim c.match-command.branch [
     valid = c.self.invariant.valid;
     held = w.steward_write.ensures.held;
     room = w.steward_write.ensures.room;
+    known = c.self.invariant.known;
   })
   | in-Clerk w ↦ rw w.self-inside-is (record {
     valid = c.self.invariant.valid;
     held = w.clerk_write.ensures.held;
     room = w.clerk_write.ensures.room;
+    known = w.clerk_write.ensures.known;
   })
   | in-Look w ↦ rw w.self-inside-is (record {
     valid = c.self.invariant.valid;
     held = w.clerk_look.ensures.held;
     room = w.clerk_look.ensures.room;
+    known = w.clerk_look.ensures.known;
   })
   | in-Desk w ↦ rw w.self-inside-is (record {
     valid = c.self.invariant.valid;
     held = w.desk_look.ensures.held;
     room = w.desk_look.ensures.room;
+    known = w.desk_look.ensures.known;
   })
 ]
 

@@ -13,5 +13,5 @@ invariant_of-self g c =
     let same : c.args.self.now.rows ≡ rows = sym (ap (λ (seat : Seat). seat.rows) c.self.view_is) in
     let valid : AreValid (changed_all rows changes) =
     subst (λ one. AreValid (changed_all one changes)) same c.requires.settleable.valid in
-    IsSeated-settled rows c.settle-kept.new.self changes c.self.inside.shelf c.self.inside.room c.settle-kept.result
-    c.self.invariant valid c.settle-kept.ensures.settled c.settle-kept.ensures.unchanged
+    IsSeated-settled rows c.settle-kept.new.self changes c.self.inside.shelf c.self.inside.room c.self.inside.upshots
+    c.settle-kept.result c.self.invariant valid c.settle-kept.ensures.settled c.settle-kept.ensures.unchanged
