@@ -227,16 +227,20 @@ def great():
 # ---- what tables show, as `{:?}` of Rust shows a row
 
 
-def listed(items, kind="List"):
-    return "%s { items: [%s] }" % (kind, ", ".join(items))
+def shared(items):
+    return "[%s]" % ", ".join(items)
+
+
+def listed(items):
+    return "List { items: %s }" % shared(items)
 
 
 def cell(text):
-    return 'Text { content: Some("%s") }' % text if text else "Text { content: None }"
+    return '"%s"' % text
 
 
-def cells(texts, kind="List"):
-    return listed([cell(text) for text in texts], kind)
+def cells(texts):
+    return listed([cell(text) for text in texts])
 
 
 def numbers(items):
@@ -268,8 +272,9 @@ def shown_row(kind, row):
         fields %= (row[0], numbers(row[1]), listed([cells(texts) for texts in row[2]]))
     elif kind == "session":
         fields = "edition: %d, typed: %s, confirmed: %s, stage: %s, batch: %d"
-        flags = listed([str(flag).lower() for flag in row[2]], "Shared")
-        fields %= (row[0], cells(row[1], "Shared"), flags, capital(row[3]), row[4])
+        typed = shared([cell(text) for text in row[1]])
+        flags = shared([str(flag).lower() for flag in row[2]])
+        fields %= (row[0], typed, flags, capital(row[3]), row[4])
     elif kind == "record":
         fields = "session: %d, texts: %s, certain: %s" % (row[0], cells(row[1]), str(row[2]).lower())
     else:

@@ -97,7 +97,7 @@ fn show_cells<B: Book<()>>(
     out.begin_array()?;
     'attributes: for attribute in 0..width {
         let place = usize::from(attribute);
-        let text = value(book, state, attribute).as_str();
+        let text = value(book, state, attribute);
         let name = attributes[place].as_str();
         show_cell(out, state.cells.as_slice()[place], name, text)?;
     }

@@ -7,8 +7,8 @@ ghost use Rattle.case_json.specs.Masters.{columns_of, row_in, table_in};
 ghost use Rattle.json_parts.specs.Parts.{each, field, items_in, list_in, text_in};
 
 use crate::attributes::Attributes;
-use desk_base::{Grid, List, MAX_COLUMNS, MAX_ROWS, Text};
-use json_parts::{Part, PartFault, items};
+use desk_base::{Grid, List, MAX_COLUMNS, MAX_ROWS, TextList};
+use json_parts::{Part, PartFault, items, short_str};
 use serde_json::Value;
 use std::alloc::Global;
 use std::marker::Model;
@@ -113,7 +113,7 @@ pub fn columns_of(rows: &[Value]) -> Option<u16>
 /// A row of so many texts.
 #[derive(Drop)]
 pub struct Row {
-    cells: List<Text>,
+    cells: TextList,
 }
 
 impl Model for Row {
@@ -128,8 +128,8 @@ impl Part<u16> for Row {
     ghost part_in = { row_in };
 
     fn read(alloc: Global, columns: &u16, value: &Value) -> Result<Row, PartFault> {
-        let mut cells = List::new(alloc);
-        push_row(alloc, &mut cells, *columns, value)?;
+        let mut cells = TextList::new(alloc);
+        push_row(&mut cells, *columns, value)?;
         Ok(Row { cells })
     }
 }
@@ -143,9 +143,9 @@ fn grid_of(alloc: Global, columns: u16, rows: Vec<Value>) -> Result<Grid, PartFa
     ensures none { IsErrOf result PartFault.WrongForm → each (row_in columns) (map view rows.items) ≡ None }
 {
     let count = rows.len() as u32;
-    let mut cells = List::new(alloc);
+    let mut cells = TextList::new(alloc);
     'rows: for row in rows {
-        let pushed = push_row(alloc, &mut cells, columns, &row);
+        let pushed = push_row(&mut cells, columns, &row);
         drop(row);
         pushed?;
     }
@@ -153,12 +153,7 @@ fn grid_of(alloc: Global, columns: u16, rows: Vec<Value>) -> Result<Grid, PartFa
 }
 
 /// Puts the texts of a row after the cells.
-fn push_row(
-    alloc: Global,
-    cells: &mut List<Text>,
-    columns: u16,
-    row: &Value,
-) -> Result<(), PartFault>
+fn push_row(cells: &mut TextList, columns: u16, row: &Value) -> Result<(), PartFault>
     ensures pushed { OnOk result
         (option_map (λ texts. cells.old ++ texts) (row_in columns (view row.now)) ≡ Some cells.new) }
     ensures full { OnOk result (length cells.new ≡ length cells.old + columns) }
@@ -168,18 +163,21 @@ fn push_row(
     if texts.len() != usize::from(columns) {
         return Err(PartFault::WrongForm);
     }
-    push_texts(alloc, cells, texts)
+    push_texts(cells, texts)
 }
 
 /// Puts a text for each value after the cells.
-fn push_texts(alloc: Global, cells: &mut List<Text>, values: &[Value]) -> Result<(), PartFault>
+fn push_texts(cells: &mut TextList, values: &[Value]) -> Result<(), PartFault>
     ensures pushed { OnOk result
         (option_map (λ texts. cells.old ++ texts) (each text_in (map view values.now)) ≡ Some cells.new) }
     ensures full { OnOk result (length cells.new ≡ length cells.old + length values.now) }
     ensures none { IsErrOf result PartFault.WrongForm → each text_in (map view values.now) ≡ None }
 {
     'values: for value in values {
-        cells.push(Text::read(alloc, &(), value)?)?;
+        let Some(text) = short_str(value) else {
+            return Err(PartFault::WrongForm);
+        };
+        cells.push(text)?;
     }
     Ok(())
 }

@@ -5,4 +5,6 @@ pub mod Lists
 pub mod Options
 pub mod Pushed
 pub mod Rows
+pub mod Slices
+pub mod TextLists
 pub mod Utf8

@@ -9,5 +9,6 @@ pub mod Places
 pub mod Plans
 pub mod Shared
 pub mod Sinks
+pub mod TextLists
 pub mod Texts
 pub mod Words

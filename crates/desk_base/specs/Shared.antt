@@ -1,12 +1,22 @@
 -- The bytes of a text, which its copies share.
-use Rattle.std.specs.Prelude.{ℕ, ◌<◌, ◌≤◌, List, [], length, IfSome, Option, Some, None}
+use Rattle.std.specs.Prelude.{ℕ, ◌<◌, ◌≤◌, List, [], length, ⊤}
+use Rattle.std.specs.Rc.{rc_str_bytes}
 use Rattle.desk_base.specs.declared.limits.TheConstants.{MAX_TEXT}
+use Rattle.desk_base.specs.declared.text.Content.{Content}
+use Rattle.desk_base.specs.declared.text.Content.TheVariants.{Blank, Short, Long}
 
--- the bytes that are shared, of which a blank has none
-abbrev pub shared_bytes : Option (List ℕ) → List ℕ
-shared_bytes None = []
-shared_bytes (Some content) = content
+-- the bytes, wherever they lie
+abbrev pub content_bytes : Content → List ℕ
+content_bytes Blank = []
+content_bytes (Short short) = short.value.bytes
+content_bytes (Long long) = rc_str_bytes long
 
--- some are shared, and not too many; or it is a blank
-abbrev pub IsShared : Option (List ℕ) → Type 0
-IsShared shared = IfSome shared (λ content. (0 < length content) × (length content ≤ MAX_TEXT))
+-- some bytes, and not too many
+abbrev pub FitsCell : List ℕ → Type 0
+FitsCell bytes = (0 < length bytes) × (length bytes ≤ MAX_TEXT)
+
+-- it is a blank, or some bytes and not too many
+abbrev pub IsCellText : Content → Type 0
+IsCellText Blank = ⊤
+IsCellText (Short short) = FitsCell short.value.bytes
+IsCellText (Long long) = FitsCell (rc_str_bytes long)

@@ -1,9 +1,9 @@
 //! What every crate of the desk stands on: cells and lists that never abort for want of memory, a
 //! grid of master data, counted steps, and the streams that a program reads and writes.
 //!
-//! A clause sees a `Text` as its bytes, a `List` or a `Shared` list as its items, a `Room` as its items and the places
-//! that are reserved after them, a `Grid` as its rows of cells, and a `Source` or a `Sink` as the
-//! bytes that it has left or holds, with a count of its faults. `specs/` says what the words mean.
+//! A clause sees a `Text` as its bytes, a `List` or a `Shared` list as its items, a `TextList` as its texts, a `Room` as
+//! its items and the places that are reserved after them, a `Grid` as its rows of cells, and a `Source` or a `Sink` as
+//! the bytes that it has left or holds, with a count of its faults. `specs/` says what the words mean.
 #![tactic(auto)]
 
 mod both;
@@ -22,6 +22,7 @@ mod source;
 mod steps;
 mod str;
 mod text;
+mod text_list;
 mod words;
 
 pub use both::Both;
@@ -46,4 +47,5 @@ pub use source::{Source, StdSource};
 pub use steps::Steps;
 pub use str::Str;
 pub use text::{Text, TextFault};
+pub use text_list::TextList;
 pub use words::{is_name, is_word, is_word_byte, starts_word};

@@ -5,13 +5,21 @@ use crate::duplicate::{Duplicate, copies};
 use crate::error::NoMemory;
 use crate::list::List;
 use std::alloc::Global;
+use std::fmt;
 use std::marker::Model;
 use std::rc::RcSlice;
 
 /// A list that stays as it is. A copy shares its items, so it costs the same for any length.
-#[derive(Debug, Drop)]
+#[derive(Drop)]
 pub struct Shared<T> {
     items: RcSlice<T>,
+}
+
+/// A list is shown as its items, whoever shares them.
+impl<T: fmt::Debug> fmt::Debug for Shared<T> {
+    fn fmt<W: fmt::Write>(&self, f: &mut fmt::Formatter<W>) -> fmt::Result {
+        fmt::Debug::fmt(self.items.as_slice(), f)
+    }
 }
 
 impl<T> Model for Shared<T> {

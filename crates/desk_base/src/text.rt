@@ -5,28 +5,38 @@ ghost use Rattle.std.specs.Prelude.{◌≡◌, ◌==◌, ◌<◌, ◌≤◌, ◌
 use crate::duplicate::Duplicate;
 use crate::error::NoMemory;
 use crate::limits::MAX_TEXT;
+use arrayvec::ArrayString;
 use std::alloc::Global;
+use std::fmt;
 use std::marker::Model;
-use std::rc::RcStr;
+use std::rc::{Rc, RcStr};
 use thiserror::Error;
 
 /// The text of one cell. The empty text is a blank. A copy shares its bytes, so it costs the same for any length.
-#[derive(Debug)]
 pub struct Text {
-    /// The bytes, or none for a blank.
-    content: Option<RcStr>,
+    content: Content,
+}
+
+/// The bytes of a text, in as few blocks of memory as there can be.
+#[derive(Drop)]
+enum Content {
+    /// There are none.
+    Blank,
+    /// At most 16 bytes, in one block with the count of those who share it.
+    Short(Rc<ArrayString<16>>),
+    /// More bytes, in a block of their own.
+    Long(RcStr),
 }
 
 impl Model for Text {
-    ghost use Rattle.std.specs.Prelude.{ℕ, List, option_map};
-    ghost use Rattle.std.specs.Rc.{rc_str_bytes};
-    ghost use Rattle.desk_base.specs.Shared.{IsShared, shared_bytes};
+    ghost use Rattle.std.specs.Prelude.{ℕ, List};
+    ghost use Rattle.desk_base.specs.Shared.{IsCellText, content_bytes};
 
     ghost Value = { List ℕ };
 
-    ghost view = { λ t. shared_bytes (option_map rc_str_bytes t.content) };
+    ghost view = { λ t. content_bytes t.content };
 
-    ghost invariant = { λ t. IsShared (option_map rc_str_bytes t.content) };
+    ghost invariant = { λ t. IsCellText t.content };
 }
 
 /// One call lets a text go, whatever owned it (`docs/gate.md`).
@@ -34,6 +44,13 @@ impl Drop for Text {
     fn drop(self) {
         let Text { content } = self;
         drop(content);
+    }
+}
+
+/// A text is shown as a string of Rust's is.
+impl fmt::Debug for Text {
+    fn fmt<W: fmt::Write>(&self, f: &mut fmt::Formatter<W>) -> fmt::Result {
+        fmt::Debug::fmt(&self.as_str(), f)
     }
 }
 
@@ -85,12 +102,15 @@ impl Text {
         ensures { IfOk result (λ made. made ≡ text.now) }
     {
         if text.is_empty() {
-            return Ok(Text { content: None });
+            return Ok(Text {
+                content: Content::Blank,
+            });
         }
-        let content = RcStr::from_str(alloc, text)?;
-        Ok(Text {
-            content: Some(content),
-        })
+        let content = match ArrayString::from(text) {
+            Ok(short) => Content::Short(Rc::new(alloc, short)?),
+            Err(_longer) => Content::Long(RcStr::from_str(alloc, text)?),
+        };
+        Ok(Text { content })
     }
 
     /// The text as Rust's, of at most 200 bytes.
@@ -100,8 +120,9 @@ impl Text {
         ensures utf8 { IsUtf8 self.now }
     {
         match &self.content {
-            Some(content) => content.as_str(),
-            None => "",
+            Content::Blank => "",
+            Content::Short(short) => short.as_ref().as_str(),
+            Content::Long(long) => long.as_str(),
         }
     }
 
@@ -109,15 +130,19 @@ impl Text {
     pub fn is_blank(&self) -> bool
         ensures { IsTrue result ↔ (self.now ≡ []) }
     {
-        self.content.is_none()
+        match &self.content {
+            Content::Blank => true,
+            Content::Short(_) | Content::Long(_) => false,
+        }
     }
 }
 
 impl Duplicate for Text {
     fn copy(&self) -> Result<Text, NoMemory> {
         let content = match &self.content {
-            Some(content) => Some(content.clone()?),
-            None => None,
+            Content::Blank => Content::Blank,
+            Content::Short(short) => Content::Short(short.clone()?),
+            Content::Long(long) => Content::Long(long.clone()?),
         };
         Ok(Text { content })
     }

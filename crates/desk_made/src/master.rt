@@ -1,5 +1,5 @@
 //! The master `m`.
-ghost use Rattle.std.specs.Prelude.{◌≡◌, ◌<◌, ◌≤◌, length, IfOk};
+ghost use Rattle.std.specs.Prelude.{◌≡◌, ◌<◌, ◌≤◌, ◌∷◌, ◌++◌, [], length, IfOk, OnOk};
 ghost use Rattle.desk_base.specs.declared.limits.TheConstants.{MAX_ROWS};
 ghost use Rattle.master_rows.specs.Master.{IsMaster};
 ghost use Rattle.desk_made.specs.Master.{master, numbered, row, rows_of};
@@ -32,21 +32,22 @@ fn rows_of(alloc: Global, count: u32) -> Result<Grid, NoMemory>
 {
     let mut grid = Grid::new(alloc, 3);
     'numbers: for number in 0..count {
-        grid.push_row(row(alloc, number)?)?;
+        push_row(alloc, &mut grid, number)?;
     }
     Ok(grid)
 }
 
-/// The row with a number.
-fn row(alloc: Global, number: u32) -> Result<List<Text>, NoMemory>
-    requires { number < ROWS }
-    ensures { IfOk result (λ texts. texts ≡ row number) }
+/// Adds the row with a number.
+fn push_row(alloc: Global, grid: &mut Grid, number: u32) -> Result<(), NoMemory>
+    requires number { number < ROWS }
+    requires columns { grid.old.columns ≡ 3 }
+    requires room { length grid.old.rows < MAX_ROWS }
+    ensures { OnOk result (grid.new ≡ record grid.old { rows = grid.old.rows ++ row number ∷ [] }) }
 {
-    let mut texts = List::new(alloc);
-    texts.push(numbered(alloc, "k", number)?)?;
-    texts.push(numbered(alloc, "k", (7 * number + 1) % ROWS)?)?;
-    texts.push(numbered(alloc, "z", number)?)?;
-    Ok(texts)
+    let key = numbered(alloc, "k", number)?;
+    let other = numbered(alloc, "k", (7 * number + 1) % ROWS)?;
+    let last = numbered(alloc, "z", number)?;
+    grid.push_row(&[key.as_str(), other.as_str(), last.as_str()])
 }
 
 /// A text with a number after it.

@@ -7,9 +7,9 @@ ghost use Rattle.fix_engine.specs.Verdicts.{IsAnswer};
 ghost use Rattle.fix_choices.specs.Choices.{choice_at, choices_between, choices_of, differs, ending_at};
 
 use crate::choice::{Choice, Ending};
-use desk_base::{Duplicate, List, NoMemory, Text};
+use desk_base::{Duplicate, List, NoMemory};
 use fix_engine::{Verdict, apply};
-use fix_model::{Book, State, Step, value};
+use fix_model::{Book, State, Step, value, value_text};
 use std::alloc::Global;
 
 /// The choices of an answer with these two runs: at a conflict the attributes whose texts differ at the two ends, in
@@ -82,16 +82,7 @@ pub fn differs<L, B: Book<L>>(book: &B, first: &State, second: &State, attribute
     requires within { attribute < (B.kit book.now).width }
     ensures { result ≡ differs (B.kit book.now) first.now second.now attribute }
 {
-    !are_equal(
-        value::<L, B>(book, first, attribute),
-        value::<L, B>(book, second, attribute),
-    )
-}
-
-fn are_equal(one: &Text, other: &Text) -> bool
-    ensures { result ≡ bytes_eq one.now other.now }
-{
-    one.as_str() == other.as_str()
+    value::<L, B>(book, first, attribute) != value::<L, B>(book, second, attribute)
 }
 
 /// The attribute with what it has at the two ends.
@@ -120,7 +111,7 @@ fn ending_at<L, B: Book<L>>(book: &B, end: &State, attribute: u16) -> Result<End
     ensures { IfOk result (λ ending. ending ≡ ending_at (B.kit book.now) end.now attribute) }
 {
     Ok(Ending {
-        text: value::<L, B>(book, end, attribute).copy()?,
+        text: value_text::<L, B>(book, end, attribute)?,
         step: end.fixed_by(attribute),
     })
 }

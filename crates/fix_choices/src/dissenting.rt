@@ -7,9 +7,9 @@ ghost use Rattle.fix_choices.specs.Dissents.{dissent_at, dissent_of};
 
 use crate::choosing::end_of;
 use crate::dissents::Dissent;
-use desk_base::{Duplicate, NoMemory};
+use desk_base::{NoMemory, Text};
 use fix_engine::Verdict;
-use fix_model::{Book, State, Step, value};
+use fix_model::{Book, State, Step, value_text};
 
 /// The dissent of an answer with this first run: at a fix from which a step dissents, what the record has and what the
 /// least such step would have copied; else none. The one refusal is want of memory for the texts.
@@ -44,8 +44,8 @@ fn dissent_at<L, B: Book<L>>(book: &B, end: &State, step: Step) -> Result<Dissen
     let attribute = book.rules()[usize::from(step.rule)].head;
     Ok(Dissent {
         attribute,
-        text: value::<L, B>(book, end, attribute).copy()?,
+        text: value_text::<L, B>(book, end, attribute)?,
         step,
-        other: book.text(step).copy()?,
+        other: Text::of(end.typed.allocator(), book.text(step))?,
     })
 }

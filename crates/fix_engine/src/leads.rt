@@ -204,5 +204,5 @@ fn gives_text<L, B: Book<L>>(book: &B, state: &State, step: Step) -> bool
     ensures { IsTrue result ↔ Keeps (B.kit book.now) state.now step }
 {
     let head = book.rules()[usize::from(step.rule)].head;
-    book.text(step).as_str() == value::<L, B>(book, state, head).as_str()
+    book.text(step) == value::<L, B>(book, state, head)
 }

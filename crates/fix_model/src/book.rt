@@ -1,5 +1,5 @@
 //! Look-ups over one valid kit.
-ghost use Rattle.std.specs.Prelude.{◌≡◌, ◌+◌, ◌-◌, ◌^◌, ◌<◌, ◌≤◌, ◌↔◌, All, min, length, IsTrue, slice_index_or};
+ghost use Rattle.std.specs.Prelude.{◌≡◌, ◌+◌, ◌-◌, ◌^◌, ◌<◌, ◌≤◌, ◌↔◌, All, IfOk, min, length, IsTrue, slice_index_or};
 ghost use Rattle.fix_model.specs.declared.kit.Kit.{Kit as KitOf};
 ghost use Rattle.fix_model.specs.Hit.{IsFound, SharesLook, SomeRowAgrees};
 ghost use Rattle.fix_model.specs.Rules.{rule_at, step_text, IsStepOf, is_folded};
@@ -11,7 +11,7 @@ ghost use Rattle.fix_model.specs.Waits.{NoneWaitsBefore};
 use crate::pattern::matches;
 use crate::rule::Rule;
 use crate::state::{State, Step};
-use desk_base::{Steps, Text};
+use desk_base::{Duplicate, MAX_TEXT, NoMemory, Steps, Text};
 
 /// What a look for master rows found: the least usable row that agrees with the record at the rule's
 /// keys, and the least such row that gives another text, or none. Rows count from 0.
@@ -41,10 +41,11 @@ pub trait Book<L> {
         requires { attribute < (kit self.now).width }
         ensures { result ≡ is_folded (kit self.now) attribute };
 
-    /// The text that the step gives to the head of its rule.
-    fn text(&self, step: Step) -> &Text
+    /// The text that the step gives to the head of its rule, of at most 200 bytes.
+    fn text(&self, step: Step) -> &str
         requires { IsStepOf (kit self.now) step }
-        ensures { result.now ≡ step_text (kit self.now) step };
+        ensures text { result.now ≡ step_text (kit self.now) step }
+        ensures fits { length result.now ≤ MAX_TEXT };
 
     /// The rule itself, or an earlier one with the same keys, conditions, master and `from`, so that one look serves
     /// both. How early it is stays open.
@@ -79,14 +80,27 @@ pub trait Book<L> {
 }
 
 /// The value of an attribute, counted from 0: the text of the step that fixed it, else the typed text.
-pub fn value<'a, L, B: Book<L>>(book: &'a B, state: &'a State, attribute: u16) -> &'a Text
+pub fn value<'a, L, B: Book<L>>(book: &'a B, state: &'a State, attribute: u16) -> &'a str
     requires fits { Fits (B.kit book.now) state.now }
     requires attribute_within { attribute < (B.kit book.now).width }
-    ensures { result.now ≡ value_at (B.kit book.now) state.now attribute }
+    ensures text { result.now ≡ value_at (B.kit book.now) state.now attribute }
+    ensures fits { length result.now ≤ MAX_TEXT }
 {
     match state.fixed_by(attribute) {
         Some(step) => book.text(step),
-        None => &state.typed.as_slice()[usize::from(attribute)],
+        None => state.typed.as_slice()[usize::from(attribute)].as_str(),
+    }
+}
+
+/// The value of an attribute, counted from 0, as a text of its own.
+pub fn value_text<L, B: Book<L>>(book: &B, state: &State, attribute: u16) -> Result<Text, NoMemory>
+    requires fits { Fits (B.kit book.now) state.now }
+    requires attribute_within { attribute < (B.kit book.now).width }
+    ensures { IfOk result (λ text. text ≡ value_at (B.kit book.now) state.now attribute) }
+{
+    match state.fixed_by(attribute) {
+        Some(step) => Text::of(state.typed.allocator(), book.text(step)),
+        None => state.typed.as_slice()[usize::from(attribute)].copy(),
     }
 }
 

@@ -4,12 +4,12 @@ ghost use Rattle.fix_model.specs.Valid.{IsValid, IsValidRule, AreValidKeys, AreV
 ghost use Rattle.fix_model.specs.States.{Fits, value_at};
 ghost use Rattle.fix_model.specs.Rules.{rule_at, master_of, step_text, IsStepOf, is_folded};
 
-use crate::pattern::{Pat, is_sized};
+use crate::pattern::is_sized;
 use crate::rule::Rule;
 use crate::state::{State, Step};
 use desk_base::{
     Duplicate, Grid, List, MAX_ATTRIBUTES, MAX_CONDITIONS, MAX_KEYS, MAX_MASTERS, MAX_RULES,
-    NoMemory, Text,
+    MAX_TEXT, NoMemory,
 };
 
 /// Editing rules over the attributes of one schema, with the master data that they look into.
@@ -78,25 +78,27 @@ impl Kit {
     }
 
     /// The text that a step gives to the head of its rule.
-    pub fn step_text(&self, step: Step) -> &Text
+    pub fn step_text(&self, step: Step) -> &str
         requires valid { IsValid self.now }
         requires step { IsStepOf self.now step }
-        ensures { result.now ≡ step_text self.now step }
+        ensures text { result.now ≡ step_text self.now step }
+        ensures fits { length result.now ≤ MAX_TEXT }
     {
         let rule = self.rule(step.rule);
         self.master(rule).cell(step.row, rule.from)
     }
 
     /// The value of an attribute, as `value` has it over a book.
-    pub fn value<'a>(&'a self, state: &'a State, attribute: u16) -> &'a Text
+    pub fn value<'a>(&'a self, state: &'a State, attribute: u16) -> &'a str
         requires valid { IsValid self.now }
         requires fits { Fits self.now state.now }
         requires attribute_within { attribute < self.now.width }
-        ensures { result.now ≡ value_at self.now state.now attribute }
+        ensures text { result.now ≡ value_at self.now state.now attribute }
+        ensures fits { length result.now ≤ MAX_TEXT }
     {
         match state.fixed_by(attribute) {
             Some(step) => self.step_text(step),
-            None => &state.typed.as_slice()[usize::from(attribute)],
+            None => state.typed.as_slice()[usize::from(attribute)].as_str(),
         }
     }
 

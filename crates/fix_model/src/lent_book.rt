@@ -13,7 +13,7 @@ use crate::rule::Rule;
 use crate::sharing::earliest_for;
 use crate::state::{State, Step};
 use crate::waiting::first_waiting;
-use desk_base::{Grid, Steps, Text};
+use desk_base::{Grid, Steps};
 use std::marker::Model;
 
 /// A valid kit that is lent, as a book. Each look goes through the rows of the rule's master.
@@ -58,7 +58,7 @@ impl<'a, L> Book<L> for LentBook<'a> {
         self.inside.folds(attribute)
     }
 
-    fn text(&self, step: Step) -> &Text {
+    fn text(&self, step: Step) -> &str {
         self.inside.step_text(step)
     }
 

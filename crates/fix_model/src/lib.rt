@@ -25,7 +25,7 @@ mod state;
 mod waiting;
 
 pub use application::fires;
-pub use book::{Book, Hit, covers_left_side, enabled, has_covered_keys, value};
+pub use book::{Book, Hit, covers_left_side, enabled, has_covered_keys, value, value_text};
 pub use comparison::{alike, text_order};
 pub use kit::Kit;
 pub use lent_book::some_row_agrees;

@@ -8,7 +8,7 @@ use crate::rule::Rule;
 use crate::sharing::earliest_for;
 use crate::state::{State, Step};
 use crate::waiting::first_waiting;
-use desk_base::{Steps, Text};
+use desk_base::Steps;
 use std::marker::Model;
 
 /// A valid kit as a book. Each look goes through the rows of the rule's master.
@@ -53,7 +53,7 @@ impl<L> Book<L> for ListBook {
         self.inside.folds(attribute)
     }
 
-    fn text(&self, step: Step) -> &Text {
+    fn text(&self, step: Step) -> &str {
         self.inside.step_text(step)
     }
 

@@ -37,8 +37,8 @@ fn order_at_keys(kit: &Kit, rule: &Rule, row: u32, state: &State) -> Ordering
 {
     let master = kit.master(rule);
     'keys: for key in rule.keys.as_slice() {
-        let cell = master.cell(row, key.1).as_str();
-        let text = kit.value(state, key.0).as_str();
+        let cell = master.cell(row, key.1);
+        let text = kit.value(state, key.0);
         let order = text_order(cell, text, kit.folds(key.0));
         if order.is_ne() {
             return order;

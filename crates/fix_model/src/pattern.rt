@@ -23,25 +23,25 @@ pub enum Pat {
 }
 
 /// Whether the pattern matches the text, at an attribute that is folded or not.
-pub fn matches(pat: &Pat, text: &Text, folded: bool) -> bool
+pub fn matches(pat: &Pat, text: &str, folded: bool) -> bool
     ensures { IsTrue result ↔ Matches folded pat.now text.now }
 {
     match pat {
-        Pat::Is(constant) => alike(constant.as_str(), text.as_str(), folded),
-        Pat::IsNot(constant) => !alike(constant.as_str(), text.as_str(), folded),
+        Pat::Is(constant) => alike(constant.as_str(), text, folded),
+        Pat::IsNot(constant) => !alike(constant.as_str(), text, folded),
         Pat::OneOf(texts) => is_among(texts, text, folded),
         Pat::NoneOf(texts) => !is_among(texts, text, folded),
         Pat::Any => true,
     }
 }
 
-fn is_among(texts: &List<Text>, text: &Text, folded: bool) -> bool
+fn is_among(texts: &List<Text>, text: &str, folded: bool) -> bool
     ensures { IsTrue result ↔ IsAmong (AreAlike folded) texts.now text.now }
 {
     texts
         .as_slice()
         .iter()
-        .any(|one| alike(one.as_str(), text.as_str(), folded))
+        .any(|one| alike(one.as_str(), text, folded))
 }
 
 /// Whether a finite set has 1 to 64 texts.

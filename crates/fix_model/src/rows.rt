@@ -64,7 +64,7 @@ impl<'a> Sought<'a> {
         };
         'keys: for key in rule.keys.as_slice() {
             if state.covers(key.0) {
-                let text = kit.value(state, key.0).as_str();
+                let text = kit.value(state, key.0);
                 sought.add(key.1, text, kit.folds(key.0));
             }
         }
@@ -106,8 +106,7 @@ impl<'a> Sought<'a> {
         if !self.agrees(master, rule, row) {
             return false;
         }
-        let text = master.cell(row, rule.from).as_str();
-        text != master.cell(first, rule.from).as_str()
+        master.cell(row, rule.from) != master.cell(first, rule.from)
     }
 
     fn is_alike(&self, master: &Grid, row: u32) -> bool
@@ -117,7 +116,7 @@ impl<'a> Sought<'a> {
             ↔ All (λ aim. AreAlike aim.folded aim.text (cell_text master.now row aim.column)) self.now }
     {
         'texts: for sought in &self.texts[..self.count] {
-            let cell = master.cell(row, sought.column).as_str();
+            let cell = master.cell(row, sought.column);
             if !alike(sought.text, cell, sought.folded) {
                 return false;
             }
@@ -133,7 +132,7 @@ pub fn is_usable(master: &Grid, rule: &Rule, row: u32) -> bool
     requires from { rule.now.from < master.now.columns }
     ensures { IsTrue result ↔ IsUsableIn master.now rule.now row }
 {
-    !master.cell(row, rule.from).is_blank() && has_usable_keys(master, rule, row)
+    !master.cell(row, rule.from).is_empty() && has_usable_keys(master, rule, row)
 }
 
 fn has_usable_keys(master: &Grid, rule: &Rule, row: u32) -> bool
@@ -142,7 +141,7 @@ fn has_usable_keys(master: &Grid, rule: &Rule, row: u32) -> bool
     ensures { IsTrue result ↔ All (λ key. cell_text master.now row key.1 ≢ []) rule.now.keys }
 {
     'keys: for key in rule.keys.as_slice() {
-        if master.cell(row, key.1).is_blank() {
+        if master.cell(row, key.1).is_empty() {
             return false;
         }
     }

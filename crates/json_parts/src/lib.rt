@@ -10,5 +10,5 @@ mod parts;
 mod writing;
 
 pub use fault::PartFault;
-pub use parts::{Part, has_keys, items, json_of, number, read_field};
+pub use parts::{Part, has_keys, items, json_of, number, read_field, short_str};
 pub use writing::JsonText;

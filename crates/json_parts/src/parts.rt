@@ -1,5 +1,5 @@
 //! Parts of a JSON value, where it has the form that is wanted.
-ghost use Rattle.std.specs.Prelude.{◌≡◌, Option, Some, None, option_map, map, IfOk, IsErrOf};
+ghost use Rattle.std.specs.Prelude.{◌≡◌, Option, Some, None, option_map, map, length, ◌≤◌, IfOk, IfSome, IsErrOf};
 ghost use Rattle.std.specs.Cmp.Lexicographic.{pointwise};
 ghost use Rattle.std.specs.Str.{bytes_eq};
 ghost use Rattle.serde_json.specs.Data.{Data};
@@ -49,14 +49,23 @@ impl<C> Part<C> for Text {
     ghost part_in = { λ _. text_in };
 
     fn read(alloc: Global, _context: &C, value: &Value) -> Result<Text, PartFault> {
-        let Some(text) = value.as_str() else {
-            return Err(PartFault::WrongForm);
-        };
-        if text.len() > MAX_TEXT {
-            return Err(PartFault::WrongForm);
+        match short_str(value) {
+            Some(text) => Ok(Text::of(alloc, text)?),
+            None => Err(PartFault::WrongForm),
         }
-        Ok(Text::of(alloc, text)?)
     }
+}
+
+/// The string that the value is, where it is one of at most 200 bytes.
+pub fn short_str(value: &Value) -> Option<&str>
+    ensures text { option_map (λ text. text.now) result ≡ text_in (view value.now) }
+    ensures fits { IfSome result (λ text. length text.now ≤ MAX_TEXT) }
+{
+    let text = value.as_str()?;
+    if text.len() > MAX_TEXT {
+        return None;
+    }
+    Some(text)
 }
 
 impl<C, T: Part<C> + Drop> Part<C> for List<T> {

@@ -99,5 +99,5 @@ fn gives_same(kit: &Kit, rule: &Rule, row: u32, other: u32) -> bool
     ensures { IsTrue result ↔ (from_text kit.now rule.now row ≡ from_text kit.now rule.now other) }
 {
     let master = kit.master(rule);
-    master.cell(row, rule.from).as_str() == master.cell(other, rule.from).as_str()
+    master.cell(row, rule.from) == master.cell(other, rule.from)
 }

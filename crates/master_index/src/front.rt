@@ -18,7 +18,7 @@ pub(crate) fn row_front(kit: &Kit, rule: &Rule, row: u32) -> u64
     ensures { IsKeyFront (row_key kit.now rule.now row) result }
 {
     let key = rule.keys.as_slice()[0];
-    front_of(kit.master(rule).cell(row, key.1).as_str(), kit.folds(key.0))
+    front_of(kit.master(rule).cell(row, key.1), kit.folds(key.0))
 }
 
 /// The front of the key that is sought for the record.
@@ -29,7 +29,7 @@ pub(crate) fn sought_front(kit: &Kit, rule: &Rule, state: &State) -> u64
     ensures { IsKeyFront (sought_key kit.now (value_at kit.now state.now) rule.now) result }
 {
     let key = rule.keys.as_slice()[0];
-    front_of(kit.value(state, key.0).as_str(), kit.folds(key.0))
+    front_of(kit.value(state, key.0), kit.folds(key.0))
 }
 
 /// The front of a text as it is compared, with its ASCII case or without.

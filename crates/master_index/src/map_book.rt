@@ -6,7 +6,7 @@ ghost use Rattle.fix_model.specs.Valid.{IsValid};
 use crate::error::BuildFault;
 use crate::index::Index;
 use crate::looks::{first_among, hit_among};
-use desk_base::{MAX_ENTRIES, Steps, Text};
+use desk_base::{MAX_ENTRIES, Steps};
 use fix_model::{Book, Hit, Kit, Rule, Sought, State, Step, first_waiting, some_row_agrees};
 use std::alloc::Global;
 use std::marker::Model;
@@ -66,7 +66,7 @@ impl<L> Book<L> for MapBook {
         self.inside.folds(attribute)
     }
 
-    fn text(&self, step: Step) -> &Text {
+    fn text(&self, step: Step) -> &str {
         self.inside.step_text(step)
     }
 

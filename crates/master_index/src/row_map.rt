@@ -1,10 +1,10 @@
 //! The rows of a master by the texts of one column.
-ghost use Rattle.std.specs.Prelude.{◌≡◌, ◌<◌, ◌∷◌, ◌++◌, [], ℕ, List, IfOk, OnOk, if◌then◌else◌};
+ghost use Rattle.std.specs.Prelude.{◌≡◌, ◌<◌, ◌≤◌, ◌∷◌, ◌++◌, [], ℕ, List, length, IfOk, OnOk, if◌then◌else◌};
 ghost use Rattle.std.specs.Str.{bytes_eq};
 ghost use Rattle.fix_model.specs.Alike.{compared};
 ghost use Rattle.master_index.specs.RowMap.{IsMapOf, rows_at};
 
-use desk_base::{Grid, MAX_TEXT, NoMemory, Text};
+use desk_base::{Grid, MAX_TEXT, NoMemory};
 use std::alloc::Global;
 use std::collections::BTreeMap;
 
@@ -31,7 +31,7 @@ impl RowMap {
         };
         'rows: for row in 0..grid.rows() {
             let text = grid.cell(row, column);
-            if !text.is_blank() {
+            if !text.is_empty() {
                 map.add(key_of(alloc, text, folded)?, row)?;
             }
         }
@@ -53,10 +53,11 @@ impl RowMap {
     }
 
     /// The rows whose text is alike this one. It succeeds whatever memory there is.
-    pub(crate) fn alike(&self, text: &Text, folded: bool) -> &[u32]
+    pub(crate) fn alike(&self, text: &str, folded: bool) -> &[u32]
+        requires { length text.now ≤ MAX_TEXT }
         ensures { result.now ≡ rows_at self.now (compared folded text.now) }
     {
-        let bytes = text.as_str().as_bytes();
+        let bytes = text.as_bytes();
         if !folded {
             return self.at(bytes);
         }
@@ -79,10 +80,10 @@ impl RowMap {
 }
 
 /// A text as it is compared.
-fn key_of(alloc: Global, text: &Text, folded: bool) -> Result<Vec<u8>, NoMemory>
+fn key_of(alloc: Global, text: &str, folded: bool) -> Result<Vec<u8>, NoMemory>
     ensures { IfOk result (λ key. key.items ≡ compared folded text.now) }
 {
-    let bytes = text.as_str().as_bytes();
+    let bytes = text.as_bytes();
     if folded {
         Ok(bytes.to_ascii_lowercase(alloc)?)
     } else {

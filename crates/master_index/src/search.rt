@@ -43,7 +43,7 @@ pub(crate) fn entry_at<L>(
     'halves: while low < high {
         let middle = low + (high - low) / 2;
         let both = (fronts[middle], sought);
-        match compare_by_fronts(both, kit, rule, entries[middle].first, state, counts) {
+        match compare_by_fronts(both, kit, rule, &entries[middle], state, counts) {
             Ordering::Less => low = middle + 1,
             Ordering::Equal => return Some(entries[middle]),
             Ordering::Greater => high = middle,
@@ -52,29 +52,29 @@ pub(crate) fn entry_at<L>(
     None
 }
 
-/// The order of a row of the rule's master and the record, as `compare` has it. Where the fronts of their keys differ,
-/// the row's and the record's, it is that of the fronts. It counts one comparison.
+/// The order of the row of an entry and the record, as `compare` has it. Where the fronts of their keys differ, the
+/// row's and the record's, it is that of the fronts, and the entry is not read. It counts one comparison.
 fn compare_by_fronts<L>(
     fronts: (u64, u64),
     kit: &Kit,
     rule: u16,
-    row: u32,
+    entry: &Hit,
     state: &State,
     counts: &mut Steps<L>,
 ) -> Ordering
     requires valid { IsValid kit.now }
     requires rule_within { rule < length kit.now.rules }
-    requires row_within { row < length (master_of kit.now (rule_at kit.now rule)).rows }
+    requires row_within { entry.now.first < length (master_of kit.now (rule_at kit.now rule)).rows }
     requires fits { Fits kit.now state.now }
-    requires row_front { IsKeyFront (row_key kit.now (rule_at kit.now rule) row) fronts.0 }
+    requires row_front { IsKeyFront (row_key kit.now (rule_at kit.now rule) entry.now.first) fronts.0 }
     requires sought_front { IsKeyFront
         (sought_key kit.now (value_at kit.now state.now) (rule_at kit.now rule)) fronts.1 }
-    ensures order { result ≡ key_order (row_key kit.now (rule_at kit.now rule) row)
+    ensures order { result ≡ key_order (row_key kit.now (rule_at kit.now rule) entry.now.first)
         (sought_key kit.now (value_at kit.now state.now) (rule_at kit.now rule)) }
     ensures compares { counts.new ≡ record counts.old { compares = min (counts.old.compares + 1) (2 ^ 64 - 1) } }
 {
     if fronts.0 == fronts.1 {
-        return compare(kit, rule, row, state, counts);
+        return compare(kit, rule, entry.first, state, counts);
     }
     counts.compare();
     fronts.0.cmp(&fronts.1)

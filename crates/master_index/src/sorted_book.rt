@@ -15,7 +15,7 @@ use crate::part::Part;
 use crate::search::entry_at;
 use crate::triples::Triples;
 use crate::waits::waits_of;
-use desk_base::{List, MAX_ENTRIES, NoMemory, Steps, Text};
+use desk_base::{List, MAX_ENTRIES, NoMemory, Steps};
 use fix_model::{Book, Hit, Kit, Rule, State, Step, has_covered_keys, some_row_agrees};
 use std::alloc::Global;
 use std::marker::Model;
@@ -133,7 +133,7 @@ impl<L> Book<L> for SortedBook {
         self.inside.folds(attribute)
     }
 
-    fn text(&self, step: Step) -> &Text {
+    fn text(&self, step: Step) -> &str {
         self.inside.step_text(step)
     }
 

@@ -120,7 +120,7 @@ fn cell_or_blank(grid: &Grid, row: u32, column: u16) -> &str
     ensures { result.now ≡ cell_text grid.now row column }
 {
     if row < grid.rows() {
-        grid.cell(row, column).as_str()
+        grid.cell(row, column)
     } else {
         ""
     }

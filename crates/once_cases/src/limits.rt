@@ -1,5 +1,5 @@
 //! The limit of an index.
-use desk_base::{Duplicate, Grid, List, Text};
+use desk_base::{Duplicate, Grid, List, TextList};
 use desk_cases::{Answer, Case};
 use fix_model::{Kit, Rule};
 use master_index::{BuildFault, MapBook, SortedBook};
@@ -74,10 +74,10 @@ fn rule(alloc: Global, triple: u16, head: u16) -> Result<Rule, Fail> {
 }
 
 fn grid(alloc: Global) -> Result<Grid, Fail> {
-    let mut cells = List::new(alloc);
+    let mut cells = TextList::new(alloc);
     for _ in 0..ROWS {
         for content in ["a", "b", "c", "d", "e"] {
-            cells.push(Text::of(alloc, content)?)?;
+            cells.push(content)?;
         }
     }
     if cells.len() != 5 * ROWS as usize {

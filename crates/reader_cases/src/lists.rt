@@ -1,8 +1,8 @@
 //! Lists, rooms, grids, counts, and the adapters over std.
 use crate::base::read;
 use desk_base::{
-    Both, Duplicate, Grid, List, Room, StdSink, StdSource, Steps, Str, Text, are_distinct,
-    flags_of, has_text, place_of, write_all,
+    Both, Duplicate, Grid, List, Room, StdSink, StdSource, Steps, Str, Text, TextList,
+    are_distinct, flags_of, has_text, place_of, write_all,
 };
 use desk_cases::{Answer, Case};
 use std::alloc::{AllocError, Global};
@@ -97,12 +97,21 @@ fn add_room(front: &[u64], last: u64, answer: &mut Answer) -> Result<(), Fail> {
 /// The cells of a grid of two columns, from its cells at once, each as its row, its column and its text; and how often
 /// its first column was looked at and compared.
 pub fn grid(case: &Case, answer: &mut Answer) -> Result<(), Fail> {
-    let cells = texts(answer.alloc(), case, "cells")?;
+    let cells = in_one_block(&texts(answer.alloc(), case, "cells")?)?;
     let rows = cells.len() / 2;
     if cells.len() != 2 * rows || rows > 20_000 {
         return Err(Fail::new("the cells of a case are no rows of two"));
     }
     add_grid(&Grid::from_cells(2, rows as u32, cells), answer)
+}
+
+/// The same texts, one after another in one block.
+fn in_one_block(texts: &List<Text>) -> Result<TextList, Fail> {
+    let mut list = TextList::new(texts.allocator());
+    for text in texts.as_slice() {
+        list.push(text.as_str())?;
+    }
+    Ok(list)
 }
 
 fn add_grid(grid: &Grid, answer: &mut Answer) -> Result<(), Fail> {
@@ -116,7 +125,7 @@ fn tell_cells(lines: &mut String, grid: &Grid) -> Result<Steps<()>, AllocError> 
     let mut steps = Steps::new(());
     for row in 0..grid.rows() {
         for column in 0..grid.columns() {
-            let text = grid.cell(row, column).as_str();
+            let text = grid.cell(row, column);
             writeln!(lines, "{row} {column} {text}")?;
             steps.compare();
         }

@@ -5,7 +5,7 @@ ghost use Rattle.fix_engine.specs.WorkSeen.{IsRoomFor, KeepsSize};
 ghost use Rattle.region_derive.specs.Derived.{AreDerived, ArePairs, texts_in};
 
 use crate::seen::Seen;
-use desk_base::{Duplicate, Grid, List, NoMemory, Steps, Text};
+use desk_base::{Grid, List, NoMemory, Steps, Text};
 use fix_engine::{Verdict, Work, judge};
 use fix_model::{Book, RowVerdict, row_state};
 use std::alloc::Global;
@@ -50,7 +50,7 @@ fn texts_of(alloc: Global, grid: &Grid, columns: &[u16], row: u32) -> Result<Lis
 {
     let mut texts = List::new(alloc);
     'columns: for column in columns {
-        texts.push(grid.cell(row, *column).copy()?)?;
+        texts.push(Text::of(alloc, grid.cell(row, *column))?)?;
     }
     Ok(texts)
 }

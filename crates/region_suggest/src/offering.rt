@@ -91,7 +91,7 @@ fn has_values<L, B: Book<L>>(book: &B, state: &State, attributes: &[u16], texts:
     ensures { IsTrue result ↔ (map (value_at (B.kit book.now) state.now) attributes.now ≡ texts.now) }
 {
     'attributes: for (place, attribute) in attributes.iter().enumerate() {
-        if value::<L, B>(book, state, *attribute).as_str() != texts[place].as_str() {
+        if value::<L, B>(book, state, *attribute) != texts[place].as_str() {
             return false;
         }
     }

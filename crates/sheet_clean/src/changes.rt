@@ -96,7 +96,7 @@ fn write_fixed<B: Book<()>>(
         (fixed_lines (B.kit book.now) setting.now number attribute cell.now (Some step)) count) }
     ensures one { IfOk result (λ count. count < 2) }
 {
-    if are_equal(cell, book.text(step).as_str().as_bytes()) {
+    if are_equal(cell, book.text(step).as_bytes()) {
         return Ok(0);
     }
     let digits = digits_of(alloc, number)?;
@@ -142,7 +142,7 @@ fn line_of<'a, B: Book<()>>(
             .as_bytes(),
     )?;
     line.push(cell)?;
-    line.push(book.text(step).as_str().as_bytes())?;
+    line.push(book.text(step).as_bytes())?;
     push_step(&mut line, setting, book, step, row)?;
     Ok(line)
 }

@@ -143,7 +143,7 @@ pub(crate) fn shown<'a, B: Book<()>>(
     ensures { result.now ≡ shown_at (B.kit book.now) end.now cell.now attribute }
 {
     match end.fixed_by(attribute) {
-        Some(step) => book.text(step).as_str().as_bytes(),
+        Some(step) => book.text(step).as_bytes(),
         None => cell,
     }
 }

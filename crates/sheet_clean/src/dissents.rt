@@ -72,8 +72,8 @@ fn line_of<'a, B: Book<()>>(
             .as_str()
             .as_bytes(),
     )?;
-    line.push(value::<(), B>(book, end, head).as_str().as_bytes())?;
+    line.push(value::<(), B>(book, end, head).as_bytes())?;
     push_step(&mut line, setting, book, step, row)?;
-    line.push(book.text(step).as_str().as_bytes())?;
+    line.push(book.text(step).as_bytes())?;
     Ok(line)
 }

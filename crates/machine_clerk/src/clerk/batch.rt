@@ -17,7 +17,7 @@ ghost use Rattle.machine_core.specs.Shelves.{AreHeld};
 use crate::clerk::bytes::{bytes_in, within_bytes};
 use crate::clerk::enter::new_session;
 use crate::clerk::opening::open_edition;
-use desk_base::{Duplicate, Grid, List, NoMemory, Str, Text};
+use desk_base::{Grid, List, NoMemory, Str, Text};
 use desk_words::{Act, BatchRow, Refusal, SessionRow, Tables, Which};
 use machine_core::{Column, Deed, Own, Stop, attribute_of, read_master, shelved, within};
 use master_index::Shelf;
@@ -218,7 +218,7 @@ fn cells_of(
     let mut cells = List::new(alloc);
     'columns: for place in 0..grid.columns() {
         let attribute = columns[usize::from(place)].attribute;
-        let text = grid.cell(row, place).copy()?;
+        let text = Text::of(alloc, grid.cell(row, place))?;
         cells.push((usize::from(attribute), text))?;
     }
     Ok(cells)
@@ -248,10 +248,10 @@ fn confirmed_of(
 }
 
 /// The cell is to be confirmed: its column has a star, and it is not blank.
-fn is_confirmed(column: &Column, text: &Text) -> bool
+fn is_confirmed(column: &Column, text: &str) -> bool
     ensures { result ≡ is_confirmed (column.now, text.now) }
 {
-    column.confirms && !text.as_str().is_empty()
+    column.confirms && !text.is_empty()
 }
 
 /// The bytes that are typed in sessions.

@@ -15,7 +15,7 @@ use crate::clerk::opening::open_session;
 use desk_base::{Duplicate, List, NoMemory, Steps, Text};
 use desk_words::{Accept, Act, RecordRow, Refusal, SessionRow, Stage, Tables};
 use fix_engine::{Verdict, Work, apply, decide};
-use fix_model::{Book, Cell, State, value};
+use fix_model::{Book, Cell, State, value_text};
 use machine_core::{Deed, Own, Stop, shelved, state_of};
 use master_index::{Shelf, Shelved, SortedBook};
 use std::alloc::Global;
@@ -147,7 +147,7 @@ fn texts_of(alloc: Global, book: &SortedBook, state: &State) -> Result<List<Text
     let width = Book::<()>::width(book);
     let mut texts = List::new(alloc);
     'attributes: for attribute in 0..width {
-        texts.push(value::<(), SortedBook>(book, state, attribute).copy()?)?;
+        texts.push(value_text::<(), SortedBook>(book, state, attribute)?)?;
     }
     Ok(texts)
 }

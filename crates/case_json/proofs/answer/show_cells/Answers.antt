@@ -21,8 +21,7 @@ attributes-preserved g c =
       c.as_slice.ensures,
       c.as_str-name.ensures.text,
       name,
-      c.as_str-text.ensures.text,
-      c.value.ensures,
+      c.value-text.ensures.text,
       c.from-place.ensures,
     ) in
     let rest = with_items-next c.attributes.out (attribute_shown names kit c.args.state.now) attribute kit.width

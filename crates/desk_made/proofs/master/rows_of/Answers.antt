@@ -3,10 +3,6 @@ use Rattle.std.proofs.lemmas.List.FromFn.{length-map-range_with_len, map-range_w
 use Rattle.desk_made.specs.Master.{row, rows_of}
 use Rattle.desk_made.proofs.master.rows_of.Goals as goal
 
-pub push_row-requires-clause-full : goal.push_row-requires-clause-full
-unfolding rows_of
-push_row-requires-clause-full c = rw (c.numbers.invariant, c.in_ok-row.ensures)
-
 pub push_row-requires-clause-room : goal.push_row-requires-clause-room
 unfolding rows_of
 push_row-requires-clause-room c =
@@ -17,4 +13,4 @@ unfolding rows_of
 numbers-preserved c =
     let number = c.numbers.number in
     let more = map-range_with_len_more row 0 number number (omega arith) in
-    rw more (rw (c.numbers.invariant, c.in_ok-row.ensures) at c.in_ok-push_row.ensures.pushed)
+    rw more (rw c.numbers.invariant at c.in_ok-push_row.ensures)

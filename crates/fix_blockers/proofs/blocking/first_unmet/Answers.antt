@@ -15,7 +15,7 @@ returns-then-not-matches g c =
     let cond = c.cond-item.result in
     let within : place < length conds = rw c.as_slice-cond-items.ensures at c.conds-test.true in
     let is : cond ≡ get_or conds place cond = rw c.as_slice-cond-items.ensures at c.cond-item.is in
-    let told = rw (c.folds.ensures, c.value-text.ensures) at c.matches.ensures in
+    let told = rw (c.folds.ensures, c.value-text.ensures.text) at c.matches.ensures in
     record {
       before = take place conds;
       pattern = cond.1;
@@ -38,7 +38,7 @@ conds-preserved g c =
     let cond = c.cond-item.result in
     let within : place < length conds = rw c.as_slice-cond-items.ensures at c.conds-test.true in
     let is : cond ≡ get_or conds place cond = rw c.as_slice-cond-items.ensures at c.cond-item.is in
-    let told = rw (c.folds.ensures, c.value-text.ensures) at c.matches.ensures in
+    let told = rw (c.folds.ensures, c.value-text.ensures.text) at c.matches.ensures in
     let met : IsMet kit state cond = told.0 c.if-not-matches.false in
     λ k d. below_more (λ (k : ℕ). IsMet kit state (get_or conds k d)) place (λ k below. c.conds.invariant k d below)
     (subst (IsMet kit state) (get_or_read conds place cond within is d) met) k

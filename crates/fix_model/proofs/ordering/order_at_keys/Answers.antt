@@ -18,11 +18,9 @@ order-at_keys : (c : After-text_order-order)
     ≡ at_keys c.args.kit.now (value_at c.args.kit.now c.args.state.now) c.args.rule.now c.args.row key key)
 order-at_keys c = rw (
   c.folds.ensures,
-  c.as_str-cell.ensures.text,
-  c.cell.ensures,
+  c.cell-cell.ensures.text,
   c.master-master.ensures,
-  c.as_str-text.ensures.text,
-  c.value.ensures,
+  c.value-text.ensures.text,
   c.as_slice-key-items.ensures,
 ) at c.text_order-order.ensures
 

@@ -9,5 +9,5 @@ pub returns-clause-order : goal.returns-clause-order
 returns-clause-order g c =
     let kit = c.args.kit.now in
     let rule = rule_at kit c.args.rule in
-    c.cmp.ensures ∙ key_order-fronts (row_key kit rule c.args.row) (sought_key kit (value_at kit c.args.state.now) rule)
+    c.cmp.ensures ∙ key_order-fronts (row_key kit rule c.args.entry.now.first) (sought_key kit (value_at kit c.args.state.now) rule)
     c.args.fronts.0 c.args.fronts.1 c.requires.row_front c.requires.sought_front c.if-fronts.false

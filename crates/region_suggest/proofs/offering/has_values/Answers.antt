@@ -17,10 +17,10 @@ returns-then-ne g c = (
       let text : c.index-texts-place.result ≡ get_or texts place [] =
       get_or_read texts place c.index-texts-place.result (rw c.requires.whole c.attributes-test.true)
       c.index-texts-place.is [] in
-      let shown : c.as_str.result.now ≡ c.as_str-in-attributes.result.now =
-      c.as_str.ensures.text ∙ c.value.ensures ∙ sym there ∙ sym text ∙ sym c.as_str-in-attributes.ensures.text in
-      let equal : pointwise eqb c.as_str.result.now c.as_str-in-attributes.result.now ≡ true =
-      rw shown (pointwise-same c.as_str-in-attributes.result.now) in
+      let shown : c.value.result.now ≡ c.as_str.result.now =
+      c.value.ensures.text ∙ sym there ∙ sym text ∙ sym c.as_str.ensures.text in
+      let equal : pointwise eqb c.value.result.now c.as_str.result.now ≡ true =
+      rw shown (pointwise-same c.as_str.result.now) in
       let clash : c.ne.result ≡ not true = c.ne.ensures ∙ ap not equal in
       let is = c.if-ne.true in
       cc),

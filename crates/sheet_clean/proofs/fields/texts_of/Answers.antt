@@ -2,7 +2,8 @@ use Rattle.std.proofs.Common.{◌++◌, ◌∷◌, [], ◌∙◌, ℕ, List, ap,
 use Rattle.std.proofs.lemmas.Str.{is_utf8-from_IsUtf8}
 use Rattle.desk_base.proofs.Utf8.{is_utf8-other}
 use Rattle.desk_base.specs.Texts.{bytes_of}
-use Rattle.master_rows.proofs.Records.{take-texts, list_all-other, list_all-next}
+use Rattle.desk_base.proofs.Slices.{take-texts}
+use Rattle.master_rows.proofs.Records.{list_all-other, list_all-next}
 use Rattle.sheet_clean.proofs.fields.texts_of.Goals as goal
 
 pub returns-in-Err-clause-utf8 : goal.returns-in-Err-clause-utf8

@@ -4,9 +4,9 @@ use Rattle.desk_base.proofs.grid.Grid.rows.Goals as goal
 
 pub returns-clause-rows : goal.returns-clause-rows
 returns-clause-rows c =
-    rw (← c.self.view_is) (sym (length-rows_of c.self.inside.width c.self.inside.count c.self.inside.cells.items))
+    rw (← c.self.view_is) (sym (length-rows_of c.self.inside.width c.self.inside.count c.self.inside.cells))
 
 pub returns-clause-full : goal.returns-clause-full
 returns-clause-full c =
     rw (← c.self.view_is)
-    (All-rows_of c.self.inside.width c.self.inside.count c.self.inside.cells.items c.self.invariant.1)
+    (All-rows_of c.self.inside.width c.self.inside.count c.self.inside.cells c.self.invariant.1)

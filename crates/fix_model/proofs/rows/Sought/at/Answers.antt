@@ -38,8 +38,7 @@ keys-preserved c =
           let covered : is_covering (cell_at state key.0)
           ≡ true = rw c.as_slice-key-items.ensures at (c.covers.ensures.0 w.if-covers.true) in
           let added = rw (
-            w.as_str-text.ensures.text,
-            w.value.ensures,
+            w.value-text.ensures.text,
             w.folds.ensures,
             c.as_slice-key-items.ensures,
             c.keys.invariant,

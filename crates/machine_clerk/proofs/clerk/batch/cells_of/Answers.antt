@@ -22,7 +22,7 @@ columns-preserved c =
     c.in_ok-push.ensures.pushed
     ∙ ap (λ one. c.columns.cells ++ (one, c.in_ok-text.text) ∷ []) attribute
     ∙ map-cells_more c.args.columns.now texts whole c.columns.place column none c.in_ok-text.text [] within refl
-    (c.in_ok-text.ensures.copied ∙ c.cell.ensures) attributed c.columns.cells c.columns.invariant
+    (c.in_ok-text.ensures ∙ c.cell.ensures.text) attributed c.columns.cells c.columns.invariant
 
 pub returns : goal.returns
 returns c =

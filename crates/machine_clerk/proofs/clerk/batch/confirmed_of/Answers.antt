@@ -24,11 +24,11 @@ columns-preserved c =
     elim c.if-is_confirmed.branch [
       | then-is_confirmed+in_ok-push w ↦ w.confirmed-is ∙ w.in_ok-push.ensures.pushed
           ∙ filter-cells_yes columns texts whole c.columns.place column none c.cell.result.now [] within here
-          c.cell.ensures attribute_of is_confirmed c.columns.confirmed c.columns.invariant
+          c.cell.ensures.text attribute_of is_confirmed c.columns.confirmed c.columns.invariant
           (sym c.is_confirmed.ensures ∙ w.if-is_confirmed.true)
       | else-is_confirmed w ↦ w.confirmed-is
           ∙ filter-cells_no columns texts whole c.columns.place column none c.cell.result.now [] within here
-          c.cell.ensures attribute_of is_confirmed c.columns.confirmed c.columns.invariant
+          c.cell.ensures.text attribute_of is_confirmed c.columns.confirmed c.columns.invariant
           (sym c.is_confirmed.ensures ∙ w.if-is_confirmed.false)
     ]
 

@@ -7,10 +7,10 @@ use Rattle.machine_clerk.proofs.clerk.commit.texts_of.Goals as goal
 
 pub attributes-preserved : goal.attributes-preserved
 attributes-preserved c =
-    let value : c.in_ok-copy.field-0 ≡ value_at c.args.book.now c.args.state.now c.attributes.attribute =
-    c.in_ok-copy.ensures.copied ∙ c.value.ensures in
+    let value : c.in_ok-value_text.field-0 ≡ value_at c.args.book.now c.args.state.now c.attributes.attribute =
+    c.in_ok-value_text.ensures in
     let so_far = map (value_at c.args.book.now c.args.state.now) (range_with_len 0 c.attributes.attribute) in
-    c.in_ok-push.ensures.pushed ∙ ap (λ texts. texts ++ c.in_ok-copy.field-0 ∷ []) c.attributes.invariant
+    c.in_ok-push.ensures.pushed ∙ ap (λ texts. texts ++ c.in_ok-value_text.field-0 ∷ []) c.attributes.invariant
     ∙ ap (λ text. so_far ++ text ∷ []) value
     ∙ sym (map-range-suc (value_at c.args.book.now c.args.state.now) c.attributes.attribute)
 
