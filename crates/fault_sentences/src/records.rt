@@ -5,8 +5,9 @@ ghost use Rattle.csv.specs.Records.{fields_of};
 ghost use Rattle.master_rows.specs.Sheet.{sheet_records};
 ghost use Rattle.fault_sentences.specs.Records.{equal_field, field_of, fields_at, other_field};
 
-use csv::{ByteRecord, ReaderBuilder};
+use csv::ByteRecord;
 use desk_base::{List, NoMemory, is_utf8};
+use master_rows::SheetRecords;
 use std::alloc::Global;
 
 /// The fields of the record at a place, none past the last. The sheet is read no further than there.
@@ -23,22 +24,14 @@ pub(crate) fn fields_at(alloc: Global, sheet: &[u8], place: u64) -> Result<List<
 fn record_at(alloc: Global, sheet: &[u8], place: u64) -> Result<Option<ByteRecord>, NoMemory>
     ensures { IfOk result (λ found. option_map fields_of found ≡ slice_get (sheet_records sheet.now) place) }
 {
-    let reader = ReaderBuilder::new()
-        .has_headers(false)
-        .flexible(true)
-        .from_reader(alloc, sheet);
+    let mut records = SheetRecords::of(alloc, b',', sheet);
+    let mut next = ByteRecord::new(alloc);
     let mut before = place;
-    'records: for next in reader.into_byte_records() {
-        match next {
-            Ok(record) => {
-                if before == 0 {
-                    return Ok(Some(record));
-                }
-                before -= 1;
-            }
-            // A sheet in memory is read without failing, so only memory was wanting.
-            Err(_) => return Err(NoMemory),
+    'records: while records.next_into(&mut next)? {
+        if before == 0 {
+            return Ok(Some(next));
         }
+        before -= 1;
     }
     Ok(None)
 }

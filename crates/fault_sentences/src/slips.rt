@@ -71,7 +71,7 @@ fn add_cell(
     requires column { column < grid.now.columns }
     ensures { OnOk result (slips.new ≡ slips.old ++ slip_at slip grid.now row column) }
 {
-    if is_slip(slip, grid.cell(row, column).as_str().as_bytes()) {
+    if is_slip(slip, grid.cell(row, column).as_bytes()) {
         slips.push((row, column))
     } else {
         Ok(())
@@ -159,7 +159,7 @@ fn cell_at(grid: &Grid, row: u32, column: u16) -> &[u8]
     ensures { result.now ≡ cell_text grid.now row column }
 {
     if row < grid.rows() && column < grid.columns() {
-        grid.cell(row, column).as_str().as_bytes()
+        grid.cell(row, column).as_bytes()
     } else {
         &[]
     }

@@ -56,20 +56,6 @@ list_all-fails_at test (x ∷ rest) (suc place) field h fails =
     let later = list_all-fails_at test rest place field h fails in
     elim (cases_Bool (test x)) [ inl passes ↦ rw (passes, later) refl | inr here ↦ rw here refl ]
 
--- what is left of the texts begins with that of the field at hand
-pub drop-texts : (fields : List (Bor (List ℕ))) (place : ℕ) (d : Bor (List ℕ)) → place < length fields
-    → drop place (bytes_of fields) ≡ (get_or fields place d).now ∷ drop (suc place) (bytes_of fields)
-drop-texts [] place d within = absurd (omega arith)
-drop-texts (x ∷ rest) zero d within = refl
-drop-texts (x ∷ rest) (suc place) d within = drop-texts rest place d (omega arith)
-
--- the front of the texts grows by that of the field at hand
-pub take-texts : (fields : List (Bor (List ℕ))) (place : ℕ) (d : Bor (List ℕ)) → place < length fields
-    → take (suc place) (bytes_of fields) ≡ take place (bytes_of fields) ++ (get_or fields place d).now ∷ []
-take-texts [] place d within = absurd (omega arith)
-take-texts (x ∷ rest) zero d within = refl
-take-texts (x ∷ rest) (suc place) d within = ap (λ l. x.now ∷ l) (take-texts rest place d (omega arith))
-
 -- where a field is no UTF-8, not all are
 pub list_all-other : (fields : List (Bor (List ℕ))) (place : ℕ) (d : Bor (List ℕ)) → place < length fields
     → is_utf8 (get_or fields place d).now ≡ false → list_all is_utf8 (bytes_of fields) ≡ false

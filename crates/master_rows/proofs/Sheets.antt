@@ -1,13 +1,13 @@
 -- What a reader has given of a sheet so far stands at the front of all its records, whatever stands between its fields.
 use Rattle.std.proofs.Common.{◌≡◌, ℕ, zero, suc, ◌+◌, ◌<◌, ◌≤◌, ◌==◌, List, [], ◌∷◌, ◌++◌, Bool, true, false, ◌||◌}
-use Rattle.std.proofs.Common.{if◌then◌else◌, length, length-append, append_assoc, refl, sym, ap, ◌∙◌, arith, inl, inr}
+use Rattle.std.proofs.Common.{if◌then◌else◌, length, length-append, refl, sym, ap, ◌∙◌, arith, inl, inr}
 use Rattle.std.specs.Prelude.{Option, Some, None, All}
 use Rattle.std.proofs.lemmas.Bool.{cases_Bool}
 use Rattle.std.proofs.lemmas.List.{append-nil}
 use Rattle.std.proofs.lemmas.List.Elements.{All-nil, All-cons}
 use Rattle.csv.specs.Machine.{Read, step, is_end, next_record, fields_after, field_after, ends_at_end, in_field}
 use Rattle.csv.specs.Machine.{start_record}
-use Rattle.csv.specs.Reading.{Reached, records, records_from, records_next, default_config}
+use Rattle.csv.specs.Reading.{Reached, records, records_from, records_next}
 use Rattle.csv.specs.declared.parser.State.{State}
 use Rattle.csv.specs.declared.parser.State.TheVariants as st
 use Rattle.csv.specs.declared.parser.Action.{Action}
@@ -150,29 +150,8 @@ records-reached : (delimiter : ℕ) (text rest : List ℕ) (rows : List (List (L
 records-reached delimiter text rest rows s h =
     reached_front delimiter (length text + 1) st.StartRecord s text rest rows refl (omega arith) h
 
--- so others follow them
-pub record HasLater (delimiter : ℕ) (text : List ℕ) (rows : List (List (List ℕ))) : Type 0 where
-  pub later : List (List (List ℕ))
-  pub records_are : records (delimited delimiter) text ≡ rows ++ later
-
-pub records-later : (delimiter : ℕ) (text rest : List ℕ) (rows : List (List (List ℕ))) (s : State)
-    → Reached (delimited delimiter) st.StartRecord text rows s rest → HasLater delimiter text rows
-records-later delimiter text rest rows s h =
-    let all = records-reached delimiter text rest rows s h in
-    record { later = records_from (delimited delimiter) all.fuel s rest; records_are = all.front }
-
--- what holds however the records that were reached go on holds of all records
-pub records-however : {X : Type 0} (f : List (List (List ℕ)) → X) (x : X) (delimiter : ℕ) (text rest : List ℕ)
-    (rows : List (List (List ℕ))) (row : List (List ℕ)) (s : State)
-    → Reached (delimited delimiter) st.StartRecord text (rows ++ row ∷ []) s rest
-    → ((later : List (List (List ℕ))) → f (rows ++ row ∷ later) ≡ x) → f (records (delimited delimiter) text) ≡ x
-records-however f x delimiter text rest rows row s h however =
-    let all = records-reached delimiter text rest (rows ++ row ∷ []) s h in
-    let later = records_from (delimited delimiter) all.fuel s rest in
-    ap f (all.front ∙ append_assoc rows (row ∷ []) later) ∙ however later
-
 -- where there is no next record, none are left
-records_from-none : (delimiter fuel : ℕ) (s : State) (rest : List ℕ)
+pub records_from-none : (delimiter fuel : ℕ) (s : State) (rest : List ℕ)
     → next_record (delimited delimiter) s [] [] rest ≡ None
     → records_from (delimited delimiter) fuel s rest ≡ []
 unfolding records_from
@@ -187,6 +166,47 @@ pub records-end : (delimiter : ℕ) (text rest : List ℕ) (rows : List (List (L
 records-end delimiter text rest rows s h end =
     let all = records-reached delimiter text rest rows s h in
     sym (all.front ∙ ap (λ more. rows ++ more) (records_from-none delimiter all.fuel s rest end) ∙ append-nil rows)
+
+-- where the reader stands between two records, it makes no difference how much is allowed to be read, if it is enough
+records_from-enough : (delimiter fuel more : ℕ) (s : State) (text : List ℕ) → ends_at_end s ≡ false
+    → length text < fuel → length text < more
+    → records_from (delimited delimiter) fuel s text ≡ records_from (delimited delimiter) more s text
+unfolding records_from
+records_from-enough delimiter zero more s text apart enough also = absurd (omega arith)
+records_from-enough delimiter (suc fuel) zero s text apart enough also = absurd (omega arith)
+records_from-enough delimiter (suc fuel) (suc more) s text apart enough also =
+    by (next_record (delimited delimiter) s [] [] text) refl
+    (λ state rest between less. records_from-enough delimiter fuel more state rest between (omega (arith, less))
+    (omega (arith, less)))
+  where
+    by : (next : Option Read) → next_record (delimited delimiter) s [] [] text ≡ next
+        → ((state : State) (rest : List ℕ) → ends_at_end state ≡ false → length rest < length text
+        → records_from (delimited delimiter) fuel state rest ≡ records_from (delimited delimiter) more state rest)
+        → records_next (records_from (delimited delimiter) fuel) next
+        ≡ records_next (records_from (delimited delimiter) more) next
+    by None is later = refl
+    by (Some (fields, state, rest)) is later =
+        let taken = next-taken delimiter s [] [] text (fields, state, rest) is in
+        ap (λ rows. fields ∷ rows) (later state rest taken.between (taken.shorter apart))
+
+-- the records that are left after a first one
+pub record AreNext (delimiter : ℕ) (all : List (List (List ℕ))) (read : Read) : Type 0 where
+  pub between : ends_at_end read.1 ≡ false
+  pub next : all ≡ read.0 ∷ records_from (delimited delimiter) (length read.2 + 1) read.1 read.2
+
+-- are those from the state that it leaves on
+pub records_from-next : (delimiter fuel : ℕ) (s : State) (text : List ℕ) (read : Read) → ends_at_end s ≡ false
+    → length text < fuel → next_record (delimited delimiter) s [] [] text ≡ Some read
+    → AreNext delimiter (records_from (delimited delimiter) fuel s text) read
+unfolding records_from
+records_from-next delimiter zero s text read apart enough is = absurd (omega arith)
+records_from-next delimiter (suc fuel) s text (fields, state, rest) apart enough is =
+    let taken = next-taken delimiter s [] [] text (fields, state, rest) is in
+    record {
+      between = taken.between;
+      next = rw is (ap (λ later. fields ∷ later) (records_from-enough delimiter fuel (length rest + 1) state rest
+          taken.between (omega (arith, taken.shorter apart)) (omega arith)));
+    }
 
 -- a record and those after it have fields where each has
 records_next-some : (next : Option Read) (more : State → List ℕ → List (List (List ℕ)))

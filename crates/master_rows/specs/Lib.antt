@@ -2,6 +2,7 @@ pub mod Mark
 pub mod Header
 pub mod Row
 pub mod Sheet
+pub mod Reading
 pub mod Outline
 pub mod Master
 pub mod Draft

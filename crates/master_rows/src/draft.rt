@@ -5,12 +5,12 @@ ghost use Rattle.csv.specs.Records.{fields_of};
 ghost use Rattle.master_rows.specs.Sheet.{records_within, sheet_records};
 ghost use Rattle.desk_base.specs.declared.limits.TheConstants.{MAX_SHEET_ROWS};
 
-use crate::error::{SheetFault, stopped};
-use crate::fields::fields_of;
+use crate::error::SheetFault;
 use crate::header::header_columns;
 use crate::master::Master;
 use crate::row::next_row;
-use csv::{ByteRecord, ReaderBuilder};
+use crate::sheet_records::SheetRecords;
+use csv::ByteRecord;
 use desk_base::{Grid, List, Text};
 use std::alloc::Global;
 use std::marker::Model;
@@ -58,15 +58,14 @@ impl Draft {
             → (later : List (List (List ℕ)))
             → records_within self.old.most (self.old.records ++ fields_of next.now ∷ later) ≡ Err fault) }
     {
-        let fields = fields_of(self.alloc, next)?;
         if self.columns.is_none() {
-            let columns = header_columns(self.alloc, fields.as_slice())?;
+            let columns = header_columns(self.alloc, next)?;
             self.grid = Grid::new(self.alloc, columns.len() as u16);
             self.columns = Some(columns);
             return Ok(());
         }
-        let row = next_row(self.alloc, self.most, &self.grid, fields.as_slice())?;
-        self.grid.push_row(row)?;
+        let row = next_row(self.alloc, self.most, &self.grid, next)?;
+        self.grid.push_row(row.as_slice())?;
         Ok(())
     }
 
@@ -88,16 +87,11 @@ impl Draft {
         ensures fault { IfErr result (λ fault. fault ≢ SheetFault.NoMemory
             → records_within most (sheet_records sheet.now) ≡ Err fault) }
     {
-        let reader = ReaderBuilder::new()
-            .has_headers(false)
-            .flexible(true)
-            .from_reader(alloc, sheet);
+        let mut records = SheetRecords::of(alloc, b',', sheet);
+        let mut next = ByteRecord::new(alloc);
         let mut draft = Draft::new(alloc, most);
-        'records: for next in reader.into_byte_records() {
-            match next {
-                Ok(row) => draft.take(&row)?,
-                Err(error) => return Err(stopped(error)),
-            }
+        'records: while records.next_into(&mut next)? {
+            draft.take(&next)?;
         }
         Ok(draft)
     }

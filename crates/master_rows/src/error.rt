@@ -59,10 +59,9 @@ impl<T: Drop> From<AllocFailed<T>> for SheetFault {
 ///
 /// An error that stops a reader is one of memory or of the device underneath. `csv` doesn't say that bytes in
 /// memory are a device without errors, and they are.
-pub(crate) fn stopped(error: csv::Error) -> SheetFault
+pub(crate) fn stopped(error: csv::Error) -> NoMemory
     requires { stops_reader (error_kind error) ≡ true }
-    ensures { result ≡ SheetFault.NoMemory }
 {
     drop(error);
-    SheetFault::NoMemory
+    NoMemory
 }

@@ -2,12 +2,14 @@
 ghost use Rattle.std.specs.Prelude.{◌≡◌, ◌≢◌, ◌≤◌, length, IsTrue, IfOk, IfErr, Some, None, []};
 ghost use Rattle.std.specs.List.{list_all};
 ghost use Rattle.std.specs.Str.{is_utf8};
+ghost use Rattle.csv.specs.Records.{fields_of};
 ghost use Rattle.master_rows.specs.Mark.{begins_with_mark};
 ghost use Rattle.master_rows.specs.Header.{is_column, columns_fault, header_fault};
 ghost use Rattle.desk_base.specs.Texts.{bytes_of};
 
 use crate::error::SheetFault;
-use crate::fields::strings_of;
+use crate::fields::texts_of;
+use csv::ByteRecord;
 use desk_base::{List, MAX_COLUMN, MAX_COLUMNS, Text, has_text};
 use std::alloc::Global;
 
@@ -44,13 +46,13 @@ fn tested_columns(alloc: Global, texts: &[&str]) -> Result<List<Text>, SheetFaul
 }
 
 /// The columns that a header names.
-pub(crate) fn header_columns(alloc: Global, fields: &[&[u8]]) -> Result<List<Text>, SheetFault>
-    ensures columns { IfOk result (λ columns. columns ≡ bytes_of fields.now) }
+pub(crate) fn header_columns(alloc: Global, header: &ByteRecord) -> Result<List<Text>, SheetFault>
+    ensures columns { IfOk result (λ columns. columns ≡ fields_of header.now) }
     ensures faultless { IfOk result (λ columns. header_fault columns ≡ None) }
     ensures fault { IfErr result (λ fault. fault ≢ SheetFault.NoMemory
-        → header_fault (bytes_of fields.now) ≡ Some fault) }
+        → header_fault (fields_of header.now) ≡ Some fault) }
 {
-    let Some(texts) = strings_of(alloc, fields)? else {
+    let Some(texts) = texts_of(alloc, header)? else {
         return Err(SheetFault::NotUtf8(0));
     };
     if texts.len() > MAX_COLUMNS {

@@ -14,7 +14,9 @@ mod master;
 mod outline;
 mod print;
 mod row;
+mod sheet_records;
 
 pub use error::SheetFault;
 pub use master::Master;
 pub use outline::Outline;
+pub use sheet_records::SheetRecords;

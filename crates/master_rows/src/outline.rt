@@ -5,11 +5,11 @@ ghost use Rattle.master_rows.specs.Draft.{AreOutlined};
 ghost use Rattle.master_rows.specs.Outline.{outline_of_records};
 ghost use Rattle.master_rows.specs.Sheet.{read_records, sheet_records};
 
-use crate::error::{SheetFault, stopped};
-use crate::fields::fields_of;
+use crate::error::SheetFault;
 use crate::header::header_columns;
 use crate::row::row_fault;
-use csv::{ByteRecord, ReaderBuilder};
+use crate::sheet_records::SheetRecords;
+use csv::ByteRecord;
 use desk_base::{List, MAX_ROWS, Text};
 use std::alloc::Global;
 
@@ -40,8 +40,7 @@ impl OutlineDraft {
             → read_records (taken ++ fields_of next.now ∷ later) ≡ Err fault) }
     {
         let Some(columns) = &self.columns else {
-            let fields = fields_of(alloc, next)?;
-            self.columns = Some(header_columns(alloc, fields.as_slice())?);
+            self.columns = Some(header_columns(alloc, next)?);
             return Ok(());
         };
         if let Some(fault) = row_fault(MAX_ROWS, columns.len(), self.rows, next) {
@@ -69,19 +68,14 @@ impl OutlineDraft {
         ensures fault { IfErr result (λ fault. fault ≢ SheetFault.NoMemory
             → read_records (sheet_records sheet.now) ≡ Err fault) }
     {
-        let reader = ReaderBuilder::new()
-            .has_headers(false)
-            .flexible(true)
-            .from_reader(alloc, sheet);
+        let mut records = SheetRecords::of(alloc, b',', sheet);
+        let mut next = ByteRecord::new(alloc);
         let mut draft = OutlineDraft {
             columns: None,
             rows: 0,
         };
-        'records: for next in reader.into_byte_records() {
-            match next {
-                Ok(row) => draft.take(alloc, &row)?,
-                Err(error) => return Err(stopped(error)),
-            }
+        'records: while records.next_into(&mut next)? {
+            draft.take(alloc, &next)?;
         }
         Ok(draft)
     }

@@ -30,10 +30,7 @@ fn row_fields(alloc: Global, grid: &Grid, row: u32) -> Result<Vec<&[u8]>, Error>
 {
     let mut fields = Vec::new(alloc);
     for column in 0..grid.columns() {
-        if fields
-            .push(grid.cell(row, column).as_str().as_bytes())
-            .is_err()
-        {
+        if fields.push(grid.cell(row, column).as_bytes()).is_err() {
             return Err(Error::out_of_memory());
         }
     }

@@ -1,5 +1,5 @@
 //! The data rows of a sheet: their tests, and the texts of their cells.
-ghost use Rattle.std.specs.Prelude.{◌≡◌, ◌≢◌, ◌+◌, ◌<◌, length, IfOk, IfErr, Some, None};
+ghost use Rattle.std.specs.Prelude.{◌≡◌, ◌≢◌, ◌+◌, ◌<◌, ◌≤◌, length, All, IfOk, IfErr, Some, None};
 ghost use Rattle.std.specs.List.{list_all};
 ghost use Rattle.std.specs.Str.{is_utf8};
 ghost use Rattle.csv.specs.Records.{fields_of};
@@ -7,9 +7,9 @@ ghost use Rattle.master_rows.specs.Row.{cells_fault, row_fault};
 ghost use Rattle.desk_base.specs.Texts.{bytes_of};
 
 use crate::error::SheetFault;
-use crate::fields::strings_of;
+use crate::fields::texts_of;
 use csv::ByteRecord;
-use desk_base::{Grid, List, MAX_TEXT, Text, is_utf8};
+use desk_base::{Grid, MAX_TEXT, is_utf8};
 use std::alloc::Global;
 
 /// The first fault of a record that is to stand after so many rows, of `most` at most, under so many columns.
@@ -65,47 +65,47 @@ fn cells_fault(row: u64, source: &ByteRecord) -> Option<SheetFault>
     None
 }
 
-/// The texts of a row's cells, tested one by one.
-fn tested_cells(alloc: Global, row: u64, texts: &[&str]) -> Result<List<Text>, SheetFault>
-    ensures cells { IfOk result (λ cells. cells ≡ bytes_of texts.now) }
-    ensures faultless { IfOk result (λ cells. cells_fault row 1 cells ≡ None) }
-    ensures fault { IfErr result (λ fault. fault ≢ SheetFault.NoMemory
-        → cells_fault row 1 (bytes_of texts.now) ≡ Some fault) }
+/// The first fault of a row's texts.
+fn texts_fault(row: u64, texts: &[&str]) -> Option<SheetFault>
+    ensures fault { result ≡ cells_fault row 1 (bytes_of texts.now) }
+    ensures fits { result ≡ None → All (λ text. length text.now ≤ MAX_TEXT) texts.now }
 {
-    let mut cells = List::new(alloc);
-    for text in texts {
+    'texts: for (place, text) in texts.iter().enumerate() {
         if text.len() > MAX_TEXT {
-            return Err(SheetFault::CellLong(row, cells.len() as u64 + 1));
+            return Some(SheetFault::CellLong(row, place as u64 + 1));
         }
-        cells.push(Text::of(alloc, text)?)?;
     }
-    Ok(cells)
+    None
 }
 
 /// The texts of the row that is to stand after the others, of `most` at most.
-pub(crate) fn next_row(
+pub(crate) fn next_row<'a>(
     alloc: Global,
     most: u32,
     grid: &Grid,
-    fields: &[&[u8]],
-) -> Result<List<Text>, SheetFault>
-    ensures cells { IfOk result (λ cells. cells ≡ bytes_of fields.now) }
+    source: &'a ByteRecord,
+) -> Result<Vec<&'a str>, SheetFault>
+    ensures cells { IfOk result (λ cells. bytes_of cells.items ≡ fields_of source.now) }
     ensures faultless { IfOk result (λ cells.
-        row_fault most grid.now.columns (length grid.now.rows + 1) cells ≡ None) }
+        row_fault most grid.now.columns (length grid.now.rows + 1) (bytes_of cells.items) ≡ None) }
+    ensures fits { IfOk result (λ cells. All (λ text. length text.now ≤ MAX_TEXT) cells.items) }
     ensures few { IfOk result (λ _. length grid.now.rows < most) }
     ensures fault { IfErr result (λ fault. fault ≢ SheetFault.NoMemory
-        → row_fault most grid.now.columns (length grid.now.rows + 1) (bytes_of fields.now)
+        → row_fault most grid.now.columns (length grid.now.rows + 1) (fields_of source.now)
         ≡ Some fault) }
 {
     let row = u64::from(grid.rows()) + 1;
     if grid.rows() >= most {
         return Err(SheetFault::TooManyRows);
     }
-    if fields.len() != usize::from(grid.columns()) {
+    if source.len() != usize::from(grid.columns()) {
         return Err(SheetFault::Ragged(row));
     }
-    let Some(texts) = strings_of(alloc, fields)? else {
+    let Some(texts) = texts_of(alloc, source)? else {
         return Err(SheetFault::NotUtf8(row));
     };
-    tested_cells(alloc, row, texts.as_slice())
+    match texts_fault(row, texts.as_slice()) {
+        Some(fault) => Err(fault),
+        None => Ok(texts),
+    }
 }

@@ -1,7 +1,7 @@
 //! Sheets of master data.
 ghost use Rattle.master_rows.specs.Master.{IsMaster};
 
-use crate::schemas::{add_line, add_lines};
+use crate::schemas::add_lines;
 use desk_base::Duplicate;
 use desk_cases::{Answer, Case};
 use master_rows::{Master, Outline, SheetFault};
@@ -63,7 +63,8 @@ fn tell_cells(lines: &mut String, master: &Master) -> Result<(), AllocError> {
         for column in 0..master.grid.columns() {
             let (row_number, column_number) = (u64::from(row) + 1, u64::from(column) + 1);
             write!(lines, "{row_number} {column_number} ")?;
-            add_line(lines, master.grid.cell(row, column))?;
+            lines.push_str(master.grid.cell(row, column))?;
+            lines.push_str("\n")?;
         }
     }
     Ok(())

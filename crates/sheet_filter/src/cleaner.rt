@@ -16,9 +16,10 @@ ghost use Rattle.sheet_filter.specs.Outputs.{AreWritten, HaveRoom, Later, SinkSt
 use crate::cleaning::Cleaning;
 use crate::outputs::Outputs;
 use crate::stop::Stop;
-use csv::{ByteRecord, ReaderBuilder};
+use csv::ByteRecord;
 use desk_base::Sink;
 use fix_model::Book;
+use master_rows::SheetRecords;
 use sheet_clean::{Drafts, Layout, Setting, fields_of, heads, layout_of, row_fault, write_decided};
 use std::alloc::Global;
 
@@ -125,17 +126,10 @@ impl<'a, B: Book<()>> Cleaner<'a, B> {
         ensures later { let seen = sinks_seen W.written W.write_faults C.written C.write_faults in
             Later (seen outputs.old) (seen outputs.new) }
     {
-        let reader = ReaderBuilder::new()
-            .has_headers(false)
-            .flexible(true)
-            .delimiter(self.setting.delimiter)
-            .from_reader(self.alloc, block);
-        'records: for next in reader.into_byte_records() {
-            match next {
-                Ok(record) => self.take_record(&record, cleaning, drafts, outputs)?,
-                // An error that stops a reader of bytes in memory is one of memory.
-                Err(_) => return Err(Stop::NoMemory),
-            }
+        let mut records = SheetRecords::of(self.alloc, self.setting.delimiter, block);
+        let mut next = ByteRecord::new(self.alloc);
+        'records: while records.next_into(&mut next)? {
+            self.take_record(&next, cleaning, drafts, outputs)?;
         }
         Ok(())
     }

@@ -1,7 +1,7 @@
 use Rattle.std.proofs.Common.{◌≡◌, ◌++◌, ◌∷◌, [], ℕ, List, suc, drop, get_or, sym, ap, ◌∙◌, add-one}
 use Rattle.desk_base.specs.Texts.{bytes_of}
 use Rattle.master_rows.specs.Header.{columns_fault}
-use Rattle.master_rows.proofs.Records.{drop-texts, take-texts}
+use Rattle.desk_base.proofs.Slices.{drop-texts, take-texts}
 use Rattle.master_rows.proofs.Faults.{columns_fault-bad, columns_fault-twice, columns_fault-next}
 use Rattle.master_rows.proofs.header.tested_columns.Goals as goal
 use Rattle.master_rows.proofs.header.tested_columns.Goals.{After-is_column}

@@ -1,9 +1,15 @@
-use Rattle.std.proofs.Common.{ℕ, List}
+use Rattle.std.proofs.Common.{◌≡◌, ◌++◌, List, ℕ, length}
 use Rattle.master_rows.specs.Draft.{AreOutlined}
-use Rattle.master_rows.proofs.Stops.{GoesOn}
+use Rattle.master_rows.specs.Sheet.{sheet_records}
 use Rattle.master_rows.proofs.outline.OutlineDraft.of_sheet.Given as goal
 
--- the reader goes on after the records that are outlined
+-- the records that were taken are outlined, and are those before the ones that are left
 abbrev pub invariant-records : goal.invariant-records
-invariant-records l = (taken : List (List (List ℕ))) × GoesOn 44 l.next-iterator.rdr l.next-iterator.left l.sheet taken
-    × AreOutlined l.draft.columns l.draft.rows taken
+invariant-records l = record {
+  taken : List (List (List ℕ));
+  outlined : AreOutlined l.draft.columns l.draft.rows taken;
+  whole : taken ++ l.records ≡ sheet_records l.sheet;
+}
+
+abbrev pub decreases-records : goal.decreases-records
+decreases-records l = length l.records

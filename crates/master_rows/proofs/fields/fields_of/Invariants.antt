@@ -1,7 +1,0 @@
-use Rattle.std.proofs.Common.{◌≡◌, take}
-use Rattle.csv.specs.Records.{fields_of}
-use Rattle.desk_base.specs.Texts.{bytes_of}
-use Rattle.master_rows.proofs.fields.fields_of.Given as goal
-
-abbrev pub invariant-loop-place : goal.invariant-loop-place
-invariant-loop-place l = bytes_of l.fields.items ≡ take l.place (fields_of l.source)
