@@ -16,3 +16,5 @@ pub mod Choosing
 pub mod Blocked
 pub mod Contradicting
 pub mod Known
+pub mod Previewing
+pub mod Replying

@@ -12,9 +12,8 @@ mod views;
 
 pub use kept::{deed_reply, kept_reply};
 pub use looks::{
-    blocked_at, body_of, carrying, catalogue, choices_at, clerk_report, contradictions_shown,
-    derived_sheet, desk_report, edition_shown, explain, records_of, region_shown, row_shown,
-    sessions_from, suggestion_of, view_at,
+    body_of, catalogue, contradictions_shown, derived_sheet, desk_report, edition_shown,
+    look_reply, region_shown, row_shown,
 };
 pub use made::{kept_made, region_made};
 pub use upshots::Upshots;

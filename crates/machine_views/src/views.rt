@@ -19,7 +19,7 @@ use crate::upshots::Upshot;
 use desk_base::{Duplicate, List, NoMemory, Text};
 use desk_words::{Outcome, SessionRow, Shown, ShownStep, Tables, View, ViewCell};
 use fix_engine::{Verdict, Work};
-use fix_model::{Book, Cell, Rule, State, Step, value};
+use fix_model::{Book, Cell, Rule, State, Step, value_text};
 use machine_core::hold;
 use master_index::{Shelf, Shelved, SortedBook};
 use std::alloc::Global;
@@ -135,7 +135,7 @@ fn view_cell(
 {
     let place = usize::from(attribute);
     let name = name_at(shelved.names.attributes.as_slice(), place)?;
-    let value = value::<(), SortedBook>(&shelved.book, state, attribute).copy()?;
+    let value = value_text::<(), SortedBook>(&shelved.book, state, attribute)?;
     let shown = shown_cell(shelved, state.cells.as_slice()[place])?;
     Ok(ViewCell { name, value, shown })
 }

@@ -40,13 +40,12 @@ use Rattle.machine_core.specs.declared.deed.Deed.{Deed}
 use Rattle.machine_core.proofs.Chains.{Gives-bind_ok, done-value}
 use Rattle.machine_core.proofs.Looks.{Found, look-found}
 use Rattle.machine_core.proofs.Tested.{some_or-ok}
-use Rattle.machine_core.proofs.Answering.{Answers-found}
 use Rattle.machine_laws.proofs.Sessions.{session_at-found}
 use Rattle.machine_views.specs.Doing.{DoesAsTold, PutsOne, StandsFirst}
-use Rattle.machine_views.specs.Looking.{IsSessionFirst, IsTargetFirst}
+use Rattle.machine_views.specs.Looking.{IsLookFirst, IsSessionFirst, IsTargetFirst}
 use Rattle.machine_views.proofs.Keeping.{put-stands, session-stands, session_at-place}
+use Rattle.machine_views.proofs.Previewing.{first-there}
 use Rattle.session_machine.specs.Booked.{IsBooked, IsBookedFor, NamesFirst, ShowsFirst}
-use Rattle.session_machine.specs.Looked.{IsLookFirst}
 use Rattle.machine_core.proofs.Commands.{confirm_row-ok}
 use Rattle.machine_core.proofs.Walks.{Gives-Met, Met-Gives}
 
@@ -78,27 +77,11 @@ active_session-found sessions number session gives =
     let rest = Gives-bind_ok (active found.0) (λ _. done found.0) session found.2 in
     session_of-found sessions number found.0 found.1 ∙ ap Some (sym (done-value found.0 session rest.2))
 
--- where a session's edition is first, it is that of its number
-pub first-there : (sessions : List SessionRow) (number : ℕ) (session : SessionRow) (held : List (ℕ × Shelved))
-    → session_at sessions number ≡ Some session → IsFirst session.edition held → IsSessionFirst sessions number held
-first-there sessions number session held stands first =
-    subst (λ found. IfSome found (λ one. IsFirst one.edition held)) (sym stands) first
-
--- and where that of its number is first, it is that of the session
+-- where the edition of the session of a number is first, it is that of the session
 there-first : (sessions : List SessionRow) (number : ℕ) (session : SessionRow) (held : List (ℕ × Shelved))
     → session_at sessions number ≡ Some session → IsSessionFirst sessions number held → IsFirst session.edition held
 there-first sessions number session held stands first =
     subst (λ found. IfSome found (λ one. IsFirst one.edition held)) stands first
-
--- where its edition is first, it is that of its number
-pub confirm_row-first : (published : Published) (own : Own) (number : ℕ) (cells : List (List ℕ × List ℕ))
-    (session : SessionRow) (held : List (ℕ × Shelved)) → IsFound (confirm_row published own number cells) session
-    → IsFirst session.edition held → IsSessionFirst own.sessions number held
-confirm_row-first published own number cells session held finds first =
-    let is = confirm_row-ok published own number cells session
-    (Answers-found (confirm_row published own number cells) (Ok session) finds) in
-    first-there own.sessions number is.old held is.stands.found (subst (λ edition. IsFirst edition held)
-    (ap (λ (one : SessionRow). one.edition) is.is) first)
 
 -- the session that a deed shows alone is its target
 target-one : (published : Published) (own : Own) (deed : Deed) (held : List (ℕ × Shelved))

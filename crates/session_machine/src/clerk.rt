@@ -12,16 +12,14 @@ ghost use Rattle.machine_views.specs.Upshots.{AreTrue};
 ghost use Rattle.session_machine.specs.Booked.{IsBooked};
 
 mod changing;
-mod looking;
 mod writing;
 
 use desk_base::{List, Str};
 use desk_totals::Totalled;
 use desk_words::{Change, ClerkRow, ClerkWork, Look, Refusal, Reply, Tables, Ticket};
 use fix_engine::Work;
-use looking::look_reply;
 use machine_core::{Own, Stop, Use, use_of};
-use machine_views::Upshots;
+use machine_views::{Upshots, look_reply};
 use master_index::Shelf;
 use std::alloc::Global;
 use writing::{fresh, repeated};

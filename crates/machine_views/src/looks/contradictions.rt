@@ -12,7 +12,7 @@ ghost use Rattle.machine_views.specs.Answered.{IsNamedBook};
 ghost use Rattle.machine_views.specs.Naming.{IsContradictionOf};
 
 use crate::views::{master_name, name_at, rules};
-use desk_base::{Duplicate, List, NoMemory, Str, Text, place_of};
+use desk_base::{List, NoMemory, Str, Text, place_of};
 use desk_words::{ContradictionLine, ContradictionSheet, Kind, Refusal, Tables};
 use fix_model::{Book, Step};
 use machine_core::{Stop, hold, named, shelved};
@@ -94,13 +94,14 @@ fn contradiction_lines(
 {
     let mut lines = List::new(alloc);
     'contradictions: for it in found {
-        lines.push(contradiction_line(shelved, rule, *it)?)?;
+        lines.push(contradiction_line(alloc, shelved, rule, *it)?)?;
     }
     Ok(lines)
 }
 
 /// A contradiction with its texts, and with rows counted from 1.
 fn contradiction_line(
+    alloc: Global,
     shelved: &Shelved,
     rule: u16,
     it: Contradiction,
@@ -112,16 +113,16 @@ fn contradiction_line(
 {
     Ok(ContradictionLine {
         row: it.row + 1,
-        text: copied_text(&shelved.book, rule, it.row)?,
+        text: copied_text(alloc, &shelved.book, rule, it.row)?,
         other_row: it.other_row + 1,
-        other_text: copied_text(&shelved.book, rule, it.other_row)?,
+        other_text: copied_text(alloc, &shelved.book, rule, it.other_row)?,
     })
 }
 
 /// The text that the rule at a place copies from a row, both counted from 0.
-fn copied_text(book: &SortedBook, rule: u16, row: u32) -> Result<Text, NoMemory>
+fn copied_text(alloc: Global, book: &SortedBook, rule: u16, row: u32) -> Result<Text, NoMemory>
     requires { IsStepOf book.now (record { rule = rule; row = row }) }
     ensures { IfOk result (λ text. text ≡ from_text book.now (rule_at book.now rule) row) }
 {
-    Book::<()>::text(book, Step { rule, row }).copy()
+    Text::of(alloc, Book::<()>::text(book, Step { rule, row }))
 }

@@ -1,5 +1,6 @@
 //! Explain: why an attribute of a session is fixed.
-ghost use Rattle.std.specs.Prelude.{◌<◌, IfOk, Ok, OnOk};
+ghost use Rattle.std.specs.Prelude.{◌≡◌, ◌<◌, IfOk, Ok, OnOk};
+ghost use Rattle.desk_words.specs.declared.look.Look.TheVariants.{Explain};
 ghost use Rattle.desk_words.specs.Tables.{published_of, rows_of};
 ghost use Rattle.desk_valid.specs.Valid.{AreValid};
 ghost use Rattle.fix_explain.specs.Reasons.{IsFixed};
@@ -7,17 +8,18 @@ ghost use Rattle.fix_model.specs.Run.{IsRun, end_of};
 ghost use Rattle.fix_model.specs.States.{Fits};
 ghost use Rattle.machine_core.specs.Checked.{Gives};
 ghost use Rattle.machine_core.specs.Clerk.Commit.{not_in_conflict};
-ghost use Rattle.machine_core.specs.Look.Explain.{explain, explained_on, explanation_of, fixed_at};
+ghost use Rattle.machine_core.specs.Look.Explain.{explained_on, explanation_of, fixed_at};
 ghost use Rattle.machine_core.specs.Outcomes.{Answers, Finds, WantsNone};
 ghost use Rattle.machine_core.specs.Own.{IsOwn};
 ghost use Rattle.machine_core.specs.Shelves.{AreHeld, IsFullRoom, bound_on};
 ghost use Rattle.machine_views.specs.Answered.{IsNamedBook, Suits};
-ghost use Rattle.machine_views.specs.Looking.{IsSessionFirst};
+ghost use Rattle.machine_views.specs.Looking.{IsSessionFirst, RepliesTo};
 
 use crate::answers::{answer_to, book_for, brought_session};
+use crate::looks::replied;
 use crate::views::{name_at, named_attributes, named_steps};
 use desk_base::{Duplicate, NoMemory, Str};
-use desk_words::{Explained, Refusal, SessionRow, Tables};
+use desk_words::{Explained, Refusal, Reply, SessionRow, Tables};
 use fix_engine::{Verdict, Work};
 use fix_explain::{reason, uses};
 use fix_model::{Cell, State, Step};
@@ -25,8 +27,8 @@ use machine_core::{Own, Stop, attribute_of, state_of};
 use master_index::{Shelf, Shelved, SortedBook};
 use std::alloc::Global;
 
-/// Why the attribute with this word is fixed in the session of this number, counted from 1. The session's edition comes
-/// first on the shelf.
+/// The reply to this look, which asks why the attribute with this word is fixed in the session of this number, counted
+/// from 1. The session's edition comes first on the shelf.
 pub fn explain(
     alloc: Global,
     tables: &Tables,
@@ -35,19 +37,22 @@ pub fn explain(
     own: &Own,
     number: u32,
     word: &Str,
-) -> Result<Explained, Stop>
+) -> Result<Reply, Stop>
     requires valid { AreValid (rows_of tables.now) }
     requires held { AreHeld (published_of (rows_of tables.now)) shelf.old }
     requires room { IsFullRoom work.old }
     requires own { IsOwn (rows_of tables.now) own.now }
-    ensures explained { Answers result (explain (published_of (rows_of tables.now)) own.now number word.now) }
+    ensures replies { RepliesTo (published_of (rows_of tables.now)) own.now (Explain number word.now) result }
     ensures first { OnOk result (IsSessionFirst own.now.sessions number shelf.new) }
     ensures held { AreHeld (published_of (rows_of tables.now)) shelf.new }
     ensures room { IsFullRoom work.new }
 {
     let session = brought_session(alloc, tables, shelf, own, number)?;
     let shelved = book_for(tables, shelf, session);
-    explained_on(alloc, shelved, work, session, word)
+    replied(
+        explained_on(alloc, shelved, work, session, word),
+        Reply::Explained,
+    )
 }
 
 /// Why the attribute with this word is fixed in a session, by the book of its edition and with its names.

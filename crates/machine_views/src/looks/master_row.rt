@@ -46,7 +46,10 @@ fn cells_of(alloc: Global, sheet: &Master, row: u32) -> Result<List<(Text, Text)
 {
     let mut cells = List::new(alloc);
     'columns: for (column, name) in sheet.columns.as_slice().iter().enumerate() {
-        cells.push((name.copy()?, sheet.grid.cell(row, column as u16).copy()?))?;
+        cells.push((
+            name.copy()?,
+            Text::of(alloc, sheet.grid.cell(row, column as u16))?,
+        ))?;
     }
     Ok(cells)
 }

@@ -13,7 +13,7 @@ use Rattle.machine_core.specs.Shelves.{AreHeld}
 use Rattle.machine_views.proofs.Keeping.{own-rows}
 use Rattle.machine_views.specs.Upshots.{AreTrue}
 use Rattle.session_machine.specs.Booked.{IsBooked}
-use Rattle.session_machine.specs.Looked.{IsLookFirst}
+use Rattle.machine_views.specs.Looking.{IsLookFirst}
 use Rattle.session_machine.proofs.ClerkBooks.{look-booked}
 use Rattle.session_machine.proofs.ClerkOwn.{own-there}
 use Rattle.session_machine.proofs.ClerkLooks.{look-gives, look-stopped, look-unnamed}

@@ -18,7 +18,7 @@ columns-preserved c =
     c.in_ok-push.ensures.pushed
     ∙ (λ i. c.columns.invariant i ++ (
       c.in_ok-copy.ensures.copied i,
-      (c.in_ok-copy-2.ensures.copied ∙ c.cell.ensures) i,
+      (c.in_ok-of.ensures ∙ c.cell.ensures.text) i,
     ) ∷ []) ∙ cells-more sheet.columns sheet.grid c.args.row place c.name-item.result within within_too item
 
 pub returns : goal.returns
