@@ -3,14 +3,14 @@ use Rattle.std.specs.Prelude.{◌≡◌, ◌≢◌, ◌<◌, ◌++◌, false, �
 use Rattle.std.specs.Prelude.{Option, Some, None, is_some, option_map, Result, Ok, Err, if◌then◌else◌}
 use Rattle.std.specs.Borrow.{Bor}
 use Rattle.std.specs.List.{list_all}
-use Rattle.std.specs.Str.{is_utf8}
+use Rattle.std.specs.Str.{bytes_eq, is_utf8}
 use Rattle.desk_base.specs.declared.limits.TheConstants.{MAX_LONG_BODY, MAX_BATCH_BODY, MAX_BODY}
 use Rattle.matchit.specs.Rows.{RowsOf, param_token}
 use Rattle.matchit.specs.Route.{Scan, parse_route}
 use Rattle.matchit.specs.Order.{placed}
 use Rattle.matchit.specs.Router.{RouteOf, route_from}
 use Rattle.matchit.specs.Seek.{first, has_slash}
-use Rattle.matchit.specs.Params.{walk, named}
+use Rattle.matchit.specs.Params.{walk}
 use Rattle.matchit.specs.declared.error.InsertError.{InsertError}
 use Rattle.http_cut.specs.declared.route.Method.{Method}
 use Rattle.http_cut.specs.declared.route.Method.TheVariants.{Get, Post}
@@ -101,18 +101,17 @@ numbers = map (λ row. (row.0.now, row.1)) NUMBERS
 abbrev pub numbers_of : List (Bor (List ℕ) × ℕ) → List (List ℕ × ℕ)
 numbers_of rows = map (λ row. (row.0.now, row.1)) rows
 
--- a parameter that is to be a number has at most so many digits, if there is one
-abbrev pub is_good_number : ℕ → Option (List ℕ) → Bool
-is_good_number most (Some text) = is_some (positive most text)
-is_good_number most None = true
+-- a part of a target is a number of at most so many digits, if its parameter has the name of that number
+abbrev pub is_good_as : List ℕ × List ℕ → List ℕ × ℕ → Bool
+is_good_as part number = if bytes_eq number.0 part.0 then is_some (positive number.1 part.1) else true
 
--- a parameter that is to be a number is, in the parts of a target
-abbrev pub is_good_in : List (List ℕ × List ℕ) → List ℕ × ℕ → Bool
-is_good_in parts number = is_good_number number.1 (named number.0 parts)
+-- a part whose parameter is to be a number is one
+abbrev pub is_good_part : List ℕ × List ℕ → Bool
+is_good_part part = list_all (is_good_as part) numbers
 
 -- the parameters that are to be numbers are
 abbrev pub has_good_numbers : List (List ℕ × List ℕ) → Bool
-has_good_numbers parts = list_all (is_good_in parts) numbers
+has_good_numbers parts = list_all is_good_part parts
 
 -- a match whose numbers are good
 abbrev pub with_good_numbers : Option Match → Option Match

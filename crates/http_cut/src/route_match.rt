@@ -2,7 +2,7 @@
 ghost use Rattle.std.specs.Prelude.{◌≡◌, ◌≤◌, All, Some, None, MatchOption};
 ghost use Rattle.std.specs.List.{list_all};
 ghost use Rattle.matchit.specs.Params.{named};
-ghost use Rattle.http_cut.specs.Routes.{has_good_numbers, is_good_in, is_good_number, numbers_of};
+ghost use Rattle.http_cut.specs.Routes.{has_good_numbers, is_good_as, is_good_part, numbers_of};
 
 use crate::digits::positive;
 use crate::route::{NUMBERS, Route};
@@ -52,28 +52,39 @@ impl<'r, 'p> RouteMatch<'r, 'p> {
     pub(crate) fn has_good_numbers(&self) -> bool
         ensures { result ≡ has_good_numbers self.now.1 }
     {
-        self.are_good(&NUMBERS)
-    }
-
-    fn are_good(&self, numbers: &[(&str, usize)]) -> bool
-        requires { All (λ number. number.1 ≤ 19) numbers.now }
-        ensures { result ≡ list_all (is_good_in self.now.1) (numbers_of numbers.now) }
-    {
-        'numbers: for (name, most) in numbers {
-            if !self.has_good_number(name, *most) {
+        'parts: for (name, part) in self.params.iter() {
+            if !is_good_part(name, part) {
                 return false;
             }
         }
         true
     }
+}
 
-    fn has_good_number(&self, name: &str, most: usize) -> bool
-        requires { most ≤ 19 }
-        ensures { result ≡ is_good_number most (named name.now self.now.1) }
-    {
-        match self.text(name) {
-            Some(text) => positive(text.as_bytes(), most).is_some(),
-            None => true,
+/// Whether the part that a parameter of this name took is a number, if it is to be one.
+fn is_good_part(name: &str, part: &str) -> bool
+    ensures { result ≡ is_good_part (name.now, part.now) }
+{
+    are_good_as(name, part, &NUMBERS)
+}
+
+/// Whether the part is good as each of these numbers.
+fn are_good_as(name: &str, part: &str, numbers: &[(&str, usize)]) -> bool
+    requires { All (λ number. number.1 ≤ 19) numbers.now }
+    ensures { result ≡ list_all (is_good_as (name.now, part.now)) (numbers_of numbers.now) }
+{
+    'numbers: for number in numbers {
+        if !is_good_as(name, part, number) {
+            return false;
         }
     }
+    true
+}
+
+/// Whether the part is a number of at most so many digits, if its parameter has the name of that number.
+fn is_good_as(name: &str, part: &str, number: &(&str, usize)) -> bool
+    requires { number.now.1 ≤ 19 }
+    ensures { result ≡ is_good_as (name.now, part.now) (number.now.0.now, number.now.1) }
+{
+    number.0 != name || positive(part.as_bytes(), number.1).is_some()
 }

@@ -21,7 +21,7 @@ use Rattle.http_cut.specs.declared.route.ClerkRoute.TheVariants as of_clerk
 use Rattle.http_cut.specs.declared.route.LookRoute.{LookRoute}
 use Rattle.http_cut.specs.declared.route.LookRoute.TheVariants as of_look
 use Rattle.http_cut.specs.Numbers.{positive}
-use Rattle.http_cut.specs.Routes.{Match, has_good_numbers, is_good_in, is_good_number, match_of, numbers, parts_of}
+use Rattle.http_cut.specs.Routes.{Match, has_good_numbers, is_good_as, is_good_part, match_of, numbers, parts_of}
 use Rattle.http_cut.specs.Routes.{route_of, route_rows, with_good_numbers}
 use Rattle.http_cut.proofs.Seeking.{Has, seek_found}
 use Rattle.desk_json.specs.declared.route.Route.{Route}
@@ -137,43 +137,46 @@ made_some : {A : Type 0} (found : Option A) → is_some found ≡ true → IsMad
 made_some None e = absurd cc
 made_some (Some value) e = (value, refl)
 
--- a number that is there and good is read
-number_made : (most : ℕ) (key : List ℕ) (parts : Parts) → is_some (named key parts) ≡ true
-    → is_good_number most (named key parts) ≡ true → IsMade (number_at most key parts)
-number_made most key parts there good = by (named key parts) there good
-  where
-    by : (found : Option (List ℕ)) → is_some found ≡ true → is_good_number most found ≡ true
-        → IsMade (or_no_route (option_and_then (positive most) found))
-    by None none good = absurd cc
-    by (Some text) some good = made_some (positive most text) good
-
--- a number that is listed is good where all that are listed are
-listed_good : (most : ℕ) (name : List ℕ) (rows : List (List ℕ × ℕ)) (parts : Parts) → is_listed most name rows ≡ true
-    → list_all (is_good_in parts) rows ≡ true → is_good_number most (named name parts) ≡ true
-listed_good most name [] parts listed good = absurd cc
-listed_good most name (row ∷ rows) parts listed good =
+-- a part is a number where its parameter is listed as one, and it is good as all that are listed
+listed_good : (most : ℕ) (part : List ℕ × List ℕ) (rows : List (List ℕ × ℕ)) → is_listed most part.0 rows ≡ true
+    → list_all (is_good_as part) rows ≡ true → is_some (positive most part.1) ≡ true
+listed_good most part [] listed good = absurd cc
+listed_good most part (row ∷ rows) listed good =
     let (first, others) = and_parts _ _ good in
-    by (bytes_eq row.0 name && row.1 == most) refl listed first
-    (λ later. listed_good most name rows parts later others)
+    by (bytes_eq row.0 part.0 && row.1 == most) refl listed first
+    (λ later. listed_good most part rows later others)
   where
-    by : (here : Bool) → (bytes_eq row.0 name && row.1 == most) ≡ here
-        → cond here true (is_listed most name rows) ≡ true → is_good_in parts row ≡ true
-        → (is_listed most name rows ≡ true → is_good_number most (named name parts) ≡ true)
-        → is_good_number most (named name parts) ≡ true
+    by : (here : Bool) → (bytes_eq row.0 part.0 && row.1 == most) ≡ here
+        → cond here true (is_listed most part.0 rows) ≡ true → is_good_as part row ≡ true
+        → (is_listed most part.0 rows ≡ true → is_some (positive most part.1) ≡ true)
+        → is_some (positive most part.1) ≡ true
     by true is listed first later =
-        let (names, digits) = and_parts (bytes_eq row.0 name) (row.1 == most) is in
-        let same_name : row.0 ≡ name = (bytes_eq-Decides row.0 name).0 names in
-        let same_most : row.1 ≡ most = eqb-true row.1 most digits in
-        subst (λ (one : List ℕ). is_good_number most (named one parts) ≡ true) same_name
-        (subst (λ (one : ℕ). is_good_number one (named row.0 parts) ≡ true) same_most first)
+        let (names, digits) = and_parts (bytes_eq row.0 part.0) (row.1 == most) is in
+        rw (names, eqb-true row.1 most digits) at first
     by false is listed first later = later listed
+
+-- a number that is there is read, where the numbers are good
+number_made : (most : ℕ) (name : List ℕ) (parts : Parts) → is_listed most name numbers ≡ true
+    → is_some (named name parts) ≡ true → has_good_numbers parts ≡ true → IsMade (number_at most name parts)
+number_made most name [] listed there good = absurd cc
+number_made most name (part ∷ parts) listed there good =
+    let (first, others) = and_parts (is_good_part part) (has_good_numbers parts) good in
+    by (same_text part.0 name) refl there first (λ later. number_made most name parts listed later others)
+  where
+    by : (here : Bool) → same_text part.0 name ≡ here → is_some (cond here (Some part.1) (named name parts)) ≡ true
+        → is_good_part part ≡ true → (is_some (named name parts) ≡ true → IsMade (number_at most name parts))
+        → IsMade (or_no_route (option_and_then (positive most) (cond here (Some part.1) (named name parts))))
+    by true is there first later =
+        let same : part.0 ≡ name = (bytes_eq-Decides part.0 name).0 is in
+        made_some (positive most part.1) (listed_good most part numbers
+        (subst (λ (one : List ℕ). is_listed most one numbers ≡ true) (sym same) listed) first)
+    by false is there first later = later there
 
 -- a parameter that is there is read, where the numbers are good
 read_at-made : (parameter : Parameter) (parts : Parts) → has_good_numbers parts ≡ true → IsThere parts parameter
     → IsMade (read_at parameter parts)
 read_at-made (parameters.text name) parts good is = made_some (named name parts) is.there
-read_at-made (parameters.numeral most name) parts good is =
-    number_made most name parts is.there (listed_good most name numbers parts is.known good)
+read_at-made (parameters.numeral most name) parts good is = number_made most name parts is.known is.there good
 
 -- a value comes of a chain where one comes of its first part, and then of the rest
 chain : {A B : Type 0} (front : Checked A) (next : A → Checked B) → IsMade front

@@ -1,4 +1,3 @@
-use Rattle.std.proofs.Common.{◌≡◌, ap}
 use Rattle.http_cut.proofs.Heads.{HasNoRequest-none, fields_at, overflows_none}
 use Rattle.http_cut.proofs.head_fields.HeadFields.of.Goals as goal
 use Rattle.http_cut.proofs.head_fields.HeadFields.of.Goals.{in-Whole, in-Unfinished, in-Never}
