@@ -277,18 +277,10 @@ fn commit_opened<S: Start>(
 fn close_loaded<S: Start>(holding: Opened<S>) -> Result<Closed<S>, KeepFail>
     ensures { IfOk result (IsLeft (Some holding)) }
 {
-    if !holding.is_loaded() {
+    let Some(connection) = holding.into_loaded() else {
         return Ok(None);
-    }
-    close_opened(holding)
-}
-
-/// Closes files from which tables were loaded.
-fn close_opened<S: Start>(holding: Opened<S>) -> Result<Closed<S>, KeepFail>
-    requires { IsSome holding.lengths }
-    ensures { IfOk result (IsLeft (Some holding)) }
-{
-    match row_store::close(holding.into_connection()) {
+    };
+    match row_store::close(connection) {
         Ok(files) => Ok(Some(files)),
         Err(error) => Err(store_fail(error)),
     }

@@ -1,5 +1,5 @@
 //! An open connection, and how long the lists of its tables are once they were loaded.
-ghost use Rattle.std.specs.Prelude.{◌≡◌, false, None, Err, IfOk, IsErrOf, OnOk, OnErr, IsSome, is_some};
+ghost use Rattle.std.specs.Prelude.{◌≡◌, false, None, Err, IfOk, IsErrOf, MatchOption, OnOk, OnErr, IsSome};
 ghost use Rattle.desk_words.specs.Tables.{AreTables, rows_of};
 ghost use Rattle.keeper_core.specs.Keeping.{ChangeTold, FitTold, IsLoaded, StayTold};
 ghost use Rattle.sqlite.specs.Held.{state};
@@ -66,13 +66,6 @@ impl<S: Alter> Holding<S> {
             shape: _,
         } = self;
         connection
-    }
-
-    /// Whether tables were loaded.
-    pub fn is_loaded(&self) -> bool
-        ensures { result ≡ is_some self.now.lengths }
-    {
-        self.shape.is_some()
     }
 
     /// Loads the tables, and makes them known. Where it is refused none are known any more.
@@ -155,5 +148,20 @@ impl<S: Alter> Holding<S> {
             (state S.Store self.new.connection) }
     {
         self.commit(changes)
+    }
+}
+
+impl<S: Alter + Drop> Holding<S> {
+    /// Gives the connection back, where tables were loaded.
+    pub fn into_loaded(self) -> Option<Connection<S>>
+        ensures given { MatchOption result (self.lengths ≡ None)
+            (λ connection. IsSome self.lengths × (connection ≡ self.connection)) }
+        ensures known { Knows (state S.Store self.connection) self.lengths }
+    {
+        let Holding { connection, shape } = self;
+        match shape {
+            Some(_) => Some(connection),
+            None => None,
+        }
     }
 }

@@ -1,5 +1,5 @@
 //! The files of a path are opened, and closed.
-ghost use Rattle.std.specs.Prelude.{◌≡◌, true, false, None, IsTrue, IfErr, IfOk, IfSome};
+ghost use Rattle.std.specs.Prelude.{◌≡◌, true, false, None, IsTrue, IfErr, IfOk, IfSome, OnOk};
 ghost use Rattle.sqlite.specs.Effect.{Database};
 ghost use Rattle.sqlite.specs.Files.{IsOpened, file_state};
 ghost use Rattle.sqlite.specs.Held.{IsNew};
@@ -7,6 +7,7 @@ ghost use Rattle.sqlite.specs.State.{HasCleanDisk};
 ghost use Rattle.sqlite.specs.WalFiles.{image_at};
 ghost use Rattle.sqlite_std_file.specs.File.{IsFresh};
 ghost use Rattle.sqlite_store.specs.FileStore.{view};
+ghost use Rattle.row_store.specs.Calls.{IsAtRest};
 ghost use Rattle.row_store.specs.Opening.{HeldDatabase, HeldNothing, IsLeftAlone, IsNamed, IsUncopied, IsUnreached};
 ghost use Rattle.row_store.specs.Opening.{Refuses, StaysOpen};
 ghost use Rattle.row_store.specs.Table.{no_schema};
@@ -178,11 +179,19 @@ pub fn close<S: Start>(
 ) -> Result<Files<FileFrom<S>>, Error>
     ensures { IfOk result (IsLeftAlone conn) }
 {
-    at_rest(&conn)?;
+    rests(&conn)?;
     match conn.close_files() {
         Ok(files) => Ok(files),
         Err((error, _store)) => Err(error),
     }
+}
+
+/// Refuses files with a transaction under way. What `at_rest` asks of a store is shown here, and not where the files
+/// are let go, which would cost more (`docs/gate.md`).
+fn rests<S: Start>(conn: &Connection<FileStore<FileFrom<S>>>) -> Result<(), Error>
+    ensures { OnOk result (IsAtRest (file_state conn.now)) }
+{
+    at_rest(conn)
 }
 
 /// Removes the log at a path, where it has no room for a commit. What is left of its files keeps others out meanwhile.
