@@ -1,52 +1,100 @@
 //! Files in memory that stop after so many calls.
-ghost use Rattle.std.specs.Prelude.{◌≡◌, false, IsTrue, IfOk};
+ghost use Rattle.std.specs.Prelude.{IsTrue};
 
+use crate::stopping_store::{Fused, StoppingStore};
 use crate::stored::{rows_of, stand};
 use desk_trials::{Told, serve};
 use keeper_sqlite::OpenTables;
-use sqlite::{Connection, FileStore, Files, Options};
+use sqlite::Files;
 use sqlite_disk::{Crash, Disk, Fuse, Memory};
 use std::alloc::Global;
-use std::mem;
 use std::test::Fail;
+use std::{io, mem};
 
-/// A keeper over files that stop.
-type Kept = OpenTables<FileStore<Fuse<Memory>>>;
-
-/// Where the library begins to draw what it writes into a log's head.
-const SEED: u64 = 1;
+/// What stands in a log and its database.
+#[derive(Drop)]
+pub struct Standing {
+    log: Vec<u8>,
+    db: Vec<u8>,
+}
 
 /// Files that stop, under a keeper while they are open.
 #[derive(Drop)]
-pub struct Disks {
-    keeper: Option<Kept>,
-    files: Option<Files<Fuse<Memory>>>,
+pub struct Disks<S: StoppingStore> {
+    keeper: Option<OpenTables<S>>,
+    files: Option<Fused>,
 }
 
-impl Disks {
-    /// New files in which these rows stand, or nothing where there is no text of rows; each of them stops after so many
-    /// calls. They are not open where they stop meanwhile.
-    pub fn opened(alloc: Global, rows: Option<&str>, calls: u64) -> Result<Disks, Fail> {
-        let files = first(alloc, rows)?;
-        let files = Files {
-            log: Fuse::new(files.log, calls),
-            db: Fuse::new(files.db, calls),
+impl Standing {
+    /// What stands in new files after these rows were put in them, with the log copied into the database; nothing where
+    /// there is no text of rows.
+    pub fn with_rows<S: StoppingStore>(
+        alloc: Global,
+        rows: Option<&str>,
+    ) -> Result<Standing, Fail> {
+        let nothing = Standing {
+            log: Vec::new(alloc),
+            db: Vec::new(alloc),
         };
-        Ok(Disks::over(alloc, files))
+        match rows {
+            Some(_) => nothing.filled::<S>(alloc, rows),
+            None => Ok(nothing),
+        }
     }
 
-    fn over(alloc: Global, files: Files<Fuse<Memory>>) -> Disks
-        requires log { IsTrue (⟦<Fuse<Memory> as Disk>⟧.is_usable files.log) }
-        requires db { IsTrue (⟦<Fuse<Memory> as Disk>⟧.is_usable files.db) }
-    {
-        match Connection::open_files(alloc, files, Options::new(SEED)) {
+    /// The same, where this stands in the files before.
+    fn filled<S: StoppingStore>(
+        &self,
+        alloc: Global,
+        rows: Option<&str>,
+    ) -> Result<Standing, Fail> {
+        let mut disks: Disks<S> = Disks::holding(alloc, self, u64::MAX)?;
+        let filled = disks.filled(alloc, rows);
+        drop(disks);
+        filled
+    }
+
+    /// New files in which it stands, each of which stops after so many calls.
+    fn files(&self, alloc: Global, calls: u64) -> Result<Fused, Fail> {
+        let log = disk(alloc, self.log.as_slice(), calls)?;
+        let db = disk(alloc, self.db.as_slice(), calls)?;
+        Ok(Files { log, db })
+    }
+}
+
+/// A new file with these bytes, which stops after so many calls.
+fn disk(alloc: Global, bytes: &[u8], calls: u64) -> Result<Fuse<Memory>, Fail> {
+    let mut memory = Memory::new(alloc);
+    match write(&mut memory, bytes) {
+        Ok(()) => Ok(Fuse::new(memory, calls)),
+        Err(_) => Err(Fail::new("a file in memory was not written")),
+    }
+}
+
+/// Writes these bytes to a new file, so that no crash loses them.
+fn write(memory: &mut Memory, bytes: &[u8]) -> io::Result<()>
+    requires { IsTrue (⟦<Memory as Disk>⟧.is_usable memory.old) }
+{
+    memory.write_at(0, bytes)?;
+    memory.sync()
+}
+
+impl<S: StoppingStore> Disks<S> {
+    /// Files in which this stands at first, each of which stops after so many calls. They are not open where they stop
+    /// meanwhile.
+    pub fn holding(alloc: Global, standing: &Standing, calls: u64) -> Result<Disks<S>, Fail> {
+        Ok(Disks::over(alloc, standing.files(alloc, calls)?))
+    }
+
+    fn over(alloc: Global, files: Fused) -> Disks<S> {
+        match S::open(alloc, files) {
             Ok(conn) => Disks {
                 keeper: Some(OpenTables::over(conn)),
                 files: None,
             },
-            Err((_, left)) => Disks {
+            Err(files) => Disks {
                 keeper: None,
-                files: Some(left.into_files()),
+                files: Some(files),
             },
         }
     }
@@ -75,7 +123,7 @@ impl Disks {
         Ok(())
     }
 
-    fn close(&mut self) -> Option<Files<Fuse<Memory>>> {
+    fn close(&mut self) -> Option<Fused> {
         match self.keeper.take() {
             Some(keeper) => Some(keeper.into_connection().into_store().close()),
             None => self.files.take(),
@@ -92,74 +140,49 @@ impl Disks {
         drop(mem::replace(&mut self.keeper, Some(OpenTables::over(conn))));
         rows
     }
+
+    /// What stands in the files after these rows were put where nothing stands, with the log copied into the database.
+    /// The files are not open any more.
+    fn filled(&mut self, alloc: Global, rows: Option<&str>) -> Result<Standing, Fail> {
+        self.fill(alloc, rows)?;
+        self.settled(alloc)
+    }
+
+    /// Puts these rows, and takes a new keeper over the same files.
+    fn fill(&mut self, alloc: Global, rows: Option<&str>) -> Result<(), Fail> {
+        let Some(keeper) = self.keeper.take() else {
+            return Err(not_open());
+        };
+        let mut conn = keeper.into_connection();
+        let stood = stand(alloc, &mut conn, rows);
+        drop(mem::replace(&mut self.keeper, Some(OpenTables::over(conn))));
+        stood
+    }
+
+    fn settled(&mut self, alloc: Global) -> Result<Standing, Fail> {
+        let Some(keeper) = self.keeper.take() else {
+            return Err(not_open());
+        };
+        let mut store = keeper.into_connection().into_store();
+        let is_settled = store.settle();
+        let files = store.close();
+        let standing = if is_settled {
+            standing_in(alloc, &files)
+        } else {
+            Err(Fail::new("a log was not copied"))
+        };
+        drop(files);
+        standing
+    }
+}
+
+/// What stands in these files.
+fn standing_in(alloc: Global, files: &Fused) -> Result<Standing, Fail> {
+    let log = Vec::from_slice(alloc, files.log.inner().bytes())?;
+    let db = Vec::from_slice(alloc, files.db.inner().bytes())?;
+    Ok(Standing { log, db })
 }
 
 fn not_open() -> Fail {
     Fail::new("files that stopped are not open")
-}
-
-/// New files in which these rows stand, or nothing where there is no text of rows.
-fn first(alloc: Global, rows: Option<&str>) -> Result<Files<Memory>, Fail>
-    ensures log { IfOk result (λ files. IsTrue (⟦<Memory as Disk>⟧.is_usable files.log)) }
-    ensures db { IfOk result (λ files. IsTrue (⟦<Memory as Disk>⟧.is_usable files.db)) }
-{
-    match rows {
-        Some(_) => written(alloc, rows),
-        None => Ok(new(alloc)),
-    }
-}
-
-/// New files in which nothing stands.
-fn new(alloc: Global) -> Files<Memory>
-    ensures log { IsTrue (⟦<Memory as Disk>⟧.is_usable result.log) }
-    ensures db { IsTrue (⟦<Memory as Disk>⟧.is_usable result.db) }
-{
-    Files {
-        log: Memory::new(alloc),
-        db: Memory::new(alloc),
-    }
-}
-
-/// New files in which these rows stand.
-fn written(alloc: Global, rows: Option<&str>) -> Result<Files<Memory>, Fail>
-    ensures log { IfOk result (λ files. IsTrue (⟦<Memory as Disk>⟧.is_usable files.log)) }
-    ensures db { IfOk result (λ files. IsTrue (⟦<Memory as Disk>⟧.is_usable files.db)) }
-{
-    match Connection::open_files(alloc, new(alloc), Options::new(SEED)) {
-        Ok(conn) => filled(alloc, conn, rows),
-        Err(_) => Err(Fail::new("new files were not opened")),
-    }
-}
-
-/// The files of a connection in which nothing stands, with these rows.
-fn filled(
-    alloc: Global,
-    mut conn: Connection<FileStore<Memory>>,
-    rows: Option<&str>,
-) -> Result<Files<Memory>, Fail>
-    requires { conn.in_transaction ≡ false }
-    ensures log { IfOk result (λ files. IsTrue (⟦<Memory as Disk>⟧.is_usable files.log)) }
-    ensures db { IfOk result (λ files. IsTrue (⟦<Memory as Disk>⟧.is_usable files.db)) }
-{
-    match stand(alloc, &mut conn, rows) {
-        Ok(()) => shut(conn),
-        Err(fail) => {
-            drop(conn);
-            Err(fail)
-        }
-    }
-}
-
-/// The files of a connection, with the log copied into them.
-fn shut(conn: Connection<FileStore<Memory>>) -> Result<Files<Memory>, Fail>
-    ensures log { IfOk result (λ files. IsTrue (⟦<Memory as Disk>⟧.is_usable files.log)) }
-    ensures db { IfOk result (λ files. IsTrue (⟦<Memory as Disk>⟧.is_usable files.db)) }
-{
-    match conn.close_files() {
-        Ok(files) => Ok(files),
-        Err((_, store)) => {
-            drop(store.close());
-            Err(Fail::new("new files were not closed"))
-        }
-    }
 }

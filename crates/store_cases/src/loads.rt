@@ -29,14 +29,7 @@ const CALLS: [Names; 2] = [
 
 /// What the calls of a case write, each by a keeper over the database that those before it left, and which rows stand
 /// then.
-pub fn told(case: &Case, answer: &mut Answer) -> Result<(), Fail> {
-    let mut stored = Stored::holding(answer.alloc(), case.text("rows"))?;
-    let told = add_calls(case, &mut stored, answer);
-    drop(stored);
-    told
-}
-
-fn add_calls(case: &Case, stored: &mut Stored, answer: &mut Answer) -> Result<(), Fail> {
+pub fn told(case: &Case, stored: &mut Stored, answer: &mut Answer) -> Result<(), Fail> {
     for names in &CALLS {
         if case.part(names.status).is_some() {
             add_call(case, stored, names, answer)?;

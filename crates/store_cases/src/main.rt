@@ -10,9 +10,12 @@ mod files;
 mod lines;
 mod loads;
 mod sent;
+mod stopping_store;
 mod stops;
 mod stored;
 
+use crate::stopping_store::FusedStore;
+use crate::stored::Stored;
 use desk_cases::{Answer, Case, Part, Subject, try_files};
 use desk_trials::Script;
 use std::test::Fail;
@@ -45,15 +48,33 @@ impl<'r> Subject for Runs<'r> {
     }
 
     fn answer(&mut self, kind: &str, case: &Case, answer: &mut Answer) -> Result<(), Fail> {
+        if kind == "file" {
+            return files::told(self.rt, &self.script, case, answer);
+        }
+        let mut stored = Stored::holding(answer.alloc(), case.text("rows"))?;
+        let answered = self.answer_over(kind, case, &mut stored, answer);
+        drop(stored);
+        answered
+    }
+}
+
+impl<'r> Runs<'r> {
+    /// Adds the parts that answer a case, over a keeper of a database in memory in which its rows stand.
+    fn answer_over(
+        &mut self,
+        kind: &str,
+        case: &Case,
+        stored: &mut Stored,
+        answer: &mut Answer,
+    ) -> Result<(), Fail> {
         match kind {
             "desk" => {
-                sent::next(&self.script, case, answer)?;
+                sent::next(&self.script, case, stored, answer)?;
                 self.script.add(answer.alloc(), case)
             }
-            "script" => sent::told(&self.script, case, answer),
-            "rows" => loads::told(case, answer),
-            "file" => files::told(self.rt, &self.script, case, answer),
-            "stop" => stops::told(&self.script, case, answer),
+            "script" => sent::told(&self.script, case, stored, answer),
+            "rows" => loads::told(case, stored, answer),
+            "stop" => stops::told::<FusedStore>(&self.script, case, stored, answer),
             _ => Err(Fail::new("a file of cases has an unknown kind")),
         }
     }

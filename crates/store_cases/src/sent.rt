@@ -54,17 +54,9 @@ impl Stream {
     }
 }
 
-/// What the request of a case is answered in a stream of its own, by a keeper over the database that the script left so
-/// far.
-pub fn next(script: &Script, case: &Case, answer: &mut Answer) -> Result<(), Fail> {
-    let mut stored = Stored::holding(answer.alloc(), None)?;
-    let told = next_over(script, case, &mut stored, answer);
-    drop(stored);
-    told
-}
-
-/// The same over a keeper that was not called yet.
-fn next_over(
+/// What the request of a case is answered in a stream of its own, by a keeper over the database that the script so far
+/// leaves there. The keeper was not called yet.
+pub fn next(
     script: &Script,
     case: &Case,
     stored: &mut Stored,
@@ -85,15 +77,7 @@ fn send(alloc: Global, script: &Script, stored: &mut Stored) -> Result<(), Fail>
 
 /// What the streams of a case are answered, each by a keeper over the database that those before it left, and whether
 /// that database has the tables that are wanted then.
-pub fn told(script: &Script, case: &Case, answer: &mut Answer) -> Result<(), Fail> {
-    let mut stored = Stored::holding(answer.alloc(), None)?;
-    let told = told_over(script, case, &mut stored, answer);
-    drop(stored);
-    told
-}
-
-/// The same over the first of these keepers.
-fn told_over(
+pub fn told(
     script: &Script,
     case: &Case,
     stored: &mut Stored,

@@ -1,6 +1,7 @@
 //! The script over files that stop after so many calls: none, one, two, and so on to the first run that none of them
 //! stops.
-use crate::disks::Disks;
+use crate::disks::{Disks, Standing};
+use crate::stopping_store::StoppingStore;
 use crate::stored::Stored;
 use desk_cases::{Answer, Case};
 use desk_trials::{Script, Table, Told};
@@ -13,13 +14,13 @@ const MOST: u64 = 10_000;
 /// The status of a keeper that did not load.
 const NOT_LOADED: u8 = 4;
 
-/// What is tried: the first requests of the script, over the rows of a case, and which rows stand before the keeper
-/// loads, when it has loaded, and after each request, where nothing stops.
+/// What is tried: the first requests of the script, over files in which the rows of a case stand, and which rows stand
+/// before the keeper loads, when it has loaded, and after each request, where nothing stops.
 #[derive(Drop)]
 struct Trial<'c> {
     script: &'c Script,
-    rows: Option<&'c str>,
     count: usize,
+    standing: Standing,
     states: Vec<String>,
 }
 
@@ -36,11 +37,17 @@ enum Left {
     NotResumed(u64),
 }
 
-/// What stops in each step leave.
-pub fn told(script: &Script, case: &Case, answer: &mut Answer) -> Result<(), Fail> {
-    let trial = Trial::of(answer.alloc(), script, case)?;
+/// What stops in each step leave. The keeper over a database in memory has the rows of the case, and was not called
+/// yet.
+pub fn told<S: StoppingStore>(
+    script: &Script,
+    case: &Case,
+    stored: &mut Stored,
+    answer: &mut Answer,
+) -> Result<(), Fail> {
+    let trial = Trial::of::<S>(answer.alloc(), script, case, stored)?;
     let mut left = vec![in answer.alloc(); Left::NoStop; trial.count.saturating_add(1)]?;
-    trial.stop_each(answer.alloc(), left.as_mut_slice())?;
+    trial.stop_each::<S>(answer.alloc(), left.as_mut_slice())?;
     add_left(left.as_slice(), answer)
 }
 
@@ -75,28 +82,28 @@ impl Left {
 }
 
 impl<'c> Trial<'c> {
-    /// The trial of a case.
-    fn of(alloc: Global, script: &'c Script, case: &'c Case) -> Result<Trial<'c>, Fail> {
-        let rows = case.text("rows");
-        let count = match case.number("requests") {
-            Some(count) => usize::try_from(count)
-                .unwrap_or(usize::MAX)
-                .min(script.len()),
-            None => return Err(Fail::new("a case does not say how many requests are sent")),
-        };
-        let states = states(alloc, script, rows, count)?;
+    /// The trial of a case, where a keeper over a database in memory has its rows.
+    fn of<S: StoppingStore>(
+        alloc: Global,
+        script: &'c Script,
+        case: &Case,
+        stored: &mut Stored,
+    ) -> Result<Trial<'c>, Fail> {
+        let count = count_of(script, case)?;
+        let standing = Standing::with_rows::<S>(alloc, case.text("rows"))?;
+        let states = states(alloc, script, stored, count)?;
         Ok(Trial {
             script,
-            rows,
             count,
+            standing,
             states,
         })
     }
 
     /// Has files stop after no call, one, two, and so on, and notes what each stop left.
-    fn stop_each(&self, alloc: Global, left: &mut [Left]) -> Result<(), Fail> {
+    fn stop_each<S: StoppingStore>(&self, alloc: Global, left: &mut [Left]) -> Result<(), Fail> {
         for calls in 0..MOST {
-            match self.stop(alloc, calls)? {
+            match self.stop::<S>(alloc, calls)? {
                 Some((step, found)) => note(left, step, found),
                 None => return Ok(()),
             }
@@ -106,17 +113,21 @@ impl<'c> Trial<'c> {
 
     /// The step in which files stop after so many calls, 0 for the load and else the number of a request, and what that
     /// stop left; none where they do not stop.
-    fn stop(&self, alloc: Global, calls: u64) -> Result<Option<(usize, Left)>, Fail> {
-        let mut disks = Disks::opened(alloc, self.rows, calls)?;
+    fn stop<S: StoppingStore>(
+        &self,
+        alloc: Global,
+        calls: u64,
+    ) -> Result<Option<(usize, Left)>, Fail> {
+        let mut disks: Disks<S> = Disks::holding(alloc, &self.standing, calls)?;
         let stopped = self.stop_over(alloc, &mut disks, calls);
         drop(disks);
         stopped
     }
 
-    fn stop_over(
+    fn stop_over<S: StoppingStore>(
         &self,
         alloc: Global,
-        disks: &mut Disks,
+        disks: &mut Disks<S>,
         calls: u64,
     ) -> Result<Option<(usize, Left)>, Fail> {
         match self.step_of(alloc, disks)? {
@@ -126,7 +137,11 @@ impl<'c> Trial<'c> {
     }
 
     /// The step in which files stop.
-    fn step_of(&self, alloc: Global, disks: &mut Disks) -> Result<Option<usize>, Fail> {
+    fn step_of<S: StoppingStore>(
+        &self,
+        alloc: Global,
+        disks: &mut Disks<S>,
+    ) -> Result<Option<usize>, Fail> {
         if !disks.are_open() {
             return Ok(Some(0));
         }
@@ -148,10 +163,10 @@ impl<'c> Trial<'c> {
     }
 
     /// What a stop in a step, after so many calls, left.
-    fn left(
+    fn left<S: StoppingStore>(
         &self,
         alloc: Global,
-        disks: &mut Disks,
+        disks: &mut Disks<S>,
         step: usize,
         calls: u64,
     ) -> Result<Left, Fail> {
@@ -175,14 +190,24 @@ impl<'c> Trial<'c> {
     }
 
     /// Whether the requests from that of a step on are answered as in the script, and leave the rows that it leaves.
-    fn is_resumed(&self, alloc: Global, disks: &mut Disks, step: usize) -> Result<bool, Fail> {
+    fn is_resumed<S: StoppingStore>(
+        &self,
+        alloc: Global,
+        disks: &mut Disks<S>,
+        step: usize,
+    ) -> Result<bool, Fail> {
         let is_answered = self.is_answered(alloc, disks, step.saturating_sub(1))?;
         let rows = disks.renew(alloc)?;
         Ok(is_answered && self.is_last(rows.as_str()))
     }
 
     /// Whether the requests from a place on, counted from 0, are answered as in the script.
-    fn is_answered(&self, alloc: Global, disks: &mut Disks, place: usize) -> Result<bool, Fail> {
+    fn is_answered<S: StoppingStore>(
+        &self,
+        alloc: Global,
+        disks: &mut Disks<S>,
+        place: usize,
+    ) -> Result<bool, Fail> {
         let requests = self.script.requests(alloc, place, self.count)?;
         let told = disks.serve(alloc, requests.as_slice())?;
         let wanted = self.script.responses(alloc, place, self.count)?;
@@ -198,20 +223,20 @@ impl<'c> Trial<'c> {
     }
 }
 
-/// Which rows stand before the keeper loads, when it has loaded, and after each of the first requests.
-fn states(
-    alloc: Global,
-    script: &Script,
-    rows: Option<&str>,
-    count: usize,
-) -> Result<Vec<String>, Fail> {
-    let mut stored = Stored::holding(alloc, rows)?;
-    let states = states_of(alloc, script, &mut stored, count);
-    drop(stored);
-    states
+/// How many requests of the script a case sends.
+fn count_of(script: &Script, case: &Case) -> Result<usize, Fail> {
+    match case.number("requests") {
+        Some(count) => Ok(
+            usize::try_from(count)
+                .unwrap_or(usize::MAX)
+                .min(script.len()),
+        ),
+        None => Err(Fail::new("a case does not say how many requests are sent")),
+    }
 }
 
-fn states_of(
+/// Which rows stand before the keeper loads, when it has loaded, and after each of the first requests.
+fn states(
     alloc: Global,
     script: &Script,
     stored: &mut Stored,
