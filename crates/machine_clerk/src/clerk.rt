@@ -1,10 +1,9 @@
 //! What a clerk writes, one command a file: the tests in their order, and the deed.
 ghost use Rattle.desk_words.specs.Tables.{published_of, rows_of};
-ghost use Rattle.desk_valid.specs.Valid.{AreValid};
+ghost use Rattle.machine_workplace.specs.Ready.{IsReady};
 ghost use Rattle.machine_core.specs.Machine.{deed_of};
 ghost use Rattle.machine_core.specs.Outcomes.{Answers};
 ghost use Rattle.machine_core.specs.Own.{IsOwn};
-ghost use Rattle.machine_core.specs.Shelves.{AreHeld, IsFullRoom};
 
 mod abandon;
 mod batch;
@@ -23,49 +22,48 @@ pub use commit::commit_deed;
 pub use confirm::{confirm_deed, confirm_row};
 use desk_words::{ClerkWork, Tables};
 pub use enter::enter_deed;
-use fix_engine::Work;
 use machine_core::{Deed, Own, Stop};
-use master_index::Shelf;
-use std::alloc::Global;
+use machine_workplace::Workplace;
 pub use withdraw::withdraw_deed;
 
 /// What an accepted write of a clerk does. The book of the session's edition is brought to the front of the shelf, or
 /// put there, where a test comes that needs it.
 pub fn deed_of(
-    alloc: Global,
     tables: &Tables,
-    shelf: &mut Shelf,
-    work: &mut Work,
+    workplace: &mut Workplace,
     own: &Own,
     written: &ClerkWork,
 ) -> Result<Deed, Stop>
-    requires valid { AreValid (rows_of tables.now) }
+    requires ready { IsReady (rows_of tables.now) workplace.old }
     requires own { IsOwn (rows_of tables.now) own.now }
-    requires held { AreHeld (published_of (rows_of tables.now)) shelf.old }
-    requires room { IsFullRoom work.old }
     ensures answers { Answers result (deed_of (published_of (rows_of tables.now)) own.now written.now) }
-    ensures held { AreHeld (published_of (rows_of tables.now)) shelf.new }
-    ensures room { IsFullRoom work.new }
+    ensures ready { IsReady (rows_of tables.now) workplace.new }
 {
     match written {
         ClerkWork::Enter {
             edition,
             cells,
             confirmed,
-        } => enter_deed(alloc, tables, shelf, own, edition, cells, confirmed),
+        } => enter_deed(tables, workplace, own, edition, cells, confirmed),
         ClerkWork::Confirm { session, cells } => {
-            confirm_deed(alloc, tables, shelf, own, *session, cells.as_slice())
+            confirm_deed(tables, workplace, own, *session, cells.as_slice())
         }
         ClerkWork::Withdraw { session, names } => {
-            withdraw_deed(alloc, tables, shelf, own, *session, names.as_slice())
+            withdraw_deed(tables, workplace, own, *session, names.as_slice())
         }
         ClerkWork::Commit { session, accept } => {
-            commit_deed(alloc, tables, shelf, work, own, *session, *accept)
+            commit_deed(tables, workplace, own, *session, *accept)
         }
-        ClerkWork::Abandon { session } => abandon_deed(alloc, own, *session),
+        ClerkWork::Abandon { session } => abandon_deed(workplace.alloc, own, *session),
         ClerkWork::Batch { edition, body } => {
-            batch_deed(alloc, tables, shelf, own, edition, body.as_slice())
+            batch_deed(tables, workplace, own, edition, body.as_slice())
         }
-        ClerkWork::Carry { session, version } => carry_deed(alloc, tables, own, *session, *version),
+        ClerkWork::Carry { session, version } => carry_deed(
+            workplace.alloc,
+            tables,
+            own,
+            *session,
+            *version,
+        ),
     }
 }

@@ -1,5 +1,5 @@
 -- The choices and the dissent of an answer are at attributes of the kit, by steps of it.
-use Rattle.std.proofs.Common.{◌<◌, ℕ, List, Some, None, filter, get_or, arith}
+use Rattle.std.proofs.Common.{◌<◌, ℕ, List, filter, get_or, arith}
 use Rattle.std.specs.Prelude.{All, IfSome}
 use Rattle.std.specs.List.{range_with_len}
 use Rattle.std.proofs.lemmas.List.Elements.{All-filter, All-map, All-nil}
@@ -18,8 +18,7 @@ use Rattle.fix_engine.specs.declared.verdict.Verdict.{Verdict}
 use Rattle.fix_engine.specs.declared.verdict.Verdict.TheVariants.{Fix, Conflict}
 use Rattle.fix_engine.specs.Verdicts.{IsAnswer}
 use Rattle.fix_choices.specs.Choices.{choice_at, choices_between, choices_of, differs}
-use Rattle.fix_choices.specs.Dissents.{dissent_of}
-use Rattle.machine_views.specs.Naming.{IsChoiceOf, IsDissentOf}
+use Rattle.machine_views.specs.Naming.{IsChoiceOf}
 
 module _ (kit : Kit) (valid : IsValid kit) where
   -- the step that fixed a cell of the kit is one of it
@@ -55,15 +54,3 @@ module _ (kit : Kit) (valid : IsValid kit) where
     choices-named Conflict is = between (end_of kit state first) (end_of kit state second)
         (Fits-end_of kit valid state first fits is.is_first.holds.0)
         (Fits-end_of kit valid state second fits is.is_second.holds.maximal.0)
-
-    -- and its dissent
-    pub dissent-named : (verdict : Verdict) → IsAnswer kit state first second verdict
-        → IfSome (dissent_of kit state first verdict) (IsDissentOf kit)
-    dissent-named (Fix certain None) is = tt
-    dissent-named (Fix certain (Some step)) is =
-        let dissents = is.0.is_dissent.holds in
-        record {
-          attribute = (valid.rules step.rule _ dissents.rule_within).head;
-          step = (dissents.rule_within, dissents.agrees.usable.row_within);
-        }
-    dissent-named Conflict is = tt

@@ -1,6 +1,6 @@
 -- Counts of what is found of one item after another.
 use Rattle.std.proofs.Common.{◌≡◌, ◌∙◌, ℕ, ◌+◌, ◌<◌, Bool, true, false, cond, List, [], ◌∷◌, ◌++◌, length, get_or}
-use Rattle.std.proofs.Common.{take, refl, sym, ap, add-zero, arith}
+use Rattle.std.proofs.Common.{take, refl, sym, ap, add-zero}
 use Rattle.std.specs.Prelude.{Ok, count_by}
 use Rattle.std.proofs.lemmas.List.{take_more}
 use Rattle.std.proofs.lemmas.List.Sums.{sum_by_push}
@@ -10,7 +10,7 @@ use Rattle.machine_core.specs.Checked.{Checked, ◌>>=◌, done, each, Gives}
 use Rattle.machine_core.specs.Look.Report.{is_certain_fix, is_conflict, is_partial_fix}
 use Rattle.machine_core.proofs.Chains.{Gives-bind, Gives-bind_ok, done-value}
 use Rattle.machine_views.specs.declared.counting.Verdicts.{Verdicts}
-use Rattle.machine_views.specs.Counts.{AreAtMost, AreCounted, one_more, verdicts_of}
+use Rattle.machine_views.specs.Counts.{AreCounted, one_more, verdicts_of}
 
 -- what is found of items and of one more
 pub each-push : {A B : Type 0} (find : A → Checked B) (items : List A) (found : List B) (item : A) (value : B)
@@ -60,11 +60,6 @@ module _ {A : Type 0} (verdict_of : A → Verdict) where
       (verdict_of item)
       ∙ (λ i. record { certain = sym certain i; partial = sym partial i; conflict = sym conflict i })
 
--- nothing is counted of nothing
-pub AreCounted-none : {A B : Type 0} (find : A → Checked B) (verdict_of : B → Verdict) (verdicts : Verdicts)
-    → verdicts ≡ record { certain = 0; partial = 0; conflict = 0 } → AreCounted find verdict_of [] verdicts
-AreCounted-none find verdict_of verdicts none = record { all = []; given = refl; counted = none }
-
 -- the verdict on one more item is counted
 pub AreCounted-push : {A B : Type 0} (find : A → Checked B) (verdict_of : B → Verdict) (items : List A) (item : A)
     (value : B) (verdicts : Verdicts) → AreCounted find verdict_of items verdicts → Gives (find item) (Ok value)
@@ -84,25 +79,3 @@ AreCounted-next find verdict_of items place item value verdicts more within is a
     let longer : take (place + 1) items ≡ take place items ++ item ∷ [] =
     take_more items place item within ∙ ap (λ one. take place items ++ one ∷ []) (sym is) in
     rw (longer, counts) (AreCounted-push find verdict_of (take place items) item value verdicts are gives)
-
--- one more than so many
-pub AreAtMost-more : (most : ℕ) (counts : Verdicts) (verdict : Verdict) → AreAtMost most counts
-    → AreAtMost (most + 1) (one_more counts verdict)
-AreAtMost-more most counts (Fix true dissent) are =
-    record {
-      certain = omega (arith, are.certain);
-      partial = omega (arith, are.partial);
-      conflict = omega (arith, are.conflict);
-    }
-AreAtMost-more most counts (Fix false dissent) are =
-    record {
-      certain = omega (arith, are.certain);
-      partial = omega (arith, are.partial);
-      conflict = omega (arith, are.conflict);
-    }
-AreAtMost-more most counts Conflict are =
-    record {
-      certain = omega (arith, are.certain);
-      partial = omega (arith, are.partial);
-      conflict = omega (arith, are.conflict);
-    }

@@ -12,7 +12,6 @@ use Rattle.std.proofs.lemmas.Bool.Decides.{nat_tests}
 use Rattle.desk_words.specs.declared.reply.Reply.TheVariants as reply
 use Rattle.desk_words.specs.declared.rows.act.Act.TheVariants as act
 use Rattle.desk_words.specs.declared.rows.batch.BatchRow.{BatchRow}
-use Rattle.desk_words.specs.declared.rows.record.RecordRow.{RecordRow}
 use Rattle.desk_words.specs.declared.rows.session.SessionRow.{SessionRow}
 use Rattle.desk_words.specs.declared.view.View.{View}
 use Rattle.desk_words.specs.Changes.{put}
@@ -33,7 +32,7 @@ use Rattle.machine_core.specs.Clerk.Batch.{placed}
 use Rattle.machine_core.proofs.Chains.{Gives-bind}
 use Rattle.machine_core.proofs.Placing.{put_all-placed}
 use Rattle.machine_views.specs.declared.counting.Verdicts.{Verdicts}
-use Rattle.machine_views.specs.Doing.{PutsBatch, PutsRecord}
+use Rattle.machine_views.specs.Doing.{PutsBatch}
 use Rattle.machine_views.specs.Counts.{AreSessionVerdicts, batched, verdicts_of}
 use Rattle.desk_base.proofs.Lists.{All-unmap, slice_get-end, slice_get-set_same}
 
@@ -68,27 +67,6 @@ pub view_at-given : (published : Published) (own : Own) (place : ℕ) (session :
     → Gives (view_at published own (place + 1)) (Ok view)
 view_at-given published own place session view stands gives =
     rw (session_at-place own.sessions place, stands) gives
-
--- is the reply of a session that was opened
-pub opened-given : (published : Published) (own : Own) (place : ℕ) (view : View)
-    → Gives (view_at published own (place + 1)) (Ok view)
-    → Gives (kept_reply published own act.Opened place) (Ok (reply.Opened view))
-opened-given published own place view gives =
-    Gives-bind (view_at published own (place + 1)) (λ one. done (reply.Opened one)) view (Ok (reply.Opened view)) gives
-    refl
-
--- and of one that was changed
-pub changed-given : (published : Published) (own : Own) (place : ℕ) (view : View)
-    → Gives (view_at published own (place + 1)) (Ok view)
-    → Gives (kept_reply published own act.Changed place) (Ok (reply.View view))
-changed-given published own place view gives =
-    Gives-bind (view_at published own (place + 1)) (λ one. done (reply.View one)) view (Ok (reply.View view)) gives refl
-
--- the record at a place is told in the reply of its commit
-pub committed-given : (published : Published) (own : Own) (place : ℕ) (row : RecordRow)
-    → slice_get own.records place ≡ Some row
-    → Gives (kept_reply published own act.Committed place) (Ok (reply.Committed (place + 1) row.session row.certain))
-committed-given published own place row stands = rw stands refl
 
 -- and the verdicts on its sessions in that of a batch
 pub batched-given : (published : Published) (own : Own) (place : ℕ) (row : BatchRow) (verdicts : Verdicts)
@@ -155,12 +133,6 @@ module _ (published : Published) (own : Own) (deed : Deed) (sound : IsSoundDeed 
       let fit : PutsFit own.sessions ((deed.target, session) ∷ []) = subst (PutsFit own.sessions) is sound.puts_fit in
       rw is (slice_get-put own.sessions deed.target session fit.0.0)
 
-  -- and its number is none too great
-  pub put-short : (session : SessionRow) → deed.sessions ≡ (deed.target, session) ∷ [] → deed.target + 1 < 2 ^ 31
-  put-short session is =
-      let fit : PutsFit own.sessions ((deed.target, session) ∷ []) = subst (PutsFit own.sessions) is sound.puts_fit in
-      fit.0.1
-
   -- the sessions of a batch are those that are put
   put-sessions : (puts : PutsBatch own deed) → map (λ put. put.1) deed.sessions ≡ puts.sessions
   put-sessions puts = ap (map (λ put. put.1)) puts.are ∙ map-placed puts.sessions (length own.sessions)
@@ -196,10 +168,6 @@ module _ (published : Published) (own : Own) (deed : Deed) (sound : IsSoundDeed 
   pub batch-there : (puts : PutsBatch own deed) → slice_get (after own deed).batches deed.target ≡ Some puts.row
   batch-there puts =
       rw (puts.is, puts.target) (slice_get-end own.batches puts.row)
-
-  -- and so does a record
-  pub record-there : (puts : PutsRecord own deed) → slice_get (after own deed).records deed.target ≡ Some puts.row
-  record-there puts = rw (puts.is, puts.target) (slice_get-end own.records puts.row)
 
   -- there are not too many
   pub batch-short : (puts : PutsBatch own deed) → puts.row.count < 2 ^ 32

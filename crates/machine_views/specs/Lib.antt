@@ -4,4 +4,3 @@ pub mod Doing
 pub mod Looking
 pub mod Naming
 pub mod Reporting
-pub mod Upshots

@@ -15,10 +15,10 @@ use Rattle.machine_core.specs.Look.Report.{Assessment, assessment_of, is_abandon
 use Rattle.machine_core.specs.Look.Report.{is_fixed_cell, is_uncovered_cell, report_line}
 use Rattle.machine_views.specs.declared.looks.counts.Counts.{Counts}
 use Rattle.machine_views.specs.declared.looks.counts.Stages.{Stages}
-use Rattle.machine_views.specs.declared.upshots.Cells.{Cells}
-use Rattle.machine_views.specs.declared.upshots.Upshot.{Upshot}
+use Rattle.machine_workplace.specs.declared.upshots.Cells.{Cells}
+use Rattle.machine_workplace.specs.declared.upshots.Upshot.{Upshot}
 use Rattle.machine_views.specs.Counts.{AreAtMost, one_more, verdicts_of}
-use Rattle.machine_views.specs.Upshots.{AreCellsUpTo, cells_in, cells_of_both}
+use Rattle.machine_workplace.specs.Upshots.{AreCellsUpTo, cells_in, cells_of_both}
 
 -- how many sessions are at each stage
 abbrev pub stages_of : List Assessment → Stages

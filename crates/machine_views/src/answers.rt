@@ -3,6 +3,7 @@ ghost use Rattle.std.specs.Prelude.{◌≡◌, ◌≤◌, length, IfOk, OnOk};
 ghost use Rattle.desk_base.specs.declared.limits.TheConstants.{MAX_ATTRIBUTES};
 ghost use Rattle.desk_words.specs.Tables.{published_of, rows_of};
 ghost use Rattle.desk_valid.specs.Valid.{AreValid};
+ghost use Rattle.machine_workplace.specs.Ready.{IsReady};
 ghost use Rattle.fix_engine.specs.Verdicts.{IsAnswer};
 ghost use Rattle.fix_model.specs.States.{Fits};
 ghost use Rattle.fix_model.specs.Valid.{IsValid};
@@ -14,14 +15,14 @@ ghost use Rattle.machine_core.specs.Shelves.{AreHeld, IsFirst, IsFullRoom, bound
 ghost use Rattle.machine_core.specs.Tests.{session_of};
 ghost use Rattle.machine_views.specs.Answered.{IsAnswered, IsBookFor, Suits, answer_in};
 ghost use Rattle.machine_views.specs.Looking.{IsSessionFirst};
-ghost use Rattle.machine_views.specs.Upshots.{AreCellsUpTo, cells_in};
+ghost use Rattle.machine_workplace.specs.Upshots.{AreCellsUpTo, cells_in};
 
-use crate::upshots::{Cells, Upshot};
 use desk_base::{NoMemory, Steps};
 use desk_words::{SessionRow, Tables};
 use fix_engine::{Verdict, Work, apply, decide};
 use fix_model::State;
 use machine_core::{Own, Stop, hold, session_of, shelved, state_of};
+use machine_workplace::{Cells, Upshot, Workplace};
 use master_index::{Shelf, Shelved, SortedBook};
 use std::alloc::Global;
 
@@ -49,23 +50,21 @@ impl Answered {
 
 /// The session of a clerk with this number, counted from 1. Its edition comes first on the shelf.
 pub(crate) fn brought_session<'o>(
-    alloc: Global,
     tables: &Tables,
-    shelf: &mut Shelf,
+    workplace: &mut Workplace,
     own: &'o Own,
     number: u32,
 ) -> Result<&'o SessionRow, Stop>
-    requires valid { AreValid (rows_of tables.now) }
-    requires held { AreHeld (published_of (rows_of tables.now)) shelf.old }
+    requires ready { IsReady (rows_of tables.now) workplace.old }
     requires own { IsOwn (rows_of tables.now) own.now }
     ensures finds { Lends result (session_of own.now.sessions number) }
     ensures stands { IfOk result (λ session. IsSessionOf (published_of (rows_of tables.now)) session.now) }
-    ensures brought { IfOk result (λ session. IsFirst session.now.edition shelf.new) }
-    ensures first { OnOk result (IsSessionFirst own.now.sessions number shelf.new) }
-    ensures held { AreHeld (published_of (rows_of tables.now)) shelf.new }
+    ensures brought { IfOk result (λ session. IsFirst session.now.edition workplace.new.shelf) }
+    ensures first { OnOk result (IsSessionFirst own.now.sessions number workplace.new.shelf) }
+    ensures ready { IsReady (rows_of tables.now) workplace.new }
 {
     let session = session_of(own.sessions(), number)?;
-    hold(alloc, tables, shelf, session.edition)?;
+    workplace.hold(tables, session.edition)?;
     Ok(session)
 }
 

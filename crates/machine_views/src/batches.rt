@@ -1,46 +1,33 @@
 //! Batches, with the verdicts on their sessions.
 ghost use Rattle.std.specs.Prelude.{◌≡◌, ◌+◌, ◌-◌, ◌<◌, ◌≤◌, ◌^◌, All, IfOk, drop, length, map, take};
 ghost use Rattle.desk_words.specs.Tables.{published_of, rows_of};
-ghost use Rattle.desk_valid.specs.Valid.{AreValid};
+ghost use Rattle.machine_workplace.specs.Ready.{IsReady};
 ghost use Rattle.machine_core.specs.Sessions.{IsSessionOf};
-ghost use Rattle.machine_core.specs.Shelves.{AreHeld, IsFullRoom};
 ghost use Rattle.machine_views.specs.Counts.{AreAtMost, AreSessionVerdicts, batched};
-ghost use Rattle.machine_views.specs.Upshots.{AreTrue};
 
 use crate::counting::{Verdicts, upshot_at};
-use crate::upshots::{SessionAt, Upshots};
 use desk_base::NoMemory;
 use desk_words::{BatchRow, Batched, SessionRow, Tables};
-use fix_engine::Work;
-use master_index::Shelf;
-use std::alloc::Global;
+use machine_workplace::{SessionAt, Workplace};
 
 /// How many of some sessions of a clerk, which stand one after another from a place on, have each verdict.
 pub fn session_verdicts(
-    alloc: Global,
     tables: &Tables,
-    shelf: &mut Shelf,
-    work: &mut Work,
-    upshots: &mut Upshots,
+    workplace: &mut Workplace,
     first: SessionAt,
     sessions: &[SessionRow],
 ) -> Result<Verdicts, NoMemory>
-    requires valid { AreValid (rows_of tables.now) }
-    requires held { AreHeld (published_of (rows_of tables.now)) shelf.old }
-    requires room { IsFullRoom work.old }
-    requires known { AreTrue (published_of (rows_of tables.now)) upshots.old }
+    requires ready { IsReady (rows_of tables.now) workplace.old }
     requires sessions { All (IsSessionOf (published_of (rows_of tables.now))) sessions.now }
     requires few { length sessions.now < 2 ^ 32 }
     ensures verdicts { IfOk result (AreSessionVerdicts (published_of (rows_of tables.now)) sessions.now) }
     ensures few { IfOk result (AreAtMost (length sessions.now)) }
-    ensures held { AreHeld (published_of (rows_of tables.now)) shelf.new }
-    ensures room { IsFullRoom work.new }
-    ensures known { AreTrue (published_of (rows_of tables.now)) upshots.new }
+    ensures ready { IsReady (rows_of tables.now) workplace.new }
 {
     let mut verdicts = Verdicts::none();
     'sessions: for (next, session) in sessions.iter().enumerate() {
         let at = first.after(next as u32);
-        let upshot = upshot_at(alloc, tables, shelf, work, upshots, at, session)?;
+        let upshot = upshot_at(tables, workplace, at, session)?;
         verdicts = verdicts.with(upshot.verdict);
     }
     Ok(verdicts)
@@ -48,26 +35,18 @@ pub fn session_verdicts(
 
 /// How many of the sessions of a clerk that are put somewhere have each verdict.
 pub fn put_verdicts(
-    alloc: Global,
     tables: &Tables,
-    shelf: &mut Shelf,
-    work: &mut Work,
-    upshots: &mut Upshots,
+    workplace: &mut Workplace,
     clerk: u32,
     puts: &[(u32, SessionRow)],
 ) -> Result<Verdicts, NoMemory>
-    requires valid { AreValid (rows_of tables.now) }
-    requires held { AreHeld (published_of (rows_of tables.now)) shelf.old }
-    requires room { IsFullRoom work.old }
-    requires known { AreTrue (published_of (rows_of tables.now)) upshots.old }
+    requires ready { IsReady (rows_of tables.now) workplace.old }
     requires sessions { All (λ put. IsSessionOf (published_of (rows_of tables.now)) put.1) puts.now }
     requires few { length puts.now < 2 ^ 32 }
     ensures verdicts { IfOk result
         (AreSessionVerdicts (published_of (rows_of tables.now)) (map (λ put. put.1) puts.now)) }
     ensures few { IfOk result (AreAtMost (length puts.now)) }
-    ensures held { AreHeld (published_of (rows_of tables.now)) shelf.new }
-    ensures room { IsFullRoom work.new }
-    ensures known { AreTrue (published_of (rows_of tables.now)) upshots.new }
+    ensures ready { IsReady (rows_of tables.now) workplace.new }
 {
     let mut verdicts = Verdicts::none();
     'puts: for put in puts {
@@ -75,7 +54,7 @@ pub fn put_verdicts(
             clerk,
             place: put.0,
         };
-        let upshot = upshot_at(alloc, tables, shelf, work, upshots, at, &put.1)?;
+        let upshot = upshot_at(tables, workplace, at, &put.1)?;
         verdicts = verdicts.with(upshot.verdict);
     }
     Ok(verdicts)

@@ -1,68 +1,52 @@
 //! What sessions come to, counted.
 ghost use Rattle.std.specs.Prelude.{◌≡◌, ◌+◌, ◌-◌, ◌≤◌, ◌^◌, ℕ, IfOk};
 ghost use Rattle.desk_words.specs.Tables.{published_of, rows_of};
-ghost use Rattle.desk_valid.specs.Valid.{AreValid};
+ghost use Rattle.machine_workplace.specs.Ready.{IsReady};
 ghost use Rattle.machine_core.specs.Sessions.{IsSessionOf};
-ghost use Rattle.machine_core.specs.Shelves.{AreHeld, IsFullRoom};
 ghost use Rattle.machine_views.specs.Counts.{AreAtMost, one_more};
-ghost use Rattle.machine_views.specs.Upshots.{AreTrue, IsUpshotOf};
+ghost use Rattle.machine_workplace.specs.Upshots.{IsUpshotOf};
 
 use crate::answers::{answer_to, book_for};
-use crate::upshots::{SessionAt, Upshot, Upshots};
 use desk_base::NoMemory;
 use desk_words::{SessionRow, Tables};
-use fix_engine::{Verdict, Work};
+use fix_engine::Verdict;
 use machine_core::hold;
-use master_index::Shelf;
-use std::alloc::Global;
+use machine_workplace::{SessionAt, Upshot, Workplace};
 
 /// What the session at a place comes to: as it is known, or decided now and kept.
 pub(crate) fn upshot_at(
-    alloc: Global,
     tables: &Tables,
-    shelf: &mut Shelf,
-    work: &mut Work,
-    upshots: &mut Upshots,
+    workplace: &mut Workplace,
     at: SessionAt,
     session: &SessionRow,
 ) -> Result<Upshot, NoMemory>
-    requires valid { AreValid (rows_of tables.now) }
-    requires held { AreHeld (published_of (rows_of tables.now)) shelf.old }
-    requires room { IsFullRoom work.old }
-    requires known { AreTrue (published_of (rows_of tables.now)) upshots.old }
+    requires ready { IsReady (rows_of tables.now) workplace.old }
     requires session { IsSessionOf (published_of (rows_of tables.now)) session.now }
     ensures upshot { IfOk result (IsUpshotOf (published_of (rows_of tables.now)) session.now) }
-    ensures held { AreHeld (published_of (rows_of tables.now)) shelf.new }
-    ensures room { IsFullRoom work.new }
-    ensures known { AreTrue (published_of (rows_of tables.now)) upshots.new }
+    ensures ready { IsReady (rows_of tables.now) workplace.new }
 {
-    if let Some(upshot) = upshots.known(at, session) {
+    if let Some(upshot) = workplace.upshots.known(at, session) {
         return Ok(upshot);
     }
-    let upshot = assess(alloc, tables, shelf, work, session)?;
-    upshots.note(at, session, upshot);
+    let upshot = assess(tables, workplace, session)?;
+    workplace.upshots.note(at, session, upshot);
     Ok(upshot)
 }
 
 /// What a session comes to, decided now. Its edition comes first on the shelf.
 fn assess(
-    alloc: Global,
     tables: &Tables,
-    shelf: &mut Shelf,
-    work: &mut Work,
+    workplace: &mut Workplace,
     session: &SessionRow,
 ) -> Result<Upshot, NoMemory>
-    requires valid { AreValid (rows_of tables.now) }
-    requires held { AreHeld (published_of (rows_of tables.now)) shelf.old }
-    requires room { IsFullRoom work.old }
+    requires ready { IsReady (rows_of tables.now) workplace.old }
     requires session { IsSessionOf (published_of (rows_of tables.now)) session.now }
     ensures upshot { IfOk result (IsUpshotOf (published_of (rows_of tables.now)) session.now) }
-    ensures held { AreHeld (published_of (rows_of tables.now)) shelf.new }
-    ensures room { IsFullRoom work.new }
+    ensures ready { IsReady (rows_of tables.now) workplace.new }
 {
-    hold(alloc, tables, shelf, session.edition)?;
-    let shelved = book_for(tables, shelf, session);
-    let answered = answer_to(alloc, work, shelved, session)?;
+    workplace.hold(tables, session.edition)?;
+    let shelved = book_for(tables, &workplace.shelf, session);
+    let answered = answer_to(workplace.alloc, &mut workplace.room, shelved, session)?;
     Ok(answered.upshot())
 }
 

@@ -1,60 +1,46 @@
 //! The replies to a clerk's writes: over the clerk's rows as they stand, and over those that a deed leaves.
 ghost use Rattle.std.specs.Prelude.{◌≡◌, ◌+◌, ◌∷◌, ◌<◌, [], All, IfOk, IsSome, Ok, OnOk, Some, length};
 ghost use Rattle.desk_words.specs.Tables.{published_of, rows_of};
-ghost use Rattle.desk_valid.specs.Valid.{AreValid};
+ghost use Rattle.machine_workplace.specs.Ready.{IsReady};
 ghost use Rattle.machine_core.specs.Checked.{Gives};
 ghost use Rattle.machine_core.specs.Kept.{kept_reply};
 ghost use Rattle.machine_core.specs.Look.View.{view_at};
 ghost use Rattle.machine_core.specs.Own.{IsOwn, after};
 ghost use Rattle.machine_core.specs.OwnRows.{HasOwnTarget, IsSoundDeed};
-ghost use Rattle.machine_core.specs.Shelves.{AreHeld, IsFirst, IsFullRoom};
+ghost use Rattle.machine_core.specs.Shelves.{IsFirst};
 ghost use Rattle.machine_views.specs.Doing.{DoesAsTold, PutsBatch, PutsOne, StandsFirst};
 ghost use Rattle.machine_views.specs.Looking.{IsSessionFirst, IsTargetFirst};
-ghost use Rattle.machine_views.specs.Upshots.{AreTrue};
 
 use crate::batches::{batched, put_verdicts, session_verdicts, sessions_in};
-use crate::upshots::{SessionAt, Upshots};
 use crate::views::{view_and_upshot, view_of};
 use desk_base::NoMemory;
 use desk_words::{Act, BatchRow, Batched, RecordRow, Reply, SessionRow, Tables, View};
-use fix_engine::Work;
 use machine_core::{Deed, Own};
-use master_index::Shelf;
-use std::alloc::Global;
+use machine_workplace::{SessionAt, Workplace};
 
 /// The reply of an act of the clerk at a place, whose target is a place counted from 0: what is replied to its repeat.
 /// The edition of a session that is shown comes first on the shelf.
 pub fn kept_reply(
-    alloc: Global,
     tables: &Tables,
-    shelf: &mut Shelf,
-    work: &mut Work,
-    upshots: &mut Upshots,
+    workplace: &mut Workplace,
     clerk: u32,
     own: &Own,
     act: Act,
     target: u32,
 ) -> Result<Reply, NoMemory>
-    requires valid { AreValid (rows_of tables.now) }
-    requires held { AreHeld (published_of (rows_of tables.now)) shelf.old }
-    requires room { IsFullRoom work.old }
-    requires known { AreTrue (published_of (rows_of tables.now)) upshots.old }
+    requires ready { IsReady (rows_of tables.now) workplace.old }
     requires own { IsOwn (rows_of tables.now) own.now }
     requires target { HasOwnTarget own.now act target }
     ensures reply { IfOk result
         (λ reply. Gives (kept_reply (published_of (rows_of tables.now)) own.now act target) (Ok reply)) }
-    ensures first { OnOk result (IsTargetFirst own.now.sessions act target shelf.new) }
-    ensures held { AreHeld (published_of (rows_of tables.now)) shelf.new }
-    ensures room { IsFullRoom work.new }
-    ensures known { AreTrue (published_of (rows_of tables.now)) upshots.new }
+    ensures first { OnOk result (IsTargetFirst own.now.sessions act target workplace.new.shelf) }
+    ensures ready { IsReady (rows_of tables.now) workplace.new }
 {
     match act {
-        Act::Opened => Ok(Reply::Opened(view_kept(alloc, tables, shelf, work, own, target)?)),
-        Act::Changed => Ok(Reply::View(view_kept(alloc, tables, shelf, work, own, target)?)),
+        Act::Opened => Ok(Reply::Opened(view_kept(tables, workplace, own, target)?)),
+        Act::Changed => Ok(Reply::View(view_kept(tables, workplace, own, target)?)),
         Act::Committed => Ok(committed(target + 1, &own.records()[target as usize])),
-        Act::Batched => Ok(Reply::Batched(batch_kept(
-            alloc, tables, shelf, work, upshots, clerk, own, target,
-        )?)),
+        Act::Batched => Ok(Reply::Batched(batch_kept(tables, workplace, clerk, own, target)?)),
         // A clerk has no other acts.
         _ => unreachable!(),
     }
@@ -62,50 +48,37 @@ pub fn kept_reply(
 
 /// The session at a place, counted from 0, as it stands. Its edition comes first on the shelf.
 fn view_kept(
-    alloc: Global,
     tables: &Tables,
-    shelf: &mut Shelf,
-    work: &mut Work,
+    workplace: &mut Workplace,
     own: &Own,
     place: u32,
 ) -> Result<View, NoMemory>
-    requires valid { AreValid (rows_of tables.now) }
-    requires held { AreHeld (published_of (rows_of tables.now)) shelf.old }
-    requires room { IsFullRoom work.old }
+    requires ready { IsReady (rows_of tables.now) workplace.old }
     requires own { IsOwn (rows_of tables.now) own.now }
     requires place { place < length own.now.sessions }
     ensures view { IfOk result
         (λ view. Gives (view_at (published_of (rows_of tables.now)) own.now (place + 1)) (Ok view)) }
-    ensures first { OnOk result (IsSessionFirst own.now.sessions (place + 1) shelf.new) }
-    ensures held { AreHeld (published_of (rows_of tables.now)) shelf.new }
-    ensures room { IsFullRoom work.new }
+    ensures first { OnOk result (IsSessionFirst own.now.sessions (place + 1) workplace.new.shelf) }
+    ensures ready { IsReady (rows_of tables.now) workplace.new }
 {
     let session = &own.sessions()[place as usize];
-    view_of(alloc, tables, shelf, work, place + 1, session)
+    view_of(tables, workplace, place + 1, session)
 }
 
 /// The batch at a place, counted from 0, with the verdicts on its sessions.
 fn batch_kept(
-    alloc: Global,
     tables: &Tables,
-    shelf: &mut Shelf,
-    work: &mut Work,
-    upshots: &mut Upshots,
+    workplace: &mut Workplace,
     clerk: u32,
     own: &Own,
     place: u32,
 ) -> Result<Batched, NoMemory>
-    requires valid { AreValid (rows_of tables.now) }
-    requires held { AreHeld (published_of (rows_of tables.now)) shelf.old }
-    requires room { IsFullRoom work.old }
-    requires known { AreTrue (published_of (rows_of tables.now)) upshots.old }
+    requires ready { IsReady (rows_of tables.now) workplace.old }
     requires own { IsOwn (rows_of tables.now) own.now }
     requires place { place < length own.now.batches }
     ensures batch { IfOk result (λ batch. Gives
         (kept_reply (published_of (rows_of tables.now)) own.now Act.Batched place) (Ok (Reply.Batched batch))) }
-    ensures held { AreHeld (published_of (rows_of tables.now)) shelf.new }
-    ensures room { IsFullRoom work.new }
-    ensures known { AreTrue (published_of (rows_of tables.now)) upshots.new }
+    ensures ready { IsReady (rows_of tables.now) workplace.new }
 {
     let row = &own.batches()[place as usize];
     let sessions = sessions_in(own.sessions(), row);
@@ -113,46 +86,32 @@ fn batch_kept(
         clerk,
         place: row.first - 1,
     };
-    let verdicts = session_verdicts(alloc, tables, shelf, work, upshots, first, sessions)?;
+    let verdicts = session_verdicts(tables, workplace, first, sessions)?;
     Ok(batched(place + 1, row, verdicts))
 }
 
 /// The reply of a new write of the clerk at a place, over the rows after it.
 pub fn deed_reply(
-    alloc: Global,
     tables: &Tables,
-    shelf: &mut Shelf,
-    work: &mut Work,
-    upshots: &mut Upshots,
+    workplace: &mut Workplace,
     clerk: u32,
     own: &Own,
     deed: &Deed,
 ) -> Result<Reply, NoMemory>
-    requires valid { AreValid (rows_of tables.now) }
-    requires held { AreHeld (published_of (rows_of tables.now)) shelf.old }
-    requires room { IsFullRoom work.old }
-    requires known { AreTrue (published_of (rows_of tables.now)) upshots.old }
+    requires ready { IsReady (rows_of tables.now) workplace.old }
     requires sound { IsSoundDeed (published_of (rows_of tables.now)) own.now deed.now }
     requires told { DoesAsTold own.now deed.now deed.now.act }
     ensures reply { IfOk result (λ reply. Gives
         (kept_reply (published_of (rows_of tables.now)) (after own.now deed.now) deed.now.act deed.now.target)
         (Ok reply)) }
-    ensures first { OnOk result (StandsFirst deed.now deed.now.act shelf.new) }
-    ensures held { AreHeld (published_of (rows_of tables.now)) shelf.new }
-    ensures room { IsFullRoom work.new }
-    ensures known { AreTrue (published_of (rows_of tables.now)) upshots.new }
+    ensures first { OnOk result (StandsFirst deed.now deed.now.act workplace.new.shelf) }
+    ensures ready { IsReady (rows_of tables.now) workplace.new }
 {
     match deed.act {
-        Act::Opened => Ok(Reply::Opened(view_put(
-            alloc, tables, shelf, work, upshots, clerk, own, deed,
-        )?)),
-        Act::Changed => Ok(Reply::View(view_put(
-            alloc, tables, shelf, work, upshots, clerk, own, deed,
-        )?)),
+        Act::Opened => Ok(Reply::Opened(view_put(tables, workplace, clerk, own, deed)?)),
+        Act::Changed => Ok(Reply::View(view_put(tables, workplace, clerk, own, deed)?)),
         Act::Committed => Ok(committed(deed.target + 1, put_record(deed))),
-        Act::Batched => Ok(Reply::Batched(batch_put(
-            alloc, tables, shelf, work, upshots, clerk, own, deed,
-        )?)),
+        Act::Batched => Ok(Reply::Batched(batch_put(tables, workplace, clerk, own, deed)?)),
         // A clerk has no other acts.
         _ => unreachable!(),
     }
@@ -161,65 +120,49 @@ pub fn deed_reply(
 /// The session that a deed puts alone, as it stands then. Its edition comes first on the shelf, and what it comes to is
 /// kept.
 fn view_put(
-    alloc: Global,
     tables: &Tables,
-    shelf: &mut Shelf,
-    work: &mut Work,
-    upshots: &mut Upshots,
+    workplace: &mut Workplace,
     clerk: u32,
     own: &Own,
     deed: &Deed,
 ) -> Result<View, NoMemory>
-    requires valid { AreValid (rows_of tables.now) }
-    requires held { AreHeld (published_of (rows_of tables.now)) shelf.old }
-    requires room { IsFullRoom work.old }
-    requires known { AreTrue (published_of (rows_of tables.now)) upshots.old }
+    requires ready { IsReady (rows_of tables.now) workplace.old }
     requires sound { IsSoundDeed (published_of (rows_of tables.now)) own.now deed.now }
     requires one { PutsOne deed.now }
     ensures view { IfOk result (λ view. Gives
         (view_at (published_of (rows_of tables.now)) (after own.now deed.now) (deed.now.target + 1)) (Ok view)) }
-    ensures first { OnOk result (All (λ put. IsFirst put.1.edition shelf.new) deed.now.sessions) }
-    ensures held { AreHeld (published_of (rows_of tables.now)) shelf.new }
-    ensures room { IsFullRoom work.new }
-    ensures known { AreTrue (published_of (rows_of tables.now)) upshots.new }
+    ensures first { OnOk result (All (λ put. IsFirst put.1.edition workplace.new.shelf) deed.now.sessions) }
+    ensures ready { IsReady (rows_of tables.now) workplace.new }
 {
     let session = put_session(deed);
     let number = deed.target + 1;
-    let (view, upshot) = view_and_upshot(alloc, tables, shelf, work, number, session)?;
+    let (view, upshot) = view_and_upshot(tables, workplace, number, session)?;
     let at = SessionAt {
         clerk,
         place: deed.target,
     };
-    upshots.note(at, session, upshot);
+    workplace.upshots.note(at, session, upshot);
     Ok(view)
 }
 
 /// The batch that a deed puts, with the verdicts on its sessions.
 fn batch_put(
-    alloc: Global,
     tables: &Tables,
-    shelf: &mut Shelf,
-    work: &mut Work,
-    upshots: &mut Upshots,
+    workplace: &mut Workplace,
     clerk: u32,
     own: &Own,
     deed: &Deed,
 ) -> Result<Batched, NoMemory>
-    requires valid { AreValid (rows_of tables.now) }
-    requires held { AreHeld (published_of (rows_of tables.now)) shelf.old }
-    requires room { IsFullRoom work.old }
-    requires known { AreTrue (published_of (rows_of tables.now)) upshots.old }
+    requires ready { IsReady (rows_of tables.now) workplace.old }
     requires sound { IsSoundDeed (published_of (rows_of tables.now)) own.now deed.now }
     requires batch { PutsBatch own.now deed.now }
     ensures batch { IfOk result (λ batch. Gives
         (kept_reply (published_of (rows_of tables.now)) (after own.now deed.now) Act.Batched deed.now.target)
         (Ok (Reply.Batched batch))) }
-    ensures held { AreHeld (published_of (rows_of tables.now)) shelf.new }
-    ensures room { IsFullRoom work.new }
-    ensures known { AreTrue (published_of (rows_of tables.now)) upshots.new }
+    ensures ready { IsReady (rows_of tables.now) workplace.new }
 {
     let sessions = deed.sessions.as_slice();
-    let verdicts = put_verdicts(alloc, tables, shelf, work, upshots, clerk, sessions)?;
+    let verdicts = put_verdicts(tables, workplace, clerk, sessions)?;
     Ok(batched(deed.target + 1, put_batch(deed), verdicts))
 }
 

@@ -7,7 +7,6 @@ mod counting;
 mod kept;
 mod looks;
 mod made;
-mod upshots;
 mod views;
 
 pub use kept::{deed_reply, kept_reply};
@@ -16,5 +15,4 @@ pub use looks::{
     look_reply, region_shown, row_shown,
 };
 pub use made::{kept_made, region_made};
-pub use upshots::Upshots;
 pub use views::view_of;

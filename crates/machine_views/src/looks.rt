@@ -2,13 +2,11 @@
 ghost use Rattle.std.specs.Prelude.{◌≡◌, OnOk, is_ok};
 ghost use Rattle.std.specs.Result.{ForOk};
 ghost use Rattle.desk_words.specs.Tables.{published_of, rows_of};
-ghost use Rattle.desk_valid.specs.Valid.{AreValid};
+ghost use Rattle.machine_workplace.specs.Ready.{IsReady};
 ghost use Rattle.machine_core.specs.Look.{look_reply};
 ghost use Rattle.machine_core.specs.Outcomes.{Answers};
 ghost use Rattle.machine_core.specs.Own.{IsOwn};
-ghost use Rattle.machine_core.specs.Shelves.{AreHeld, IsFullRoom};
 ghost use Rattle.machine_views.specs.Looking.{EndsAsTold, IsLookFirst};
-ghost use Rattle.machine_views.specs.Upshots.{AreTrue};
 
 mod blocking;
 mod body;
@@ -29,7 +27,6 @@ mod sessions;
 mod suggest;
 mod view;
 
-use crate::upshots::Upshots;
 use blocking::blocked_at;
 pub use body::body_of;
 use carry::carrying;
@@ -39,9 +36,8 @@ pub use derive::derived_sheet;
 use desk_words::{Look, Reply, Tables};
 pub use edition::edition_shown;
 use explaining::explain;
-use fix_engine::Work;
 use machine_core::{Own, Stop};
-use master_index::Shelf;
+use machine_workplace::Workplace;
 pub use master_row::row_shown;
 use previewing::preview;
 pub use published::catalogue;
@@ -50,68 +46,59 @@ pub use region::region_shown;
 use report::clerk_report;
 pub use report::desk_report;
 use sessions::sessions_from;
-use std::alloc::Global;
 use suggest::suggestion_of;
 use view::view_at;
 
 /// The reply to a look of the clerk at a place. Where it shows the session that it names, or advises on it, the edition
 /// of that session comes first on the shelf.
 pub fn look_reply(
-    alloc: Global,
     tables: &Tables,
-    shelf: &mut Shelf,
-    work: &mut Work,
-    upshots: &mut Upshots,
+    workplace: &mut Workplace,
     clerk: u32,
     own: &Own,
     look: &Look,
 ) -> Result<Reply, Stop>
-    requires valid { AreValid (rows_of tables.now) }
-    requires held { AreHeld (published_of (rows_of tables.now)) shelf.old }
-    requires room { IsFullRoom work.old }
-    requires known { AreTrue (published_of (rows_of tables.now)) upshots.old }
+    requires ready { IsReady (rows_of tables.now) workplace.old }
     requires own { IsOwn (rows_of tables.now) own.now }
     ensures answers { Answers result (look_reply (published_of (rows_of tables.now)) own.now look.now) }
-    ensures first { OnOk result (IsLookFirst own.now.sessions look.now shelf.new) }
-    ensures held { AreHeld (published_of (rows_of tables.now)) shelf.new }
-    ensures room { IsFullRoom work.new }
-    ensures known { AreTrue (published_of (rows_of tables.now)) upshots.new }
+    ensures first { OnOk result (IsLookFirst own.now.sessions look.now workplace.new.shelf) }
+    ensures ready { IsReady (rows_of tables.now) workplace.new }
 {
     match look {
-        Look::View { session } => replied(
-            view_at(alloc, tables, shelf, work, own, *session),
-            Reply::View,
-        ),
+        Look::View { session } => replied(view_at(tables, workplace, own, *session), Reply::View),
         Look::Suggest { session } => replied(
-            suggestion_of(alloc, tables, shelf, work, own, *session),
+            suggestion_of(tables, workplace, own, *session),
             Reply::Suggested,
         ),
         Look::Preview { session, cells } => replied(
-            preview(alloc, tables, shelf, work, own, *session, cells),
+            preview(tables, workplace, own, *session, cells),
             Reply::View,
         ),
         Look::Report => {
-            let sheet = clerk_report(alloc, tables, shelf, work, upshots, clerk, own)?;
+            let sheet = clerk_report(tables, workplace, clerk, own)?;
             replied(Ok(sheet), Reply::Report)
         }
         Look::Records { edition, version } => replied(
-            records_of(alloc, tables, own, edition, *version),
+            records_of(workplace.alloc, tables, own, edition, *version),
             Reply::Records,
         ),
-        Look::Explain { session, name } => {
-            explain(alloc, tables, shelf, work, own, *session, name)
-        }
+        Look::Explain { session, name } => { explain(tables, workplace, own, *session, name) }
         Look::Carry { session, version } => replied(
-            carrying(alloc, tables, shelf, work, own, *session, *version),
+            carrying(tables, workplace, own, *session, *version),
             Reply::Carried,
         ),
-        Look::Sessions { from } => Ok(Reply::Sessions(sessions_from(alloc, tables, own, *from)?)),
+        Look::Sessions { from } => Ok(Reply::Sessions(sessions_from(
+            workplace.alloc,
+            tables,
+            own,
+            *from,
+        )?)),
         Look::Choices { session } => replied(
-            choices_at(alloc, tables, shelf, work, own, *session),
+            choices_at(tables, workplace, own, *session),
             Reply::Choices,
         ),
         Look::Blocked { session } => replied(
-            blocked_at(alloc, tables, shelf, work, own, *session),
+            blocked_at(tables, workplace, own, *session),
             Reply::Blocked,
         ),
     }

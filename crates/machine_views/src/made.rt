@@ -4,13 +4,12 @@ ghost use Rattle.desk_base.specs.declared.limits.TheConstants.{MAX_REGION_ROWS};
 ghost use Rattle.desk_words.specs.Tables.{published_of, rows_of};
 ghost use Rattle.desk_valid.specs.Rows.Clerk.{HasTarget, IsStewardsAct};
 ghost use Rattle.desk_valid.specs.Rows.Region.{IsRegionRow};
-ghost use Rattle.desk_valid.specs.Valid.{AreValid};
+ghost use Rattle.machine_workplace.specs.Ready.{IsReady};
 ghost use Rattle.fix_engine.specs.Verdicts.{IsAnswer};
 ghost use Rattle.fix_engine.specs.WorkSeen.{IsRoomFor, KeepsSize};
 ghost use Rattle.fix_model.specs.Regions.{row_state};
 ghost use Rattle.machine_core.specs.Checked.{Gives};
 ghost use Rattle.machine_core.specs.Kept.{kept_made, region_made};
-ghost use Rattle.machine_core.specs.Shelves.{AreHeld, IsFullRoom};
 ghost use Rattle.machine_views.specs.Counts.{AreAtMost, AreRowVerdicts};
 
 use crate::counting::Verdicts;
@@ -19,27 +18,23 @@ use desk_words::{Act, EditionRow, Made, MasterRow, RegionRow, RulebookRow, Schem
 use fix_engine::{Verdict, Work, decide};
 use fix_model::{Book, Region, row_state};
 use machine_core::{hold, region_count, shelved};
-use master_index::{Shelf, SortedBook};
+use machine_workplace::Workplace;
+use master_index::SortedBook;
 use std::alloc::Global;
 
 /// The reply of the steward's act, whose target is a place counted from 0.
 pub fn kept_made(
-    alloc: Global,
     tables: &Tables,
-    shelf: &mut Shelf,
-    work: &mut Work,
+    workplace: &mut Workplace,
     act: Act,
     target: u32,
 ) -> Result<Made, NoMemory>
-    requires valid { AreValid (rows_of tables.now) }
-    requires held { AreHeld (published_of (rows_of tables.now)) shelf.old }
-    requires room { IsFullRoom work.old }
+    requires ready { IsReady (rows_of tables.now) workplace.old }
     requires steward { IsStewardsAct act }
     requires started { act ≢ Act.Nothing }
     requires target { HasTarget (rows_of tables.now) 0 act target }
     ensures made { IfOk result (λ made. Gives (kept_made (rows_of tables.now) act target) (Ok made)) }
-    ensures held { AreHeld (published_of (rows_of tables.now)) shelf.new }
-    ensures room { IsFullRoom work.new }
+    ensures ready { IsReady (rows_of tables.now) workplace.new }
 {
     let place = target as usize;
     match act {
@@ -50,7 +45,7 @@ pub fn kept_made(
         Act::Edition => edition_made(&tables.editions.as_slice()[place]),
         Act::Region => {
             let row = &tables.regions.as_slice()[place];
-            region_made(alloc, tables, shelf, work, target, row)
+            region_made(tables, workplace, target, row)
         }
         // The steward has no other acts.
         _ => unreachable!(),
@@ -87,25 +82,25 @@ fn edition_made(row: &EditionRow) -> Result<Made, NoMemory>
 
 /// A region at a place, counted from 0, with the number of its rows of each verdict. It need not stand there yet.
 pub fn region_made(
-    alloc: Global,
     tables: &Tables,
-    shelf: &mut Shelf,
-    work: &mut Work,
+    workplace: &mut Workplace,
     place: u32,
     row: &RegionRow,
 ) -> Result<Made, NoMemory>
-    requires valid { AreValid (rows_of tables.now) }
-    requires held { AreHeld (published_of (rows_of tables.now)) shelf.old }
-    requires room { IsFullRoom work.old }
+    requires ready { IsReady (rows_of tables.now) workplace.old }
     requires place { place ≤ length tables.now.regions.items }
     requires region { IsRegionRow (published_of (rows_of tables.now)) place row.now }
     ensures made { IfOk result
         (λ made. Gives (region_made (published_of (rows_of tables.now)) place row.now) (Ok made)) }
-    ensures held { AreHeld (published_of (rows_of tables.now)) shelf.new }
-    ensures room { IsFullRoom work.new }
+    ensures ready { IsReady (rows_of tables.now) workplace.new }
 {
-    hold(alloc, tables, shelf, row.edition)?;
-    let verdicts = row_verdicts(alloc, work, &shelved(shelf, row.edition).book, &row.region)?;
+    workplace.hold(tables, row.edition)?;
+    let verdicts = row_verdicts(
+        workplace.alloc,
+        &mut workplace.room,
+        &shelved(&workplace.shelf, row.edition).book,
+        &row.region,
+    )?;
     let earlier = region_count(&tables.regions.as_slice()[..place as usize], row.edition);
     Ok(Made::Region {
         region: earlier as u32 + 1,

@@ -2,74 +2,71 @@
 ghost use Rattle.std.specs.Prelude.{◌≡◌, ◌<◌, All, IfOk, IfSome, OnOk, List, length, map, option_map};
 ghost use Rattle.std.specs.List.{range_with_len};
 ghost use Rattle.desk_words.specs.Tables.{published_of, rows_of};
-ghost use Rattle.desk_valid.specs.Valid.{AreValid};
+ghost use Rattle.machine_workplace.specs.Ready.{IsReady};
 ghost use Rattle.fix_model.specs.declared.state.Step.{Step as StepOf};
 ghost use Rattle.fix_model.specs.Rules.{IsStepOf, rule_at};
 ghost use Rattle.fix_model.specs.States.{Fits, IsCellOf};
 ghost use Rattle.machine_core.specs.Checked.{Gives};
 ghost use Rattle.machine_core.specs.Look.Choices.{shown_step};
 ghost use Rattle.machine_core.specs.Sessions.{IsSessionOf};
-ghost use Rattle.machine_core.specs.Shelves.{AreHeld, IsFirst, IsFullRoom, bound_on};
+ghost use Rattle.machine_core.specs.Shelves.{IsFirst, IsFullRoom, bound_on};
 ghost use Rattle.machine_core.specs.Views.{name_at, named_step, outcome_of, shown_cell, view_cell, view_of};
-ghost use Rattle.machine_views.specs.Answered.{IsBookFor, IsNamedBook, NamesSteps, answer_in};
-ghost use Rattle.machine_views.specs.Upshots.{IsUpshotOf};
+ghost use Rattle.machine_views.specs.Answered.{IsBookFor, IsNamedBook, NamesSteps};
+ghost use Rattle.machine_workplace.specs.Upshots.{IsUpshotOf};
 
 use crate::answers::{answer_to, book_for};
-use crate::upshots::Upshot;
 use desk_base::{Duplicate, List, NoMemory, Text};
 use desk_words::{Outcome, SessionRow, Shown, ShownStep, Tables, View, ViewCell};
 use fix_engine::{Verdict, Work};
 use fix_model::{Book, Cell, Rule, State, Step, value_text};
 use machine_core::hold;
-use master_index::{Shelf, Shelved, SortedBook};
+use machine_workplace::{Upshot, Workplace};
+use master_index::{Shelved, SortedBook};
 use std::alloc::Global;
 
 /// A session as it is shown under this number. Its edition comes first on the shelf.
 pub fn view_of(
-    alloc: Global,
     tables: &Tables,
-    shelf: &mut Shelf,
-    work: &mut Work,
+    workplace: &mut Workplace,
     number: u32,
     session: &SessionRow,
 ) -> Result<View, NoMemory>
-    requires valid { AreValid (rows_of tables.now) }
-    requires held { AreHeld (published_of (rows_of tables.now)) shelf.old }
-    requires room { IsFullRoom work.old }
+    requires ready { IsReady (rows_of tables.now) workplace.old }
     requires session { IsSessionOf (published_of (rows_of tables.now)) session.now }
     ensures view { IfOk result
         (λ view. Gives (view_of (published_of (rows_of tables.now)) number session.now) (Ok view)) }
-    ensures first { OnOk result (IsFirst session.now.edition shelf.new) }
-    ensures held { AreHeld (published_of (rows_of tables.now)) shelf.new }
-    ensures room { IsFullRoom work.new }
+    ensures first { OnOk result (IsFirst session.now.edition workplace.new.shelf) }
+    ensures ready { IsReady (rows_of tables.now) workplace.new }
 {
-    let (view, _) = view_and_upshot(alloc, tables, shelf, work, number, session)?;
+    let (view, _) = view_and_upshot(tables, workplace, number, session)?;
     Ok(view)
 }
 
 /// A session as it is shown under this number, and what it came to. Its edition comes first on the shelf.
 pub(crate) fn view_and_upshot(
-    alloc: Global,
     tables: &Tables,
-    shelf: &mut Shelf,
-    work: &mut Work,
+    workplace: &mut Workplace,
     number: u32,
     session: &SessionRow,
 ) -> Result<(View, Upshot), NoMemory>
-    requires valid { AreValid (rows_of tables.now) }
-    requires held { AreHeld (published_of (rows_of tables.now)) shelf.old }
-    requires room { IsFullRoom work.old }
+    requires ready { IsReady (rows_of tables.now) workplace.old }
     requires session { IsSessionOf (published_of (rows_of tables.now)) session.now }
     ensures view { IfOk result
         (λ made. Gives (view_of (published_of (rows_of tables.now)) number session.now) (Ok made.0)) }
     ensures upshot { IfOk result (λ made. IsUpshotOf (published_of (rows_of tables.now)) session.now made.1) }
-    ensures first { OnOk result (IsFirst session.now.edition shelf.new) }
-    ensures held { AreHeld (published_of (rows_of tables.now)) shelf.new }
-    ensures room { IsFullRoom work.new }
+    ensures first { OnOk result (IsFirst session.now.edition workplace.new.shelf) }
+    ensures ready { IsReady (rows_of tables.now) workplace.new }
 {
-    hold(alloc, tables, shelf, session.edition)?;
-    let shelved = book_for(tables, shelf, session);
-    view_on(alloc, tables, shelved, work, number, session)
+    workplace.hold(tables, session.edition)?;
+    let shelved = book_for(tables, &workplace.shelf, session);
+    view_on(
+        workplace.alloc,
+        tables,
+        shelved,
+        &mut workplace.room,
+        number,
+        session,
+    )
 }
 
 /// A session as it is shown, by the book of its edition, and what it came to.

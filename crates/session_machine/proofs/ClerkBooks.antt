@@ -5,8 +5,6 @@ use Rattle.desk_words.specs.declared.command.Command.{Command}
 use Rattle.desk_words.specs.declared.command.Command.TheVariants.{Look}
 use Rattle.desk_words.specs.declared.look.Look.{Look as LookOf}
 use Rattle.desk_words.specs.declared.look.Look.TheVariants as look
-use Rattle.desk_words.specs.declared.refusal.Kind.TheVariants as kind
-use Rattle.desk_words.specs.declared.refusal.Refusal.TheVariants.{NoSuch}
 use Rattle.desk_words.specs.declared.reply.Reply.{Reply}
 use Rattle.desk_words.specs.declared.reply.Reply.TheVariants as reply
 use Rattle.desk_words.specs.declared.reply.Suggested.{Suggested}
@@ -34,12 +32,11 @@ use Rattle.machine_core.specs.Own.{Own, after, own_of}
 use Rattle.machine_core.specs.OwnRows.{AreOwnRows, IsSoundDeed}
 use Rattle.machine_core.specs.Sessions.{IsSessionOf}
 use Rattle.machine_core.specs.Shelves.{IsFirst}
-use Rattle.machine_core.specs.Tests.{active, active_session, session_of}
+use Rattle.machine_core.specs.Tests.{active}
 use Rattle.machine_core.specs.Views.{edition_at, view_of, view_with}
 use Rattle.machine_core.specs.declared.deed.Deed.{Deed}
 use Rattle.machine_core.proofs.Chains.{Gives-bind_ok, done-value}
 use Rattle.machine_core.proofs.Looks.{Found, look-found}
-use Rattle.machine_core.proofs.Tested.{some_or-ok}
 use Rattle.machine_laws.proofs.Sessions.{session_at-found}
 use Rattle.machine_views.specs.Doing.{DoesAsTold, PutsOne, StandsFirst}
 use Rattle.machine_views.specs.Looking.{IsLookFirst, IsSessionFirst, IsTargetFirst}
@@ -62,20 +59,6 @@ view-name published number session view gives =
     let is : view ≡ view_with published number session bound.0 answer.0 =
     done-value (view_with published number session bound.0 answer.0) view answer.2 in
     (ap (λ (one : View). one.edition) is, ap (λ (one : View). one.version) is)
-
--- the session of a number that is found stands there
-pub session_of-found : (sessions : List SessionRow) (number : ℕ) (session : SessionRow)
-    → Gives (session_of sessions number) (Ok session) → session_at sessions number ≡ Some session
-session_of-found sessions number session gives =
-    some_or-ok (session_at sessions number) (NoSuch kind.Session) session gives
-
--- and so does one that is found active
-pub active_session-found : (sessions : List SessionRow) (number : ℕ) (session : SessionRow)
-    → Gives (active_session sessions number) (Ok session) → session_at sessions number ≡ Some session
-active_session-found sessions number session gives =
-    let found = Gives-bind_ok (session_of sessions number) (λ one. active one >>= (λ _. done one)) session gives in
-    let rest = Gives-bind_ok (active found.0) (λ _. done found.0) session found.2 in
-    session_of-found sessions number found.0 found.1 ∙ ap Some (sym (done-value found.0 session rest.2))
 
 -- where the edition of the session of a number is first, it is that of the session
 there-first : (sessions : List SessionRow) (number : ℕ) (session : SessionRow) (held : List (ℕ × Shelved))

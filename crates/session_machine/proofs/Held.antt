@@ -1,4 +1,4 @@
--- Books stay those of their editions where tables change, and so a desk is seated as it was.
+-- Books stay those of their editions where tables change, and so a workplace is ready as it was.
 use Rattle.std.proofs.Common.{◌≡◌, ◌∙◌, ℕ, List, [], ◌∷◌, ◌++◌, Some, append_assoc, ap, subst, sym}
 use Rattle.std.specs.Prelude.{OnErr, OnOk, Result, Ok, Err}
 use Rattle.std.proofs.lemmas.List.Elements.{All-weaker}
@@ -8,16 +8,15 @@ use Rattle.desk_words.specs.Tables.{Published, Rows, published_of}
 use Rattle.desk_valid.specs.Bindings.{bound_at}
 use Rattle.desk_valid.specs.declared.bound.Bound.{Bound}
 use Rattle.desk_valid.specs.Valid.{AreValid}
-use Rattle.fix_engine.specs.WorkSeen.{WorkSeen}
 use Rattle.master_index.specs.declared.shelf.Shelved.{Shelved}
 use Rattle.machine_core.specs.Shelves.{AreHeld, bound_on}
 use Rattle.machine_laws.proofs.Kept.{bound_at-more}
 use Rattle.machine_laws.proofs.Lists.{Begins}
 use Rattle.machine_laws.proofs.More.{AreMore, AreMore-changed, AreMore-same}
-use Rattle.machine_views.specs.Upshots.{AreTrue}
-use Rattle.machine_views.specs.declared.upshots.Upshots.{Upshots}
-use Rattle.session_machine.specs.Seats.{IsSeated}
-use Rattle.machine_views.proofs.Known.{AreTrue-later}
+use Rattle.machine_workplace.specs.Upshots.{AreTrue}
+use Rattle.machine_workplace.specs.declared.workplace.Workplace.{Workplace}
+use Rattle.machine_workplace.specs.Ready.{IsReady}
+use Rattle.machine_workplace.proofs.Noting.{AreTrue-later}
 use Rattle.machine_core.proofs.Widths.{edition-stands}
 
 -- a list begins with all that the list before it begins with
@@ -62,19 +61,18 @@ AreHeld-changed rows changes held valid are =
     (λ pair. bound_at later pair.0 ≡ Some (bound_on pair.1))
     (λ pair bound. bound-stays rows changes valid pair.0 (bound_on pair.1) bound) held are
 
--- and a desk is seated whether changes that leave valid tables were made or not
-pub IsSeated-settled : {E : Type 0} (rows after : Rows) (changes : List Change) (shelf : List (ℕ × Shelved))
-    (room : WorkSeen) (upshots : Upshots) (result : Result (Unit {0}) E) → IsSeated rows shelf room upshots
-    → AreValid (changed_all rows changes) → OnOk result (after ≡ changed_all rows changes)
-    → OnErr result (after ≡ rows) → IsSeated after shelf room upshots
-IsSeated-settled rows after changes shelf room upshots (Ok done) seated valid made stayed = record {
+-- and the workplace is ready whether changes that leave valid tables were made or not
+pub IsReady-settled : {E : Type 0} (rows after : Rows) (changes : List Change) (workplace : Workplace)
+    (result : Result (Unit {0}) E) → IsReady rows workplace → AreValid (changed_all rows changes)
+    → OnOk result (after ≡ changed_all rows changes) → OnErr result (after ≡ rows) → IsReady after workplace
+IsReady-settled rows after changes workplace (Ok done) ready valid made stayed = record {
   valid = subst AreValid (sym made) valid;
-  held = subst (λ tables. AreHeld (published_of tables) shelf) (sym made)
-      (AreHeld-changed rows changes shelf seated.valid seated.held);
-  room = seated.room;
-  known = subst (λ tables. AreTrue (published_of tables) upshots) (sym made)
-      (AreTrue-later (published_of rows) (published_of (changed_all rows changes)) upshots
-      (bound-stays rows changes seated.valid) seated.known);
+  held = subst (λ tables. AreHeld (published_of tables) workplace.shelf) (sym made)
+      (AreHeld-changed rows changes workplace.shelf ready.valid ready.held);
+  room = ready.room;
+  known = subst (λ tables. AreTrue (published_of tables) workplace.upshots) (sym made)
+      (AreTrue-later (published_of rows) (published_of (changed_all rows changes)) workplace.upshots
+      (bound-stays rows changes ready.valid) ready.known);
 }
-IsSeated-settled rows after changes shelf room upshots (Err fail) seated valid made stayed =
-    subst (λ tables. IsSeated tables shelf room upshots) (sym stayed) seated
+IsReady-settled rows after changes workplace (Err fail) ready valid made stayed =
+    subst (λ tables. IsReady tables workplace) (sym stayed) ready

@@ -1,14 +1,13 @@
 //! A clerk's requests: writes and looks.
 ghost use Rattle.std.specs.Prelude.{◌≡◌, ◌<◌, ◌≤◌, IfOk, IfSome, length, position};
 ghost use Rattle.std.specs.Str.{bytes_eq};
-ghost use Rattle.desk_words.specs.Tables.{published_of, rows_of};
+ghost use Rattle.desk_words.specs.Tables.{rows_of};
 ghost use Rattle.desk_words.specs.declared.command.Command.TheVariants.{Clerk, Look as LookAt};
 ghost use Rattle.desk_valid.specs.Valid.{AreValid};
+ghost use Rattle.machine_workplace.specs.Ready.{IsReady};
 ghost use Rattle.machine_core.specs.Machine.{clerk_of, machine};
 ghost use Rattle.machine_core.specs.Outcomes.{Answers, Finds, WantsNone};
 ghost use Rattle.machine_core.specs.Own.{own_of};
-ghost use Rattle.machine_core.specs.Shelves.{AreHeld, IsFullRoom};
-ghost use Rattle.machine_views.specs.Upshots.{AreTrue};
 ghost use Rattle.session_machine.specs.Booked.{IsBooked};
 
 mod changing;
@@ -17,73 +16,53 @@ mod writing;
 use desk_base::{List, Str};
 use desk_totals::Totalled;
 use desk_words::{Change, ClerkRow, ClerkWork, Look, Refusal, Reply, Tables, Ticket};
-use fix_engine::Work;
 use machine_core::{Own, Stop, Use, use_of};
-use machine_views::{Upshots, look_reply};
-use master_index::Shelf;
-use std::alloc::Global;
+use machine_views::look_reply;
+use machine_workplace::Workplace;
 use writing::{fresh, repeated};
 
 /// What a write of the clerk with this name comes to: a repeat has the kept reply, a new one does what it asks.
 pub fn clerk_write(
-    alloc: Global,
     totalled: &Totalled,
-    shelf: &mut Shelf,
-    room: &mut Work,
-    upshots: &mut Upshots,
+    workplace: &mut Workplace,
     name: &Str,
     ticket: &Ticket,
     work: &ClerkWork,
 ) -> Result<(Reply, List<Change>), Stop>
-    requires valid { AreValid totalled.now }
-    requires held { AreHeld (published_of totalled.now) shelf.old }
-    requires room { IsFullRoom room.old }
-    requires known { AreTrue (published_of totalled.now) upshots.old }
+    requires ready { IsReady totalled.now workplace.old }
     requires numbered { 1 ≤ ticket.now.number }
     ensures answers { Answers result (machine totalled.now (Clerk name.now ticket.now work.now)) }
     ensures booked { IfOk result
-        (λ made. IsBooked totalled.now (Clerk name.now ticket.now work.now) made.0 shelf.new) }
-    ensures held { AreHeld (published_of totalled.now) shelf.new }
-    ensures room { IsFullRoom room.new }
-    ensures known { AreTrue (published_of totalled.now) upshots.new }
+        (λ made. IsBooked totalled.now (Clerk name.now ticket.now work.now) made.0 workplace.new.shelf) }
+    ensures ready { IsReady totalled.now workplace.new }
 {
     let tables = totalled.tables();
     let place = clerk_of(tables, name)?;
     let own = own_at(totalled, place);
     let used = use_of(own.row(), ticket)?;
     match used {
-        Use::Repeated => repeated(alloc, tables, shelf, room, upshots, place, &own),
-        Use::Fresh => fresh(
-            alloc, tables, shelf, room, upshots, place, &own, ticket, work,
-        ),
+        Use::Repeated => repeated(tables, workplace, place, &own),
+        Use::Fresh => fresh(tables, workplace, place, &own, ticket, work),
     }
 }
 
 /// What a look of the clerk with this name comes to. It changes nothing.
 pub fn clerk_look(
-    alloc: Global,
     totalled: &Totalled,
-    shelf: &mut Shelf,
-    room: &mut Work,
-    upshots: &mut Upshots,
+    workplace: &mut Workplace,
     name: &Str,
     look: &Look,
 ) -> Result<(Reply, List<Change>), Stop>
-    requires valid { AreValid totalled.now }
-    requires held { AreHeld (published_of totalled.now) shelf.old }
-    requires room { IsFullRoom room.old }
-    requires known { AreTrue (published_of totalled.now) upshots.old }
+    requires ready { IsReady totalled.now workplace.old }
     ensures answers { Answers result (machine totalled.now (LookAt name.now look.now)) }
-    ensures booked { IfOk result (λ made. IsBooked totalled.now (LookAt name.now look.now) made.0 shelf.new) }
-    ensures held { AreHeld (published_of totalled.now) shelf.new }
-    ensures room { IsFullRoom room.new }
-    ensures known { AreTrue (published_of totalled.now) upshots.new }
+    ensures booked { IfOk result (λ made. IsBooked totalled.now (LookAt name.now look.now) made.0 workplace.new.shelf) }
+    ensures ready { IsReady totalled.now workplace.new }
 {
     let tables = totalled.tables();
     let place = clerk_of(tables, name)?;
     let own = own_at(totalled, place);
-    let reply = look_reply(alloc, tables, shelf, room, upshots, place, &own, look)?;
-    Ok((reply, List::new(alloc)))
+    let reply = look_reply(tables, workplace, place, &own, look)?;
+    Ok((reply, List::new(workplace.alloc)))
 }
 
 /// The place of the clerk with this name, counted from 0; the steward is none. No want of memory is answered.

@@ -12,7 +12,7 @@ ghost use Rattle.master_index.specs.Held.{brought_first, put_first};
 ghost use Rattle.master_index.specs.declared.shelf.Shelved.{Shelved as ShelvedBook};
 ghost use Rattle.machine_core.specs.Machine.{machine};
 ghost use Rattle.machine_core.specs.Outcomes.{Answers};
-ghost use Rattle.machine_core.specs.Shelves.{AreHeld, IsFirst, IsFullRoom, bound_on};
+ghost use Rattle.machine_core.specs.Shelves.{AreHeld, IsFirst, bound_on};
 ghost use Rattle.machine_core.specs.Starting.{AreStarted, CountsStart, IsUnstarted, StartsAvailable};
 ghost use Rattle.machine_core.specs.Ticket.{IsNumbered, turn_of};
 ghost use Rattle.machine_core.specs.Weighing.{CallsOnce, CountsUnavailable, IsSettleable, IsWeighed};
@@ -23,36 +23,33 @@ ghost use Rattle.session_machine.specs.Booked.{IsBooked};
 use crate::clerk::{clerk_look, clerk_write};
 use crate::desk_look::desk_look;
 use crate::steward::steward_write;
-use desk_base::{List, MAX_ATTRIBUTES, MAX_RULES, NoMemory};
+use desk_base::{List, NoMemory};
 use desk_totals::Totalled;
 use desk_valid::{Bad, valid};
 use desk_words::{Change, Command, Refusal, Reply, Tables};
-use fix_engine::Work;
 use keeper_core::{KeepFail, Keeper};
 use machine_core::{Machine, SettleFail, StartFail, Stop, Weighed, hold, shelved};
-use machine_views::Upshots;
-use master_index::{Shelf, Shelved};
+use machine_workplace::Workplace;
+use master_index::Shelved;
 use std::alloc::Global;
 use std::marker::Model;
 
 /// Valid tables in memory, over which requests are answered.
 #[derive(Drop)]
 pub struct Desk {
-    alloc: Global,
     totalled: Totalled,
-    shelf: Shelf,
-    room: Work,
-    upshots: Upshots,
+    workplace: Workplace,
 }
 
 impl Model for Desk {
-    ghost use Rattle.session_machine.specs.Seats.{IsSeated, Seat};
+    ghost use Rattle.machine_workplace.specs.Ready.{IsReady};
+    ghost use Rattle.session_machine.specs.Seats.{Seat};
 
     ghost Value = { Seat };
 
-    ghost view = { λ d. record { rows = d.totalled; shelf = d.shelf } };
+    ghost view = { λ d. record { rows = d.totalled; shelf = d.workplace.shelf } };
 
-    ghost invariant = { λ d. IsSeated d.totalled d.shelf d.room d.upshots };
+    ghost invariant = { λ d. IsReady d.totalled d.workplace };
 }
 
 impl Desk {
@@ -62,14 +59,11 @@ impl Desk {
         ensures rows { IfOk result (λ desk. desk.rows ≡ rows_of tables) }
         ensures shelf { IfOk result (λ desk. desk.shelf ≡ []) }
     {
-        let (shelf, room) = shelf_and_room(alloc)?;
+        let workplace = Workplace::new(alloc)?;
         let totalled = Totalled::new(alloc, tables)?;
         Ok(Desk {
-            alloc,
             totalled,
-            shelf,
-            room,
-            upshots: Upshots::new(alloc),
+            workplace,
         })
     }
 
@@ -103,8 +97,7 @@ impl Desk {
         ensures unchanged { OnErr result (self.new ≡ self.old) }
         ensures succeeds { IsSome (lookup (nat_eq edition) self.old.shelf) → OnErr result ⊥ }
     {
-        let tables = self.totalled.tables();
-        hold(self.alloc, tables, &mut self.shelf, edition)
+        self.workplace.hold(self.totalled.tables(), edition)
     }
 
     /// The book of the edition that stands first on the shelf, with its names: that of the edition's row.
@@ -112,7 +105,7 @@ impl Desk {
         requires { IsFirst edition self.now.shelf }
         ensures { bound_at (published_of self.now.rows) edition ≡ Some (bound_on result.now) }
     {
-        shelved(&self.shelf, edition)
+        shelved(&self.workplace.shelf, edition)
     }
 
     /// What a request comes to: the step of the machine, or that there is no memory.
@@ -122,21 +115,14 @@ impl Desk {
         ensures booked { IfOk result (λ made. IsBooked self.old.rows command.now made.0 self.new.shelf) }
         ensures rows { self.new.rows ≡ self.old.rows }
     {
-        let (totalled, shelf) = (&self.totalled, &mut self.shelf);
-        let (room, upshots) = (&mut self.room, &mut self.upshots);
+        let (totalled, workplace) = (&self.totalled, &mut self.workplace);
         match command {
-            Command::Steward(ticket, work) => {
-                steward_write(self.alloc, totalled, shelf, room, ticket, work)
-            }
-            Command::Clerk(name, ticket, work) => {
-                clerk_write(
-                    self.alloc, totalled, shelf, room, upshots, name, ticket, work,
-                )
-            }
-            Command::Look(name, look) => {
-                clerk_look(self.alloc, totalled, shelf, room, upshots, name, look)
-            }
-            Command::Desk(look) => desk_look(self.alloc, totalled, shelf, room, upshots, look),
+            Command::Steward(ticket, work) => steward_write(totalled, workplace, ticket, work),
+            Command::Clerk(name, ticket, work) => clerk_write(
+                totalled, workplace, name, ticket, work,
+            ),
+            Command::Look(name, look) => clerk_look(totalled, workplace, name, look),
+            Command::Desk(look) => desk_look(totalled, workplace, look),
         }
     }
 
@@ -161,15 +147,6 @@ impl Desk {
             Err(SettleFail::NoMemory) => Reply::Refused(Refusal::NoMemory),
         }
     }
-}
-
-/// An empty shelf, and room for work over any edition.
-fn shelf_and_room(alloc: Global) -> Result<(Shelf, Work), NoMemory>
-    ensures { IfOk result (λ made. (made.0 ≡ []) × IsFullRoom made.1) }
-{
-    let shelf = Shelf::new(alloc)?;
-    let room = Work::new(alloc, MAX_ATTRIBUTES as u16, MAX_RULES as u16)?;
-    Ok((shelf, room))
 }
 
 impl Machine for Desk {
@@ -206,11 +183,12 @@ impl Machine for Desk {
         ensures settleable { IsSettleable self.old.rows result }
         ensures rows { self.new.rows ≡ self.old.rows }
     {
+        let alloc = self.workplace.alloc;
         let turn = self.turn();
         let (reply, changes) = match self.step(command) {
             Ok(made) => made,
-            Err(Stop::Refused(refusal)) => (Reply::Refused(refusal), List::new(self.alloc)),
-            Err(Stop::NoMemory) => (Reply::Refused(Refusal::NoMemory), List::new(self.alloc)),
+            Err(Stop::Refused(refusal)) => (Reply::Refused(refusal), List::new(alloc)),
+            Err(Stop::NoMemory) => (Reply::Refused(Refusal::NoMemory), List::new(alloc)),
         };
         Weighed {
             reply,
@@ -235,7 +213,7 @@ impl Machine for Desk {
         ensures steady { K.is_steady keeper.old → NeverUnavailable result × K.is_steady keeper.new }
     {
         let Weighed { reply, changes, .. } = weighed;
-        let kept = self.totalled.settle(self.alloc, keeper, changes);
+        let kept = self.totalled.settle(self.workplace.alloc, keeper, changes);
         kept.and(Ok(reply)).map_err(|fail| match fail {
             KeepFail::Failed => SettleFail::Unavailable,
             KeepFail::NoMemory => SettleFail::NoMemory,

@@ -1,11 +1,11 @@
 //! The steward's writes.
 ghost use Rattle.std.specs.Prelude.{◌≡◌, ◌<◌, ◌≤◌, IfOk};
-ghost use Rattle.desk_words.specs.Tables.{published_of, rows_of};
+ghost use Rattle.desk_words.specs.Tables.{rows_of};
 ghost use Rattle.desk_valid.specs.Valid.{AreValid};
+ghost use Rattle.machine_workplace.specs.Ready.{IsReady};
 ghost use Rattle.machine_core.specs.Machine.{machine, making_changes, steward_write};
 ghost use Rattle.machine_core.specs.Outcomes.{Answers};
 ghost use Rattle.machine_core.specs.Own.{own_of};
-ghost use Rattle.machine_core.specs.Shelves.{AreHeld, IsFullRoom};
 ghost use Rattle.desk_words.specs.declared.command.Command.TheVariants.{Steward};
 ghost use Rattle.desk_words.specs.declared.command.Command.{Command as CommandOf};
 ghost use Rattle.desk_words.specs.declared.command.Ticket.{Ticket as TicketOf};
@@ -20,36 +20,30 @@ mod versions;
 use desk_base::{List, NoMemory};
 use desk_totals::Totalled;
 use desk_words::{Change, ClerkRow, Reply, StewardWork, Tables, Ticket};
-use fix_engine::Work;
 use machine_core::{Making, Stop, Use, ticketed, use_of};
 use machine_views::kept_made;
+use machine_workplace::Workplace;
 use making::made_by;
-use master_index::Shelf;
 use std::alloc::Global;
 
 /// What a write of the steward comes to: a repeat has the kept reply, a new one makes what it asks.
 pub fn steward_write(
-    alloc: Global,
     totalled: &Totalled,
-    shelf: &mut Shelf,
-    room: &mut Work,
+    workplace: &mut Workplace,
     ticket: &Ticket,
     work: &StewardWork,
 ) -> Result<(Reply, List<Change>), Stop>
-    requires valid { AreValid totalled.now }
-    requires held { AreHeld (published_of totalled.now) shelf.old }
-    requires room { IsFullRoom room.old }
+    requires ready { IsReady totalled.now workplace.old }
     requires numbered { 1 ≤ ticket.now.number }
     ensures answers { Answers result (machine totalled.now (Steward ticket.now work.now)) }
     ensures booked { IfOk result
-        (λ made. IsBooked totalled.now (Steward ticket.now work.now) made.0 shelf.new) }
-    ensures held { AreHeld (published_of totalled.now) shelf.new }
-    ensures room { IsFullRoom room.new }
+        (λ made. IsBooked totalled.now (Steward ticket.now work.now) made.0 workplace.new.shelf) }
+    ensures ready { IsReady totalled.now workplace.new }
 {
     let tables = totalled.tables();
     match use_of(steward_of(tables), ticket)? {
-        Use::Repeated => repeated(alloc, tables, shelf, room),
-        Use::Fresh => fresh(alloc, totalled, shelf, room, ticket, work),
+        Use::Repeated => repeated(tables, workplace),
+        Use::Fresh => fresh(totalled, workplace, ticket, work),
     }
 }
 
@@ -62,48 +56,40 @@ fn steward_of(tables: &Tables) -> &ClerkRow
 }
 
 /// The last write again: its kept reply, and no changes.
-fn repeated(
-    alloc: Global,
-    tables: &Tables,
-    shelf: &mut Shelf,
-    room: &mut Work,
-) -> Result<(Reply, List<Change>), Stop>
-    requires valid { AreValid (rows_of tables.now) }
-    requires held { AreHeld (published_of (rows_of tables.now)) shelf.old }
-    requires room { IsFullRoom room.old }
+fn repeated(tables: &Tables, workplace: &mut Workplace) -> Result<(Reply, List<Change>), Stop>
+    requires ready { IsReady (rows_of tables.now) workplace.old }
     requires started { 0 < (own_of (rows_of tables.now) 0).row.last }
     ensures answers { (ticket : TicketOf) (work : WorkOf)
         → Answers result (steward_write (rows_of tables.now) ticket work Repeated) }
     ensures booked { (command : CommandOf) → IfOk result
-        (λ made. IsBooked (rows_of tables.now) command made.0 shelf.new) }
-    ensures held { AreHeld (published_of (rows_of tables.now)) shelf.new }
-    ensures room { IsFullRoom room.new }
+        (λ made. IsBooked (rows_of tables.now) command made.0 workplace.new.shelf) }
+    ensures ready { IsReady (rows_of tables.now) workplace.new }
 {
     let row = steward_of(tables);
-    let made = kept_made(alloc, tables, shelf, room, row.act, row.target)?;
-    Ok((Reply::Made(made), List::new(alloc)))
+    let made = kept_made(tables, workplace, row.act, row.target)?;
+    Ok((Reply::Made(made), List::new(workplace.alloc)))
 }
 
 /// A new write: what it makes, with its reply.
 fn fresh(
-    alloc: Global,
     totalled: &Totalled,
-    shelf: &mut Shelf,
-    room: &mut Work,
+    workplace: &mut Workplace,
     ticket: &Ticket,
     work: &StewardWork,
 ) -> Result<(Reply, List<Change>), Stop>
-    requires valid { AreValid totalled.now }
-    requires held { AreHeld (published_of totalled.now) shelf.old }
-    requires room { IsFullRoom room.old }
+    requires ready { IsReady totalled.now workplace.old }
     ensures answers { Answers result (steward_write totalled.now ticket.now work.now Fresh) }
     ensures booked { (command : CommandOf) → IfOk result
-        (λ made. IsBooked totalled.now command made.0 shelf.new) }
-    ensures held { AreHeld (published_of totalled.now) shelf.new }
-    ensures room { IsFullRoom room.new }
+        (λ made. IsBooked totalled.now command made.0 workplace.new.shelf) }
+    ensures ready { IsReady totalled.now workplace.new }
 {
-    let (made, making) = made_by(alloc, totalled, shelf, room, work)?;
-    let changes = making_changes(alloc, steward_of(totalled.tables()), ticket, making)?;
+    let (made, making) = made_by(totalled, workplace, work)?;
+    let changes = making_changes(
+        workplace.alloc,
+        steward_of(totalled.tables()),
+        ticket,
+        making,
+    )?;
     Ok((Reply::Made(made), changes))
 }
 

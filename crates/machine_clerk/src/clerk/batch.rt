@@ -6,13 +6,12 @@ ghost use Rattle.std.specs.List.{list_any};
 ghost use Rattle.desk_base.specs.declared.limits.TheConstants.{MAX_ATTRIBUTES};
 ghost use Rattle.desk_words.specs.Tables.{published_of, rows_of};
 ghost use Rattle.desk_valid.specs.Tallies.{typed_bytes};
-ghost use Rattle.desk_valid.specs.Valid.{AreValid};
+ghost use Rattle.machine_workplace.specs.Ready.{IsReady};
 ghost use Rattle.machine_core.specs.Checked.{each_following};
 ghost use Rattle.machine_core.specs.Clerk.Batch.{another_column, batch_rows, enter_batch, is_confirmed, is_starred};
 ghost use Rattle.machine_core.specs.Clerk.Batch.{placed, row_session, word_of};
 ghost use Rattle.machine_core.specs.Outcomes.{Finds};
 ghost use Rattle.machine_core.specs.Own.{IsOwn};
-ghost use Rattle.machine_core.specs.Shelves.{AreHeld};
 
 use crate::clerk::bytes::{bytes_in, within_bytes};
 use crate::clerk::enter::new_session;
@@ -20,7 +19,7 @@ use crate::clerk::opening::open_edition;
 use desk_base::{Grid, List, NoMemory, Str, Text};
 use desk_words::{Act, BatchRow, Refusal, SessionRow, Tables, Which};
 use machine_core::{Column, Deed, Own, Stop, attribute_of, read_master, shelved, within};
-use master_index::Shelf;
+use machine_workplace::Workplace;
 use std::alloc::Global;
 
 /// What the rows of a batch stand under: the place of the edition, counted from 0, its number of attributes, and the
@@ -34,29 +33,27 @@ struct Heading<'c> {
 
 /// Batch: a session for each row of a sheet.
 pub fn batch_deed(
-    alloc: Global,
     tables: &Tables,
-    shelf: &mut Shelf,
+    workplace: &mut Workplace,
     own: &Own,
     edition: &Str,
     body: &[u8],
 ) -> Result<Deed, Stop>
-    requires valid { AreValid (rows_of tables.now) }
+    requires ready { IsReady (rows_of tables.now) workplace.old }
     requires own { IsOwn (rows_of tables.now) own.now }
-    requires held { AreHeld (published_of (rows_of tables.now)) shelf.old }
     ensures finds { Finds result (enter_batch (published_of (rows_of tables.now)) own.now edition.now body.now) }
-    ensures held { AreHeld (published_of (rows_of tables.now)) shelf.new }
+    ensures ready { IsReady (rows_of tables.now) workplace.new }
 {
-    let place = open_edition(alloc, tables, shelf, edition)?;
-    let attributes = shelved(shelf, place).names.attributes.as_slice();
-    let sheet = read_master(alloc, body)?;
-    let columns = columns_of(alloc, attributes, sheet.columns.as_slice())?;
+    let place = open_edition(tables, workplace, edition)?;
+    let attributes = shelved(&workplace.shelf, place).names.attributes.as_slice();
+    let sheet = read_master(workplace.alloc, body)?;
+    let columns = columns_of(workplace.alloc, attributes, sheet.columns.as_slice())?;
     let heading = Heading {
         edition: place,
         width: attributes.len() as u16,
         columns: columns.as_slice(),
     };
-    batch_rows(alloc, own, &heading, &sheet.grid)
+    batch_rows(workplace.alloc, own, &heading, &sheet.grid)
 }
 
 /// The columns of attributes of which none stands twice, in their order.

@@ -1,14 +1,14 @@
 //! Commit: the record at the end of the first run is kept.
 ghost use Rattle.std.specs.Prelude.{◌≡◌, ◌≤◌, OnOk, IfOk, length};
 ghost use Rattle.desk_words.specs.Tables.{published_of, rows_of};
-ghost use Rattle.desk_valid.specs.Valid.{AreValid};
+ghost use Rattle.machine_workplace.specs.Ready.{IsReady};
 ghost use Rattle.fix_engine.specs.WorkSeen.{IsRoomFor, KeepsSize};
 ghost use Rattle.fix_model.specs.States.{Fits, record_of, uncovered_count};
 ghost use Rattle.machine_core.specs.Answers.{state_of};
 ghost use Rattle.machine_core.specs.Clerk.Commit.{accepted_record, accepts, commit, commit_rows, fixed_end};
 ghost use Rattle.machine_core.specs.Outcomes.{Answers, Finds, WantsNone};
 ghost use Rattle.machine_core.specs.Own.{IsOwn};
-ghost use Rattle.machine_core.specs.Shelves.{AreHeld, IsFullRoom, bound_on};
+ghost use Rattle.machine_core.specs.Shelves.{bound_on};
 
 use crate::clerk::bytes::{bytes_in, within_bytes};
 use crate::clerk::opening::open_session;
@@ -17,29 +17,25 @@ use desk_words::{Accept, Act, RecordRow, Refusal, SessionRow, Stage, Tables};
 use fix_engine::{Verdict, Work, apply, decide};
 use fix_model::{Book, Cell, State, value_text};
 use machine_core::{Deed, Own, Stop, shelved, state_of};
-use master_index::{Shelf, Shelved, SortedBook};
+use machine_workplace::Workplace;
+use master_index::{Shelved, SortedBook};
 use std::alloc::Global;
 
 /// Commit: the record at the end of the first run is kept.
 pub fn commit_deed(
-    alloc: Global,
     tables: &Tables,
-    shelf: &mut Shelf,
-    work: &mut Work,
+    workplace: &mut Workplace,
     own: &Own,
     number: u32,
     accept: Accept,
 ) -> Result<Deed, Stop>
-    requires valid { AreValid (rows_of tables.now) }
+    requires ready { IsReady (rows_of tables.now) workplace.old }
     requires own { IsOwn (rows_of tables.now) own.now }
-    requires held { AreHeld (published_of (rows_of tables.now)) shelf.old }
-    requires room { IsFullRoom work.old }
     ensures answers { Answers result (commit (published_of (rows_of tables.now)) own.now number accept) }
-    ensures held { AreHeld (published_of (rows_of tables.now)) shelf.new }
-    ensures room { IsFullRoom work.new }
+    ensures ready { IsReady (rows_of tables.now) workplace.new }
 {
-    let (session, row) = commit_rows(alloc, tables, shelf, work, own, number, accept)?;
-    let mut sessions = List::new(alloc);
+    let (session, row) = commit_rows(tables, workplace, own, number, accept)?;
+    let mut sessions = List::new(workplace.alloc);
     sessions.push((number - 1, session))?;
     Ok(Deed {
         sessions,
@@ -52,27 +48,26 @@ pub fn commit_deed(
 
 /// The session that is committed, and its record.
 fn commit_rows(
-    alloc: Global,
     tables: &Tables,
-    shelf: &mut Shelf,
-    work: &mut Work,
+    workplace: &mut Workplace,
     own: &Own,
     number: u32,
     accept: Accept,
 ) -> Result<(SessionRow, RecordRow), Stop>
-    requires valid { AreValid (rows_of tables.now) }
+    requires ready { IsReady (rows_of tables.now) workplace.old }
     requires own { IsOwn (rows_of tables.now) own.now }
-    requires held { AreHeld (published_of (rows_of tables.now)) shelf.old }
-    requires room { IsFullRoom work.old }
     ensures answers { Answers result (commit_rows (published_of (rows_of tables.now)) own.now number accept) }
     ensures counted { OnOk result (1 ≤ number) }
-    ensures held { AreHeld (published_of (rows_of tables.now)) shelf.new }
-    ensures room { IsFullRoom work.new }
+    ensures ready { IsReady (rows_of tables.now) workplace.new }
 {
-    let session = open_session(alloc, tables, shelf, own, number)?;
-    let shelved = shelved(shelf, session.edition);
-    let end = fixed_end(work, &shelved.book, state_of(alloc, session)?)?;
-    let row = accepted_record(alloc, shelved, &end, number, accept)?;
+    let session = open_session(tables, workplace, own, number)?;
+    let shelved = shelved(&workplace.shelf, session.edition);
+    let end = fixed_end(
+        &mut workplace.room,
+        &shelved.book,
+        state_of(workplace.alloc, session)?,
+    )?;
+    let row = accepted_record(workplace.alloc, shelved, &end, number, accept)?;
     within_bytes(own, bytes_in(row.texts.as_slice()))?;
     let mut after = session.copy()?;
     after.stage = Stage::Committed;

@@ -2,11 +2,10 @@
 ghost use Rattle.std.specs.Prelude.{◌≡◌, ◌<◌, ◌≤◌, All, OnOk, IfOk, length, map};
 ghost use Rattle.desk_base.specs.declared.limits.TheConstants.{MAX_ATTRIBUTES};
 ghost use Rattle.desk_words.specs.Tables.{published_of, rows_of};
-ghost use Rattle.desk_valid.specs.Valid.{AreValid};
+ghost use Rattle.machine_workplace.specs.Ready.{IsReady};
 ghost use Rattle.machine_core.specs.Clerk.Confirm.{confirm, confirm_row, confirmed_at, with_cells};
 ghost use Rattle.machine_core.specs.Outcomes.{Finds};
 ghost use Rattle.machine_core.specs.Own.{IsOwn};
-ghost use Rattle.machine_core.specs.Shelves.{AreHeld};
 
 use crate::clerk::bytes::{bytes_in, within_replaced};
 use crate::clerk::enter::type_over;
@@ -14,53 +13,52 @@ use crate::clerk::opening::open_session;
 use desk_base::{List, NoMemory, Shared, Str, Text};
 use desk_words::{Act, SessionRow, Tables};
 use machine_core::{Deed, Own, Stop, shelved, typed_cells};
-use master_index::Shelf;
+use machine_workplace::Workplace;
 use std::alloc::Global;
 
 /// Confirm: the cells are typed, and confirmed.
 pub fn confirm_deed(
-    alloc: Global,
     tables: &Tables,
-    shelf: &mut Shelf,
+    workplace: &mut Workplace,
     own: &Own,
     number: u32,
     cells: &[(Str, Str)],
 ) -> Result<Deed, Stop>
-    requires valid { AreValid (rows_of tables.now) }
+    requires ready { IsReady (rows_of tables.now) workplace.old }
     requires own { IsOwn (rows_of tables.now) own.now }
-    requires held { AreHeld (published_of (rows_of tables.now)) shelf.old }
     ensures finds { Finds result (confirm (published_of (rows_of tables.now)) own.now number cells.now) }
-    ensures held { AreHeld (published_of (rows_of tables.now)) shelf.new }
+    ensures ready { IsReady (rows_of tables.now) workplace.new }
 {
-    let session = confirm_row(alloc, tables, shelf, own, number, cells)?;
+    let session = confirm_row(tables, workplace, own, number, cells)?;
     let old = &own.sessions()[number as usize - 1];
     let gone = bytes_in(old.typed.as_slice());
     within_replaced(own, gone, bytes_in(session.typed.as_slice()))?;
-    Ok(Deed::puts(alloc, number - 1, session, Act::Changed)?)
+    Ok(Deed::puts(workplace.alloc, number - 1, session, Act::Changed)?)
 }
 
 /// The session after a Confirm of these cells, which is active and within the clerk's sessions.
 pub fn confirm_row(
-    alloc: Global,
     tables: &Tables,
-    shelf: &mut Shelf,
+    workplace: &mut Workplace,
     own: &Own,
     number: u32,
     cells: &[(Str, Str)],
 ) -> Result<SessionRow, Stop>
-    requires valid { AreValid (rows_of tables.now) }
+    requires ready { IsReady (rows_of tables.now) workplace.old }
     requires own { IsOwn (rows_of tables.now) own.now }
-    requires held { AreHeld (published_of (rows_of tables.now)) shelf.old }
     ensures finds { Finds result (confirm_row (published_of (rows_of tables.now)) own.now number cells.now) }
     ensures counted { OnOk result (1 ≤ number) }
     ensures within { OnOk result (number ≤ length own.now.sessions) }
     ensures few { IfOk result (λ session. length session.typed ≤ MAX_ATTRIBUTES) }
-    ensures held { AreHeld (published_of (rows_of tables.now)) shelf.new }
+    ensures ready { IsReady (rows_of tables.now) workplace.new }
 {
-    let session = open_session(alloc, tables, shelf, own, number)?;
-    let attributes = shelved(shelf, session.edition).names.attributes.as_slice();
-    let texts = typed_cells(alloc, attributes, cells)?;
-    Ok(with_cells(alloc, session, texts)?)
+    let session = open_session(tables, workplace, own, number)?;
+    let attributes = shelved(&workplace.shelf, session.edition)
+        .names
+        .attributes
+        .as_slice();
+    let texts = typed_cells(workplace.alloc, attributes, cells)?;
+    Ok(with_cells(workplace.alloc, session, texts)?)
 }
 
 /// The session with these cells typed and confirmed.

@@ -1,68 +1,63 @@
 //! Enter: a session on the newest version of an edition. Cells that are not given are blank.
 ghost use Rattle.std.specs.Prelude.{◌≡◌, ◌<◌, ◌≤◌, All, IfOk, [], length, replicate};
 ghost use Rattle.desk_words.specs.Tables.{published_of, rows_of};
-ghost use Rattle.desk_valid.specs.Valid.{AreValid};
+ghost use Rattle.machine_workplace.specs.Ready.{IsReady};
 ghost use Rattle.machine_core.specs.Clerk.Enter.{enter, enter_row, new_session, typed_over};
 ghost use Rattle.machine_core.specs.Outcomes.{Finds};
 ghost use Rattle.machine_core.specs.Own.{IsOwn};
-ghost use Rattle.machine_core.specs.Shelves.{AreHeld};
 
 use crate::clerk::bytes::{bytes_in, within_bytes};
 use crate::clerk::opening::open_edition;
 use desk_base::{List, NoMemory, Shared, Str, Text, flags_of};
 use desk_words::{Act, SessionRow, Stage, Tables, Which};
 use machine_core::{Deed, Own, Stop, attributes_of, shelved, typed_cells, within};
-use master_index::Shelf;
+use machine_workplace::Workplace;
 use std::alloc::Global;
 
 /// Enter: a session on the newest version of an edition. Cells that are not given are blank.
 pub fn enter_deed(
-    alloc: Global,
     tables: &Tables,
-    shelf: &mut Shelf,
+    workplace: &mut Workplace,
     own: &Own,
     edition: &Str,
     cells: &List<(Str, Str)>,
     confirmed: &List<Str>,
 ) -> Result<Deed, Stop>
-    requires valid { AreValid (rows_of tables.now) }
+    requires ready { IsReady (rows_of tables.now) workplace.old }
     requires own { IsOwn (rows_of tables.now) own.now }
-    requires held { AreHeld (published_of (rows_of tables.now)) shelf.old }
     ensures finds { Finds result
         (enter (published_of (rows_of tables.now)) own.now edition.now cells.now confirmed.now) }
-    ensures held { AreHeld (published_of (rows_of tables.now)) shelf.new }
+    ensures ready { IsReady (rows_of tables.now) workplace.new }
 {
     let (cells, confirmed) = (cells.as_slice(), confirmed.as_slice());
-    let session = enter_row(alloc, tables, shelf, own, edition, cells, confirmed)?;
+    let session = enter_row(tables, workplace, own, edition, cells, confirmed)?;
     let place = own.sessions().len() as u32;
-    Ok(Deed::puts(alloc, place, session, Act::Opened)?)
+    Ok(Deed::puts(workplace.alloc, place, session, Act::Opened)?)
 }
 
 /// The new session.
 fn enter_row(
-    alloc: Global,
     tables: &Tables,
-    shelf: &mut Shelf,
+    workplace: &mut Workplace,
     own: &Own,
     edition: &Str,
     cells: &[(Str, Str)],
     confirmed: &[Str],
 ) -> Result<SessionRow, Stop>
-    requires valid { AreValid (rows_of tables.now) }
+    requires ready { IsReady (rows_of tables.now) workplace.old }
     requires own { IsOwn (rows_of tables.now) own.now }
-    requires held { AreHeld (published_of (rows_of tables.now)) shelf.old }
     ensures finds { Finds result
         (enter_row (published_of (rows_of tables.now)) own.now edition.now cells.now confirmed.now) }
-    ensures held { AreHeld (published_of (rows_of tables.now)) shelf.new }
+    ensures ready { IsReady (rows_of tables.now) workplace.new }
 {
-    let place = open_edition(alloc, tables, shelf, edition)?;
-    let attributes = shelved(shelf, place).names.attributes.as_slice();
-    let texts = typed_cells(alloc, attributes, cells)?;
-    let places = attributes_of(alloc, attributes, confirmed)?;
+    let place = open_edition(tables, workplace, edition)?;
+    let attributes = shelved(&workplace.shelf, place).names.attributes.as_slice();
+    let texts = typed_cells(workplace.alloc, attributes, cells)?;
+    let places = attributes_of(workplace.alloc, attributes, confirmed)?;
     within(Which::ActiveSessions, own.active() + 1)?;
     within(Which::Sessions, own.sessions().len() as u64 + 1)?;
     let width = attributes.len() as u16;
-    let session = new_session(alloc, place, width, texts, places.as_slice(), 0)?;
+    let session = new_session(workplace.alloc, place, width, texts, places.as_slice(), 0)?;
     within_bytes(own, bytes_in(session.typed.as_slice()))?;
     Ok(session)
 }

@@ -4,62 +4,57 @@ ghost use Rattle.desk_words.specs.declared.refusal.Kind.TheVariants as kind;
 ghost use Rattle.desk_words.specs.declared.refusal.Refusal.TheVariants.{NoSuch};
 ghost use Rattle.desk_words.specs.Tables.{published_of, rows_of};
 ghost use Rattle.desk_valid.specs.Rows.Session.{IsSessionRow};
-ghost use Rattle.desk_valid.specs.Valid.{AreValid};
+ghost use Rattle.machine_workplace.specs.Ready.{IsReady};
 ghost use Rattle.machine_core.specs.Checked.{some_or};
 ghost use Rattle.machine_core.specs.Finding.{newest_edition};
 ghost use Rattle.machine_core.specs.Outcomes.{Finds, Lends};
 ghost use Rattle.machine_core.specs.Own.{IsOwn};
-ghost use Rattle.machine_core.specs.Shelves.{AreHeld, IsFirst};
+ghost use Rattle.machine_core.specs.Shelves.{IsFirst};
 ghost use Rattle.machine_core.specs.Tests.{active_session};
 
 use desk_base::Str;
 use desk_words::{Kind, Refusal, SessionRow, Tables};
 use machine_core::{Own, Stop, active_session, hold, newest_of};
-use master_index::Shelf;
-use std::alloc::Global;
+use machine_workplace::Workplace;
 
 /// The session with this number, counted from 1, which is active; the book of its edition stands first on the shelf.
 pub(crate) fn open_session<'t>(
-    alloc: Global,
     tables: &Tables,
-    shelf: &mut Shelf,
+    workplace: &mut Workplace,
     own: &Own<'t>,
     number: u32,
 ) -> Result<&'t SessionRow, Stop>
-    requires valid { AreValid (rows_of tables.now) }
+    requires ready { IsReady (rows_of tables.now) workplace.old }
     requires own { IsOwn (rows_of tables.now) own.now }
-    requires held { AreHeld (published_of (rows_of tables.now)) shelf.old }
     ensures finds { Lends result (active_session own.now.sessions number) }
     ensures counted { OnOk result (1 ≤ number) }
     ensures stands { IfOk result (λ session. slice_get own.now.sessions (number - 1) ≡ Some session.now) }
     ensures good { IfOk result (λ session.
         IsSessionRow (published_of (rows_of tables.now)) own.now.batches session.now) }
-    ensures first { IfOk result (λ session. IsFirst session.now.edition shelf.new) }
-    ensures held { AreHeld (published_of (rows_of tables.now)) shelf.new }
+    ensures first { IfOk result (λ session. IsFirst session.now.edition workplace.new.shelf) }
+    ensures ready { IsReady (rows_of tables.now) workplace.new }
 {
     let session = active_session(own.sessions(), number)?;
-    hold(alloc, tables, shelf, session.edition)?;
+    workplace.hold(tables, session.edition)?;
     Ok(session)
 }
 
 /// The place of the newest version of an edition, counted from 0; its book stands first on the shelf.
 pub(crate) fn open_edition(
-    alloc: Global,
     tables: &Tables,
-    shelf: &mut Shelf,
+    workplace: &mut Workplace,
     name: &Str,
 ) -> Result<u32, Stop>
-    requires valid { AreValid (rows_of tables.now) }
-    requires held { AreHeld (published_of (rows_of tables.now)) shelf.old }
+    requires ready { IsReady (rows_of tables.now) workplace.old }
     ensures finds { Finds result (some_or (newest_edition tables.now.editions.items name.now) (NoSuch kind.Edition)) }
     ensures stands { IfOk result (λ place. place < length tables.now.editions.items) }
-    ensures first { IfOk result (λ place. IsFirst place shelf.new) }
-    ensures held { AreHeld (published_of (rows_of tables.now)) shelf.new }
+    ensures first { IfOk result (λ place. IsFirst place workplace.new.shelf) }
+    ensures ready { IsReady (rows_of tables.now) workplace.new }
 {
     let Some(place) = newest_of(tables.editions.as_slice(), name.as_str()) else {
         return Err(Stop::Refused(Refusal::NoSuch(Kind::Edition)));
     };
     let edition = place as u32;
-    hold(alloc, tables, shelf, edition)?;
+    workplace.hold(tables, edition)?;
     Ok(edition)
 }

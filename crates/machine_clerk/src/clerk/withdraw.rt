@@ -1,59 +1,62 @@
 //! Withdraw: attributes of a session are confirmed no longer. Their texts stay.
 ghost use Rattle.std.specs.Prelude.{◌≡◌, ◌<◌, ◌≤◌, All, OnOk, IfOk, length};
 ghost use Rattle.desk_words.specs.Tables.{published_of, rows_of};
-ghost use Rattle.desk_valid.specs.Valid.{AreValid};
+ghost use Rattle.machine_workplace.specs.Ready.{IsReady};
 ghost use Rattle.machine_core.specs.Checked.{each};
 ghost use Rattle.machine_core.specs.Clerk.Withdraw.{cleared, confirmed_place, withdraw, withdraw_row};
 ghost use Rattle.machine_core.specs.Outcomes.{Finds};
 ghost use Rattle.machine_core.specs.Own.{IsOwn};
-ghost use Rattle.machine_core.specs.Shelves.{AreHeld};
 
 use crate::clerk::opening::open_session;
 use desk_base::{Duplicate, List, NoMemory, Shared, Str, Text};
 use desk_words::{Act, Refusal, SessionRow, Tables};
 use machine_core::{Deed, Own, Stop, attribute_of, shelved};
-use master_index::Shelf;
+use machine_workplace::Workplace;
 use std::alloc::Global;
 
 /// Withdraw: attributes of a session are confirmed no longer. All names are tested against the session as it stands.
 pub fn withdraw_deed(
-    alloc: Global,
     tables: &Tables,
-    shelf: &mut Shelf,
+    workplace: &mut Workplace,
     own: &Own,
     number: u32,
     names: &[Str],
 ) -> Result<Deed, Stop>
-    requires valid { AreValid (rows_of tables.now) }
+    requires ready { IsReady (rows_of tables.now) workplace.old }
     requires own { IsOwn (rows_of tables.now) own.now }
-    requires held { AreHeld (published_of (rows_of tables.now)) shelf.old }
     ensures finds { Finds result (withdraw (published_of (rows_of tables.now)) own.now number names.now) }
-    ensures held { AreHeld (published_of (rows_of tables.now)) shelf.new }
+    ensures ready { IsReady (rows_of tables.now) workplace.new }
 {
-    let session = withdraw_row(alloc, tables, shelf, own, number, names)?;
-    Ok(Deed::puts(alloc, number - 1, session, Act::Changed)?)
+    let session = withdraw_row(tables, workplace, own, number, names)?;
+    Ok(Deed::puts(workplace.alloc, number - 1, session, Act::Changed)?)
 }
 
 /// The session without these attributes confirmed.
 fn withdraw_row(
-    alloc: Global,
     tables: &Tables,
-    shelf: &mut Shelf,
+    workplace: &mut Workplace,
     own: &Own,
     number: u32,
     names: &[Str],
 ) -> Result<SessionRow, Stop>
-    requires valid { AreValid (rows_of tables.now) }
+    requires ready { IsReady (rows_of tables.now) workplace.old }
     requires own { IsOwn (rows_of tables.now) own.now }
-    requires held { AreHeld (published_of (rows_of tables.now)) shelf.old }
     ensures finds { Finds result (withdraw_row (published_of (rows_of tables.now)) own.now number names.now) }
     ensures counted { OnOk result (1 ≤ number) }
-    ensures held { AreHeld (published_of (rows_of tables.now)) shelf.new }
+    ensures ready { IsReady (rows_of tables.now) workplace.new }
 {
-    let session = open_session(alloc, tables, shelf, own, number)?;
-    let attributes = shelved(shelf, session.edition).names.attributes.as_slice();
-    let places = confirmed_places(alloc, attributes, session.confirmed.as_slice(), names)?;
-    Ok(without_flags(alloc, session, places.as_slice())?)
+    let session = open_session(tables, workplace, own, number)?;
+    let attributes = shelved(&workplace.shelf, session.edition)
+        .names
+        .attributes
+        .as_slice();
+    let places = confirmed_places(
+        workplace.alloc,
+        attributes,
+        session.confirmed.as_slice(),
+        names,
+    )?;
+    Ok(without_flags(workplace.alloc, session, places.as_slice())?)
 }
 
 /// The session with the flags at these places taken off.

@@ -1,7 +1,7 @@
 //! Blocked: what stands in the way of each attribute that is not covered at the end of a fix.
 ghost use Rattle.std.specs.Prelude.{◌≡◌, ◌<◌, All, IfOk, Ok, length, map};
 ghost use Rattle.desk_words.specs.Tables.{published_of, rows_of};
-ghost use Rattle.desk_valid.specs.Valid.{AreValid};
+ghost use Rattle.machine_workplace.specs.Ready.{IsReady};
 ghost use Rattle.fix_model.specs.Run.{IsFinal};
 ghost use Rattle.fix_model.specs.States.{Fits};
 ghost use Rattle.machine_core.specs.Checked.{Gives};
@@ -9,7 +9,7 @@ ghost use Rattle.machine_core.specs.Look.Blocked.{blocked_at, blocked_in, blocke
 ghost use Rattle.machine_core.specs.Look.Blocked.{shown_rule};
 ghost use Rattle.machine_core.specs.Outcomes.{Answers};
 ghost use Rattle.machine_core.specs.Own.{IsOwn};
-ghost use Rattle.machine_core.specs.Shelves.{AreHeld, IsFullRoom, bound_on};
+ghost use Rattle.machine_core.specs.Shelves.{IsFullRoom, bound_on};
 ghost use Rattle.machine_views.specs.Answered.{IsNamedBook, Suits};
 ghost use Rattle.machine_views.specs.Naming.{IsBlockedOf, IsBlockedRuleOf, IsBlockerOf};
 
@@ -22,29 +22,31 @@ use fix_blockers::{BlockedAttribute, BlockedRule, Blocker, blocked};
 use fix_engine::Work;
 use fix_model::State;
 use machine_core::{Own, Stop};
-use master_index::{Shelf, Shelved, SortedBook};
+use machine_workplace::Workplace;
+use master_index::{Shelved, SortedBook};
 use std::alloc::Global;
 
 /// What is blocked in the session of this number, counted from 1. Its edition comes first on the shelf.
 pub fn blocked_at(
-    alloc: Global,
     tables: &Tables,
-    shelf: &mut Shelf,
-    work: &mut Work,
+    workplace: &mut Workplace,
     own: &Own,
     number: u32,
 ) -> Result<Blocked, Stop>
-    requires valid { AreValid (rows_of tables.now) }
-    requires held { AreHeld (published_of (rows_of tables.now)) shelf.old }
-    requires room { IsFullRoom work.old }
+    requires ready { IsReady (rows_of tables.now) workplace.old }
     requires own { IsOwn (rows_of tables.now) own.now }
     ensures blocked { Answers result (blocked_at (published_of (rows_of tables.now)) own.now number) }
-    ensures held { AreHeld (published_of (rows_of tables.now)) shelf.new }
-    ensures room { IsFullRoom work.new }
+    ensures ready { IsReady (rows_of tables.now) workplace.new }
 {
-    let session = brought_session(alloc, tables, shelf, own, number)?;
-    let shelved = book_for(tables, shelf, session);
-    blocked_on(alloc, shelved, work, number, session)
+    let session = brought_session(tables, workplace, own, number)?;
+    let shelved = book_for(tables, &workplace.shelf, session);
+    blocked_on(
+        workplace.alloc,
+        shelved,
+        &mut workplace.room,
+        number,
+        session,
+    )
 }
 
 /// What is blocked in a session, by the book of its edition and with its names.

@@ -5,46 +5,39 @@ ghost use Rattle.std.specs.Str.{bytes_eq};
 ghost use Rattle.desk_base.specs.declared.limits.TheConstants.{MAX_ATTRIBUTES};
 ghost use Rattle.desk_carry.specs.Changes.{AreApart};
 ghost use Rattle.desk_words.specs.Tables.{published_of, rows_of};
-ghost use Rattle.desk_valid.specs.Valid.{AreValid};
+ghost use Rattle.machine_workplace.specs.Ready.{IsReady};
 ghost use Rattle.machine_core.specs.Checked.{Gives};
 ghost use Rattle.machine_core.specs.Look.Carry.{carried_between, carrying, words_apart};
 ghost use Rattle.machine_core.specs.Outcomes.{Answers};
 ghost use Rattle.machine_core.specs.Own.{IsOwn};
-ghost use Rattle.machine_core.specs.Shelves.{AreHeld, IsFullRoom};
 
 use crate::looks::view::view_at;
 use crate::views::view_of;
 use desk_base::{Duplicate, List, NoMemory, Text};
 use desk_carry::changed;
 use desk_words::{Carried, Tables, View, ViewCell};
-use fix_engine::Work;
 use machine_core::{Own, Stop, carry_row};
-use master_index::Shelf;
+use machine_workplace::Workplace;
 use std::alloc::Global;
 
 /// What a Carry of the session of this number, counted from 1, to this version of its edition would change. Nothing is
 /// kept.
 pub fn carrying(
-    alloc: Global,
     tables: &Tables,
-    shelf: &mut Shelf,
-    work: &mut Work,
+    workplace: &mut Workplace,
     own: &Own,
     number: u32,
     version: u32,
 ) -> Result<Carried, Stop>
-    requires valid { AreValid (rows_of tables.now) }
-    requires held { AreHeld (published_of (rows_of tables.now)) shelf.old }
-    requires room { IsFullRoom work.old }
+    requires ready { IsReady (rows_of tables.now) workplace.old }
     requires own { IsOwn (rows_of tables.now) own.now }
     ensures carried { Answers result (carrying (published_of (rows_of tables.now)) own.now number version) }
-    ensures held { AreHeld (published_of (rows_of tables.now)) shelf.new }
-    ensures room { IsFullRoom work.new }
+    ensures ready { IsReady (rows_of tables.now) workplace.new }
 {
-    let moved = carry_row(alloc, tables, own, number, version)?;
-    let before = view_at(alloc, tables, shelf, work, own, number)?;
-    let after = view_of(alloc, tables, shelf, work, number, &moved)?;
-    Ok(carried_between(alloc, before, after)?)
+    let moved = carry_row(workplace.alloc, tables, own, number, version)?;
+    let before = view_at(tables, workplace, own, number)?;
+    let after = view_of(tables, workplace, number, &moved)?;
+    Ok(carried_between(workplace.alloc, before, after)?)
 }
 
 /// What changes from one view to another.

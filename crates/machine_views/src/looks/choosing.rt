@@ -1,7 +1,7 @@
 //! Choices: what a session's conflict, or the dissent from its fix, is about.
 ghost use Rattle.std.specs.Prelude.{◌≡◌, All, IfOk, IfSome, Ok, map, option_map};
 ghost use Rattle.desk_words.specs.Tables.{published_of, rows_of};
-ghost use Rattle.desk_valid.specs.Valid.{AreValid};
+ghost use Rattle.machine_workplace.specs.Ready.{IsReady};
 ghost use Rattle.fix_engine.specs.Verdicts.{IsAnswer};
 ghost use Rattle.fix_model.specs.Rules.{IsStepOf};
 ghost use Rattle.fix_model.specs.States.{Fits};
@@ -11,7 +11,7 @@ ghost use Rattle.machine_core.specs.Checked.{Gives};
 ghost use Rattle.machine_core.specs.Look.Choices.{choices_at, choices_on, shown_choice, shown_dissent, shown_end};
 ghost use Rattle.machine_core.specs.Outcomes.{Answers};
 ghost use Rattle.machine_core.specs.Own.{IsOwn};
-ghost use Rattle.machine_core.specs.Shelves.{AreHeld, IsFullRoom, bound_on};
+ghost use Rattle.machine_core.specs.Shelves.{IsFullRoom, bound_on};
 ghost use Rattle.machine_views.specs.Answered.{IsNamedBook, Suits};
 ghost use Rattle.machine_views.specs.Naming.{IsChoiceOf, IsDissentOf};
 
@@ -23,29 +23,31 @@ use fix_choices::{Choice, Dissent, Ending, choices, dissent};
 use fix_engine::{Verdict, Work};
 use fix_model::State;
 use machine_core::{Own, Stop, state_of};
-use master_index::{Shelf, Shelved, SortedBook};
+use machine_workplace::Workplace;
+use master_index::{Shelved, SortedBook};
 use std::alloc::Global;
 
 /// What the session of this number, counted from 1, is about. Its edition comes first on the shelf.
 pub fn choices_at(
-    alloc: Global,
     tables: &Tables,
-    shelf: &mut Shelf,
-    work: &mut Work,
+    workplace: &mut Workplace,
     own: &Own,
     number: u32,
 ) -> Result<Choices, Stop>
-    requires valid { AreValid (rows_of tables.now) }
-    requires held { AreHeld (published_of (rows_of tables.now)) shelf.old }
-    requires room { IsFullRoom work.old }
+    requires ready { IsReady (rows_of tables.now) workplace.old }
     requires own { IsOwn (rows_of tables.now) own.now }
     ensures choices { Answers result (choices_at (published_of (rows_of tables.now)) own.now number) }
-    ensures held { AreHeld (published_of (rows_of tables.now)) shelf.new }
-    ensures room { IsFullRoom work.new }
+    ensures ready { IsReady (rows_of tables.now) workplace.new }
 {
-    let session = brought_session(alloc, tables, shelf, own, number)?;
-    let shelved = book_for(tables, shelf, session);
-    Ok(choices_on(alloc, shelved, work, number, session)?)
+    let session = brought_session(tables, workplace, own, number)?;
+    let shelved = book_for(tables, &workplace.shelf, session);
+    Ok(choices_on(
+        workplace.alloc,
+        shelved,
+        &mut workplace.room,
+        number,
+        session,
+    )?)
 }
 
 /// What a session is about, by the book of its edition and with its names.

@@ -1,13 +1,13 @@
 //! Contradictions: where the master of a rule contradicts itself, with the texts that differ.
 ghost use Rattle.std.specs.Prelude.{◌≡◌, ◌<◌, All, IfOk, length, map};
 ghost use Rattle.desk_words.specs.Tables.{published_of, rows_of};
-ghost use Rattle.desk_valid.specs.Valid.{AreValid};
+ghost use Rattle.machine_workplace.specs.Ready.{IsReady};
 ghost use Rattle.fix_model.specs.Rules.{IsStepOf, from_text, rule_at};
 ghost use Rattle.rule_contradictions.specs.Contradictions.{AreContradictions};
 ghost use Rattle.machine_core.specs.DeskLook.Contradictions.{contradiction_line, contradiction_sheet};
 ghost use Rattle.machine_core.specs.DeskLook.Contradictions.{contradictions_on, contradictions_shown};
 ghost use Rattle.machine_core.specs.Outcomes.{Answers};
-ghost use Rattle.machine_core.specs.Shelves.{AreHeld, bound_on};
+ghost use Rattle.machine_core.specs.Shelves.{bound_on};
 ghost use Rattle.machine_views.specs.Answered.{IsNamedBook};
 ghost use Rattle.machine_views.specs.Naming.{IsContradictionOf};
 
@@ -16,29 +16,28 @@ use desk_base::{List, NoMemory, Str, Text, place_of};
 use desk_words::{ContradictionLine, ContradictionSheet, Kind, Refusal, Tables};
 use fix_model::{Book, Step};
 use machine_core::{Stop, hold, named, shelved};
-use master_index::{Shelf, Shelved, SortedBook};
+use machine_workplace::Workplace;
+use master_index::{Shelved, SortedBook};
 use rule_contradictions::{Contradiction, contradictions};
 use std::alloc::Global;
 
 /// The contradictions of the rule of this name, of the edition of this name and version. The edition comes first on the
 /// shelf, and the entries that its index keeps for the rule are gone through once.
 pub fn contradictions_shown(
-    alloc: Global,
     tables: &Tables,
-    shelf: &mut Shelf,
+    workplace: &mut Workplace,
     edition: &Str,
     version: u32,
     name: &Str,
 ) -> Result<ContradictionSheet, Stop>
-    requires valid { AreValid (rows_of tables.now) }
-    requires held { AreHeld (published_of (rows_of tables.now)) shelf.old }
+    requires ready { IsReady (rows_of tables.now) workplace.old }
     ensures contradictions { Answers result
         (contradictions_shown (published_of (rows_of tables.now)) edition.now version name.now) }
-    ensures held { AreHeld (published_of (rows_of tables.now)) shelf.new }
+    ensures ready { IsReady (rows_of tables.now) workplace.new }
 {
     let place = named(tables.editions.as_slice(), edition, version, Kind::Edition)?;
-    hold(alloc, tables, shelf, place)?;
-    contradictions_on(alloc, shelved(shelf, place), name)
+    workplace.hold(tables, place)?;
+    contradictions_on(workplace.alloc, shelved(&workplace.shelf, place), name)
 }
 
 /// The contradictions of the rule of this name, by the book of its edition and with its names.

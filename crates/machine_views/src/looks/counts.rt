@@ -2,11 +2,11 @@
 ghost use Rattle.std.specs.Prelude.{◌≡◌, ◌+◌, ◌-◌, ◌≤◌, ◌^◌, ℕ, []};
 ghost use Rattle.desk_base.specs.declared.limits.TheConstants.{MAX_ATTRIBUTES};
 ghost use Rattle.machine_views.specs.Reporting.{AreFew, AreStagesUpTo, counts_of, with_stage, with_upshot};
-ghost use Rattle.machine_views.specs.Upshots.{AreCellsUpTo};
+ghost use Rattle.machine_workplace.specs.Upshots.{AreCellsUpTo};
 
 use crate::counting::Verdicts;
-use crate::upshots::{Cells, Upshot};
 use desk_words::Stage;
+use machine_workplace::{Cells, Upshot};
 
 /// How many sessions are at each stage.
 #[derive(Clone, Copy, Debug, PartialEq, Eq)]

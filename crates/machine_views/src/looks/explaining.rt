@@ -2,7 +2,7 @@
 ghost use Rattle.std.specs.Prelude.{◌≡◌, ◌<◌, IfOk, Ok, OnOk};
 ghost use Rattle.desk_words.specs.declared.look.Look.TheVariants.{Explain};
 ghost use Rattle.desk_words.specs.Tables.{published_of, rows_of};
-ghost use Rattle.desk_valid.specs.Valid.{AreValid};
+ghost use Rattle.machine_workplace.specs.Ready.{IsReady};
 ghost use Rattle.fix_explain.specs.Reasons.{IsFixed};
 ghost use Rattle.fix_model.specs.Run.{IsRun, end_of};
 ghost use Rattle.fix_model.specs.States.{Fits};
@@ -11,7 +11,7 @@ ghost use Rattle.machine_core.specs.Clerk.Commit.{not_in_conflict};
 ghost use Rattle.machine_core.specs.Look.Explain.{explained_on, explanation_of, fixed_at};
 ghost use Rattle.machine_core.specs.Outcomes.{Answers, Finds, WantsNone};
 ghost use Rattle.machine_core.specs.Own.{IsOwn};
-ghost use Rattle.machine_core.specs.Shelves.{AreHeld, IsFullRoom, bound_on};
+ghost use Rattle.machine_core.specs.Shelves.{IsFullRoom, bound_on};
 ghost use Rattle.machine_views.specs.Answered.{IsNamedBook, Suits};
 ghost use Rattle.machine_views.specs.Looking.{IsSessionFirst, RepliesTo};
 
@@ -24,33 +24,29 @@ use fix_engine::{Verdict, Work};
 use fix_explain::{reason, uses};
 use fix_model::{Cell, State, Step};
 use machine_core::{Own, Stop, attribute_of, state_of};
-use master_index::{Shelf, Shelved, SortedBook};
+use machine_workplace::Workplace;
+use master_index::{Shelved, SortedBook};
 use std::alloc::Global;
 
 /// The reply to this look, which asks why the attribute with this word is fixed in the session of this number, counted
 /// from 1. The session's edition comes first on the shelf.
 pub fn explain(
-    alloc: Global,
     tables: &Tables,
-    shelf: &mut Shelf,
-    work: &mut Work,
+    workplace: &mut Workplace,
     own: &Own,
     number: u32,
     word: &Str,
 ) -> Result<Reply, Stop>
-    requires valid { AreValid (rows_of tables.now) }
-    requires held { AreHeld (published_of (rows_of tables.now)) shelf.old }
-    requires room { IsFullRoom work.old }
+    requires ready { IsReady (rows_of tables.now) workplace.old }
     requires own { IsOwn (rows_of tables.now) own.now }
     ensures replies { RepliesTo (published_of (rows_of tables.now)) own.now (Explain number word.now) result }
-    ensures first { OnOk result (IsSessionFirst own.now.sessions number shelf.new) }
-    ensures held { AreHeld (published_of (rows_of tables.now)) shelf.new }
-    ensures room { IsFullRoom work.new }
+    ensures first { OnOk result (IsSessionFirst own.now.sessions number workplace.new.shelf) }
+    ensures ready { IsReady (rows_of tables.now) workplace.new }
 {
-    let session = brought_session(alloc, tables, shelf, own, number)?;
-    let shelved = book_for(tables, shelf, session);
+    let session = brought_session(tables, workplace, own, number)?;
+    let shelved = book_for(tables, &workplace.shelf, session);
     replied(
-        explained_on(alloc, shelved, work, session, word),
+        explained_on(workplace.alloc, shelved, &mut workplace.room, session, word),
         Reply::Explained,
     )
 }

@@ -1,14 +1,13 @@
 //! Region: a region of a version of an edition, with what the rules make of each of its rows.
-ghost use Rattle.std.specs.Prelude.{◌≡◌, All, IfOk, length, map};
+ghost use Rattle.std.specs.Prelude.{◌≡◌, All, IfOk, length};
 ghost use Rattle.std.specs.Option.{option_copied};
 ghost use Rattle.desk_words.specs.Tables.{published_of, rows_of};
-ghost use Rattle.desk_valid.specs.Valid.{AreValid};
+ghost use Rattle.machine_workplace.specs.Ready.{IsReady};
 ghost use Rattle.fix_engine.specs.WorkSeen.{IsRoomFor, KeepsSize};
 ghost use Rattle.machine_core.specs.DeskLook.Region.{region_shown, row_verdict};
 ghost use Rattle.machine_core.specs.Finding.{numbered};
 ghost use Rattle.machine_core.specs.Look.Suggest.{regions_of};
 ghost use Rattle.machine_core.specs.Outcomes.{Answers};
-ghost use Rattle.machine_core.specs.Shelves.{AreHeld, IsFullRoom};
 ghost use Rattle.machine_views.specs.Counts.{AreVerdictsOn};
 
 use crate::made::row_verdict;
@@ -18,40 +17,36 @@ use desk_words::{Kind, Refusal, RegionRow, RegionSheet, Tables};
 use fix_engine::{Verdict, Work};
 use fix_model::{Region, RowVerdict};
 use machine_core::{Stop, hold, named, shelved};
-use master_index::{Shelf, SortedBook};
+use machine_workplace::Workplace;
+use master_index::SortedBook;
 use std::alloc::Global;
 
 /// The region of this number, counted from 1, of the edition of this name and version. Its edition comes first on the
 /// shelf.
 pub fn region_shown(
-    alloc: Global,
     tables: &Tables,
-    shelf: &mut Shelf,
-    work: &mut Work,
+    workplace: &mut Workplace,
     edition: &Str,
     version: u32,
     number: u32,
 ) -> Result<RegionSheet, Stop>
-    requires valid { AreValid (rows_of tables.now) }
-    requires held { AreHeld (published_of (rows_of tables.now)) shelf.old }
-    requires room { IsFullRoom work.old }
+    requires ready { IsReady (rows_of tables.now) workplace.old }
     ensures region { Answers result (region_shown (published_of (rows_of tables.now)) edition.now version number) }
-    ensures held { AreHeld (published_of (rows_of tables.now)) shelf.new }
-    ensures room { IsFullRoom work.new }
+    ensures ready { IsReady (rows_of tables.now) workplace.new }
 {
     let place = named(tables.editions.as_slice(), edition, version, Kind::Edition)?;
     let Some(region) = region_numbered(tables.regions.as_slice(), place, number) else {
         return Err(Stop::Refused(Refusal::NoSuch(Kind::Region)));
     };
-    hold(alloc, tables, shelf, place)?;
-    let shelved = shelved(shelf, place);
-    let verdicts = verdicts_on(alloc, work, &shelved.book, region)?;
+    workplace.hold(tables, place)?;
+    let shelved = shelved(&workplace.shelf, place);
+    let verdicts = verdicts_on(workplace.alloc, &mut workplace.room, &shelved.book, region)?;
     let words = shelved.names.attributes.as_slice();
     Ok(RegionSheet {
         edition: tables.editions.as_slice()[place as usize].name.copy()?,
         version,
         region: number,
-        attributes: named_attributes(alloc, words, region.attrs.as_slice())?,
+        attributes: named_attributes(workplace.alloc, words, region.attrs.as_slice())?,
         rows: region.rows.copy()?,
         verdicts,
     })

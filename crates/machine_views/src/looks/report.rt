@@ -4,72 +4,48 @@ ghost use Rattle.std.specs.Prelude.{option_map, sum_by};
 ghost use Rattle.std.specs.List.{flat_map};
 ghost use Rattle.desk_words.specs.declared.rows.session.SessionRow.{SessionRow as RowOf};
 ghost use Rattle.desk_words.specs.Tables.{published_of, rows_of};
-ghost use Rattle.desk_valid.specs.Valid.{AreValid};
+ghost use Rattle.machine_workplace.specs.Ready.{IsReady};
 ghost use Rattle.machine_core.specs.Checked.{Gives};
 ghost use Rattle.machine_core.specs.Look.Report.{report_of};
 ghost use Rattle.machine_core.specs.Own.{IsOwn};
 ghost use Rattle.machine_core.specs.Sessions.{IsSessionOf};
-ghost use Rattle.machine_core.specs.Shelves.{AreHeld, IsFullRoom};
 ghost use Rattle.machine_views.specs.Reporting.{AreCountsOn, AreFew, AreLinesOver, all_sessions, line_of, sessions_of};
-ghost use Rattle.machine_views.specs.Upshots.{AreTrue};
 
 use crate::counting::upshot_at;
 use crate::looks::counts::Counts;
-use crate::upshots::{SessionAt, Upshots};
 use desk_base::{Duplicate, List, NoMemory, Text};
 use desk_valid::own_list;
 use desk_words::{EditionRow, ReportLine, ReportSheet, SessionRow, Tables};
-use fix_engine::Work;
 use machine_core::Own;
-use master_index::Shelf;
-use std::alloc::Global;
+use machine_workplace::{SessionAt, Workplace};
 
 /// The report of the clerk at a place: a line for each edition, over the clerk's sessions.
 pub fn clerk_report(
-    alloc: Global,
     tables: &Tables,
-    shelf: &mut Shelf,
-    work: &mut Work,
-    upshots: &mut Upshots,
+    workplace: &mut Workplace,
     clerk: u32,
     own: &Own,
 ) -> Result<ReportSheet, NoMemory>
-    requires valid { AreValid (rows_of tables.now) }
-    requires held { AreHeld (published_of (rows_of tables.now)) shelf.old }
-    requires room { IsFullRoom work.old }
-    requires known { AreTrue (published_of (rows_of tables.now)) upshots.old }
+    requires ready { IsReady (rows_of tables.now) workplace.old }
     requires own { IsOwn (rows_of tables.now) own.now }
     ensures report { IfOk result (λ sheet. Gives
         (report_of (published_of (rows_of tables.now)) (Some own.now.row.name) own.now.sessions) (Ok sheet)) }
-    ensures held { AreHeld (published_of (rows_of tables.now)) shelf.new }
-    ensures room { IsFullRoom work.new }
-    ensures known { AreTrue (published_of (rows_of tables.now)) upshots.new }
+    ensures ready { IsReady (rows_of tables.now) workplace.new }
 {
     let name = own.row().name.copy()?;
     let own = Some((clerk, own.sessions()));
-    let lines = lines_over(alloc, tables, shelf, work, upshots, own)?;
+    let lines = lines_over(tables, workplace, own)?;
     Ok(sheet(Some(name), lines))
 }
 
 /// The desk's report: a line for each edition, over the sessions of all clerks.
-pub fn desk_report(
-    alloc: Global,
-    tables: &Tables,
-    shelf: &mut Shelf,
-    work: &mut Work,
-    upshots: &mut Upshots,
-) -> Result<ReportSheet, NoMemory>
-    requires valid { AreValid (rows_of tables.now) }
-    requires held { AreHeld (published_of (rows_of tables.now)) shelf.old }
-    requires room { IsFullRoom work.old }
-    requires known { AreTrue (published_of (rows_of tables.now)) upshots.old }
+pub fn desk_report(tables: &Tables, workplace: &mut Workplace) -> Result<ReportSheet, NoMemory>
+    requires ready { IsReady (rows_of tables.now) workplace.old }
     ensures report { IfOk result (λ sheet. Gives (report_of (published_of (rows_of tables.now)) None
         (flat_map (λ sessions. sessions) (rows_of tables.now).sessions)) (Ok sheet)) }
-    ensures held { AreHeld (published_of (rows_of tables.now)) shelf.new }
-    ensures room { IsFullRoom work.new }
-    ensures known { AreTrue (published_of (rows_of tables.now)) upshots.new }
+    ensures ready { IsReady (rows_of tables.now) workplace.new }
 {
-    let lines = lines_over(alloc, tables, shelf, work, upshots, None)?;
+    let lines = lines_over(tables, workplace, None)?;
     Ok(sheet(None, lines))
 }
 
@@ -88,30 +64,22 @@ fn sheet(clerk: Option<Text>, lines: List<ReportLine>) -> ReportSheet
 
 /// A line for each edition in their order, over a clerk's own sessions, or where none are named over all.
 fn lines_over(
-    alloc: Global,
     tables: &Tables,
-    shelf: &mut Shelf,
-    work: &mut Work,
-    upshots: &mut Upshots,
+    workplace: &mut Workplace,
     own: Option<(u32, &[SessionRow])>,
 ) -> Result<List<ReportLine>, NoMemory>
-    requires valid { AreValid (rows_of tables.now) }
-    requires held { AreHeld (published_of (rows_of tables.now)) shelf.old }
-    requires room { IsFullRoom work.old }
-    requires known { AreTrue (published_of (rows_of tables.now)) upshots.old }
+    requires ready { IsReady (rows_of tables.now) workplace.old }
     requires sessions { IfSome own (λ own. All (IsSessionOf (published_of (rows_of tables.now))) own.1.now) }
     requires short { IfSome own (λ own. length own.1.now < 2 ^ 31) }
     ensures lines { IfOk result (AreLinesOver (published_of (rows_of tables.now))
         (sessions_of (rows_of tables.now) (option_map (λ own. own.1.now) own.entry))
         (length tables.now.editions.items)) }
     ensures few { IfOk result (λ lines. sum_by (λ line. line.sessions) lines < 2 ^ 64) }
-    ensures held { AreHeld (published_of (rows_of tables.now)) shelf.new }
-    ensures room { IsFullRoom work.new }
-    ensures known { AreTrue (published_of (rows_of tables.now)) upshots.new }
+    ensures ready { IsReady (rows_of tables.now) workplace.new }
 {
-    let mut lines = List::new(alloc);
+    let mut lines = List::new(workplace.alloc);
     'editions: for edition in 0..tables.editions.len() {
-        let counts = counts_on(alloc, tables, shelf, work, upshots, own, edition as u32)?;
+        let counts = counts_on(tables, workplace, own, edition as u32)?;
         lines.push(report_line(&tables.editions.as_slice()[edition], counts)?)?;
     }
     Ok(lines)
@@ -139,90 +107,59 @@ fn report_line(edition: &EditionRow, counts: Counts) -> Result<ReportLine, NoMem
 
 /// The sessions on an edition, counted: a clerk's own, or where none are named those of all.
 fn counts_on(
-    alloc: Global,
     tables: &Tables,
-    shelf: &mut Shelf,
-    work: &mut Work,
-    upshots: &mut Upshots,
+    workplace: &mut Workplace,
     own: Option<(u32, &[SessionRow])>,
     edition: u32,
 ) -> Result<Counts, NoMemory>
-    requires valid { AreValid (rows_of tables.now) }
-    requires held { AreHeld (published_of (rows_of tables.now)) shelf.old }
-    requires room { IsFullRoom work.old }
-    requires known { AreTrue (published_of (rows_of tables.now)) upshots.old }
+    requires ready { IsReady (rows_of tables.now) workplace.old }
     requires sessions { IfSome own (λ own. All (IsSessionOf (published_of (rows_of tables.now))) own.1.now) }
     requires short { IfSome own (λ own. length own.1.now < 2 ^ 31) }
     ensures counts { IfOk result (AreCountsOn (published_of (rows_of tables.now)) edition
         (sessions_of (rows_of tables.now) (option_map (λ own. own.1.now) own.entry))) }
     ensures few { IfOk result (AreFew (2 ^ 40)) }
-    ensures held { AreHeld (published_of (rows_of tables.now)) shelf.new }
-    ensures room { IsFullRoom work.new }
-    ensures known { AreTrue (published_of (rows_of tables.now)) upshots.new }
+    ensures ready { IsReady (rows_of tables.now) workplace.new }
 {
     match own {
         Some((clerk, sessions)) => counted(
-            alloc,
             tables,
-            shelf,
-            work,
-            upshots,
+            workplace,
             clerk,
             sessions,
             edition,
             Counts::none(),
         ),
-        None => all_counted(alloc, tables, shelf, work, upshots, edition),
+        None => all_counted(tables, workplace, edition),
     }
 }
 
 /// The sessions of all clerks on an edition, counted.
-fn all_counted(
-    alloc: Global,
-    tables: &Tables,
-    shelf: &mut Shelf,
-    work: &mut Work,
-    upshots: &mut Upshots,
-    edition: u32,
-) -> Result<Counts, NoMemory>
-    requires valid { AreValid (rows_of tables.now) }
-    requires held { AreHeld (published_of (rows_of tables.now)) shelf.old }
-    requires room { IsFullRoom work.old }
-    requires known { AreTrue (published_of (rows_of tables.now)) upshots.old }
+fn all_counted(tables: &Tables, workplace: &mut Workplace, edition: u32) -> Result<Counts, NoMemory>
+    requires ready { IsReady (rows_of tables.now) workplace.old }
     ensures counts { IfOk result
         (AreCountsOn (published_of (rows_of tables.now)) edition (all_sessions (rows_of tables.now))) }
     ensures few { IfOk result (AreFew (2 ^ 40)) }
-    ensures held { AreHeld (published_of (rows_of tables.now)) shelf.new }
-    ensures room { IsFullRoom work.new }
-    ensures known { AreTrue (published_of (rows_of tables.now)) upshots.new }
+    ensures ready { IsReady (rows_of tables.now) workplace.new }
 {
     let mut counts = Counts::none();
     'clerks: for clerk in 0..tables.sessions.len() {
         let sessions = own_list(&tables.sessions, clerk);
         let place = clerk as u32;
-        counts = counted(
-            alloc, tables, shelf, work, upshots, place, sessions, edition, counts,
-        )?;
+        counts = counted(tables, workplace, place, sessions, edition, counts)?;
     }
     Ok(counts)
 }
 
 /// The sessions on an edition among these of the clerk at a place, counted with those before.
 fn counted(
-    alloc: Global,
     tables: &Tables,
-    shelf: &mut Shelf,
-    work: &mut Work,
-    upshots: &mut Upshots,
+    workplace: &mut Workplace,
     clerk: u32,
     sessions: &[SessionRow],
     edition: u32,
     before: Counts,
 ) -> Result<Counts, NoMemory>
-    requires valid { AreValid (rows_of tables.now) }
-    requires held { AreHeld (published_of (rows_of tables.now)) shelf.old }
-    requires room { IsFullRoom work.old }
-    requires known { AreTrue (published_of (rows_of tables.now)) upshots.old }
+    requires ready { IsReady (rows_of tables.now) workplace.old }
     requires sessions { All (IsSessionOf (published_of (rows_of tables.now))) sessions.now }
     requires short { length sessions.now < 2 ^ 31 }
     requires few { AreFew (2 ^ 40) before }
@@ -231,16 +168,14 @@ fn counted(
         → AreCountsOn (published_of (rows_of tables.now)) edition (earlier ++ sessions.now) counts) }
     ensures most { IfOk result
         (λ counts. (most : ℕ) → AreFew most before → AreFew (most + length sessions.now) counts) }
-    ensures held { AreHeld (published_of (rows_of tables.now)) shelf.new }
-    ensures room { IsFullRoom work.new }
-    ensures known { AreTrue (published_of (rows_of tables.now)) upshots.new }
+    ensures ready { IsReady (rows_of tables.now) workplace.new }
 {
     let mut counts = before;
     'sessions: for (place, session) in sessions.iter().enumerate() {
         if session.edition == edition {
             let place = place as u32;
             let at = SessionAt { clerk, place };
-            let upshot = upshot_at(alloc, tables, shelf, work, upshots, at, session)?;
+            let upshot = upshot_at(tables, workplace, at, session)?;
             counts = counts.with(session.stage, upshot);
         }
     }

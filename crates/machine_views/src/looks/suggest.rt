@@ -3,12 +3,13 @@ ghost use Rattle.std.specs.Prelude.{◌≡◌, ◌<◌, All, IfOk, OnOk, length,
 ghost use Rattle.desk_words.specs.Tables.{published_of, rows_of};
 ghost use Rattle.desk_valid.specs.declared.bound.Bound.{Bound as BoundOf};
 ghost use Rattle.desk_valid.specs.Valid.{AreValid};
+ghost use Rattle.machine_workplace.specs.Ready.{IsReady};
 ghost use Rattle.region_suggest.specs.Suggestions.{IsSuggestion};
 ghost use Rattle.machine_core.specs.Answers.{state_of};
 ghost use Rattle.machine_core.specs.Look.Suggest.{named_suggestion, regions_of, suggestion_of};
 ghost use Rattle.machine_core.specs.Outcomes.{Answers};
 ghost use Rattle.machine_core.specs.Own.{IsOwn};
-ghost use Rattle.machine_core.specs.Shelves.{AreHeld, IsFullRoom, bound_on};
+ghost use Rattle.machine_core.specs.Shelves.{IsFullRoom, bound_on};
 ghost use Rattle.machine_core.specs.Views.{name_at};
 ghost use Rattle.machine_views.specs.Answered.{IsBookFor};
 ghost use Rattle.machine_views.specs.Looking.{IsSessionFirst, IsSuggestedFor};
@@ -20,33 +21,35 @@ use desk_words::{RegionRow, SessionRow, Suggested, Tables};
 use fix_engine::Work;
 use fix_model::Region;
 use machine_core::{Own, Stop, active_session, hold, state_of};
-use master_index::{Shelf, Shelved};
+use machine_workplace::Workplace;
+use master_index::Shelved;
 use region_suggest::{Suggestion, suggest};
 use std::alloc::Global;
 
 /// What may be confirmed next in the active session of this number, counted from 1. Its edition comes first on the
 /// shelf.
 pub fn suggestion_of(
-    alloc: Global,
     tables: &Tables,
-    shelf: &mut Shelf,
-    work: &mut Work,
+    workplace: &mut Workplace,
     own: &Own,
     number: u32,
 ) -> Result<Suggested, Stop>
-    requires valid { AreValid (rows_of tables.now) }
-    requires held { AreHeld (published_of (rows_of tables.now)) shelf.old }
-    requires room { IsFullRoom work.old }
+    requires ready { IsReady (rows_of tables.now) workplace.old }
     requires own { IsOwn (rows_of tables.now) own.now }
     ensures suggestion { Answers result (suggestion_of (published_of (rows_of tables.now)) own.now number) }
-    ensures first { OnOk result (IsSessionFirst own.now.sessions number shelf.new) }
-    ensures held { AreHeld (published_of (rows_of tables.now)) shelf.new }
-    ensures room { IsFullRoom work.new }
+    ensures first { OnOk result (IsSessionFirst own.now.sessions number workplace.new.shelf) }
+    ensures ready { IsReady (rows_of tables.now) workplace.new }
 {
     let session = active_session(own.sessions(), number)?;
-    hold(alloc, tables, shelf, session.edition)?;
-    let shelved = book_for(tables, shelf, session);
-    Ok(suggestion_on(alloc, tables, shelved, work, session)?)
+    workplace.hold(tables, session.edition)?;
+    let shelved = book_for(tables, &workplace.shelf, session);
+    Ok(suggestion_on(
+        workplace.alloc,
+        tables,
+        shelved,
+        &mut workplace.room,
+        session,
+    )?)
 }
 
 /// What is suggested for a session, by the book of its edition and with its names.

@@ -1,38 +1,30 @@
 //! A new region of a version of an edition, with its reply.
 ghost use Rattle.desk_words.specs.Tables.{published_of, rows_of};
-ghost use Rattle.desk_valid.specs.Valid.{AreValid};
+ghost use Rattle.machine_workplace.specs.Ready.{IsReady};
 ghost use Rattle.machine_core.specs.Outcomes.{Answers, Finds};
-ghost use Rattle.machine_core.specs.Shelves.{AreHeld, IsFullRoom};
 ghost use Rattle.machine_core.specs.Steward.AddRegion.{region_row};
 ghost use Rattle.session_machine.specs.Made.{AddsRegion, made_by, row_by};
 
 use desk_base::{List, Str};
 use desk_words::{Act, Change, Kind, Made, RegionRow, StewardWork, Tables};
-use fix_engine::Work;
 use machine_core::{Making, Stop, derived_region, hold, named, region_on, shelved};
 use machine_views::region_made;
-use master_index::Shelf;
-use std::alloc::Global;
+use machine_workplace::Workplace;
 
 /// A new region: of rows that are written out, or of those that a master gives.
 pub fn add_region(
-    alloc: Global,
     tables: &Tables,
-    shelf: &mut Shelf,
-    room: &mut Work,
+    workplace: &mut Workplace,
     work: &StewardWork,
 ) -> Result<(Made, Making), Stop>
-    requires valid { AreValid (rows_of tables.now) }
-    requires held { AreHeld (published_of (rows_of tables.now)) shelf.old }
-    requires room { IsFullRoom room.old }
+    requires ready { IsReady (rows_of tables.now) workplace.old }
     requires adds { AddsRegion work.now }
     ensures answers { Answers result (made_by (rows_of tables.now) work.now) }
-    ensures held { AreHeld (published_of (rows_of tables.now)) shelf.new }
-    ensures room { IsFullRoom room.new }
+    ensures ready { IsReady (rows_of tables.now) workplace.new }
 {
-    let row = row_by(alloc, tables, shelf, room, work)?;
+    let row = row_by(tables, workplace, work)?;
     let target = tables.regions.len() as u32;
-    let made = region_made(alloc, tables, shelf, room, target, &row)?;
+    let made = region_made(tables, workplace, target, &row)?;
     let change = Change::Region(row);
     Ok((
         made,
@@ -45,20 +37,11 @@ pub fn add_region(
 }
 
 /// The row of the region.
-fn row_by(
-    alloc: Global,
-    tables: &Tables,
-    shelf: &mut Shelf,
-    room: &mut Work,
-    work: &StewardWork,
-) -> Result<RegionRow, Stop>
-    requires valid { AreValid (rows_of tables.now) }
-    requires held { AreHeld (published_of (rows_of tables.now)) shelf.old }
-    requires room { IsFullRoom room.old }
+fn row_by(tables: &Tables, workplace: &mut Workplace, work: &StewardWork) -> Result<RegionRow, Stop>
+    requires ready { IsReady (rows_of tables.now) workplace.old }
     requires adds { AddsRegion work.now }
     ensures answers { Answers result (row_by (published_of (rows_of tables.now)) work.now) }
-    ensures held { AreHeld (published_of (rows_of tables.now)) shelf.new }
-    ensures room { IsFullRoom room.new }
+    ensures ready { IsReady (rows_of tables.now) workplace.new }
 {
     match work {
         StewardWork::AddRegion {
@@ -66,7 +49,7 @@ fn row_by(
             version,
             attrs,
             rows,
-        } => region_row(alloc, tables, shelf, edition, *version, attrs, rows),
+        } => region_row(tables, workplace, edition, *version, attrs, rows),
         StewardWork::AddDerived {
             edition,
             version,
@@ -76,7 +59,15 @@ fn row_by(
         } => {
             let (version, pairs, from) = (*version, pairs.as_slice(), *from);
             derived_region(
-                alloc, tables, shelf, room, edition, version, master, pairs, from,
+                workplace.alloc,
+                tables,
+                &mut workplace.shelf,
+                &mut workplace.room,
+                edition,
+                version,
+                master,
+                pairs,
+                from,
             )
         }
         // No other write adds a region.
@@ -86,25 +77,23 @@ fn row_by(
 
 /// The row of a region of rows that are written out, on the edition of this name and version.
 fn region_row(
-    alloc: Global,
     tables: &Tables,
-    shelf: &mut Shelf,
+    workplace: &mut Workplace,
     edition: &Str,
     version: u32,
     words: &List<Str>,
     texts: &List<List<Str>>,
 ) -> Result<RegionRow, Stop>
-    requires valid { AreValid (rows_of tables.now) }
-    requires held { AreHeld (published_of (rows_of tables.now)) shelf.old }
+    requires ready { IsReady (rows_of tables.now) workplace.old }
     ensures finds { Finds result (region_row (published_of (rows_of tables.now)) edition.now version words.now
         texts.now) }
-    ensures held { AreHeld (published_of (rows_of tables.now)) shelf.new }
+    ensures ready { IsReady (rows_of tables.now) workplace.new }
 {
     let place = named(tables.editions.as_slice(), edition, version, Kind::Edition)?;
-    hold(alloc, tables, shelf, place)?;
-    let attributes = shelved(shelf, place).names.attributes.as_slice();
+    workplace.hold(tables, place)?;
+    let attributes = shelved(&workplace.shelf, place).names.attributes.as_slice();
     region_on(
-        alloc,
+        workplace.alloc,
         tables.regions.as_slice(),
         place,
         attributes,

@@ -7,12 +7,12 @@ pub hold-requires-clause-edition : goal.hold-requires-clause-edition
 hold-requires-clause-edition c =
     let own = c.args.own.now in
     (session-stands (published_of (rows_of c.args.tables.now)) own
-    (own-rows (rows_of c.args.tables.now) own c.requires.valid c.requires.own) (c.args.number - 1)
+    (own-rows (rows_of c.args.tables.now) own c.requires.ready.valid c.requires.own) (c.args.number - 1)
     c.in_ok-session.session.now (rw c.sessions.ensures at c.in_ok-session.ensures.stands)).edition
 
 pub returns-clause-stands : goal.returns-clause-stands
 returns-clause-stands c =
     let own = c.args.own.now in
     session-stands (published_of (rows_of c.args.tables.now)) own
-    (own-rows (rows_of c.args.tables.now) own c.requires.valid c.requires.own) (c.args.number - 1)
+    (own-rows (rows_of c.args.tables.now) own c.requires.ready.valid c.requires.own) (c.args.number - 1)
     c.in_ok-session.session.now (rw c.sessions.ensures at c.in_ok-session.ensures.stands)

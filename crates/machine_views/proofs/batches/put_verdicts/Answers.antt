@@ -27,7 +27,5 @@ puts-preserved c =
           c.puts.invariant.counted (assessment-found published put.1 upshot comes)
           (c.with-verdicts.ensures.more ∙ ap (one_more c.puts.verdicts) comes.verdict);
       few = c.with-verdicts.ensures.most place c.puts.invariant.few;
-      held = c.in_ok-upshot.ensures.held;
-      room = c.in_ok-upshot.ensures.room;
-      known = c.in_ok-upshot.ensures.known;
+      ready = c.in_ok-upshot.ensures.ready;
     }

@@ -1,8 +1,7 @@
 use Rattle.std.proofs.Common.{map, take}
 use Rattle.desk_words.specs.Tables.{published_of, rows_of}
-use Rattle.machine_core.specs.Shelves.{AreHeld, IsFullRoom}
+use Rattle.machine_workplace.specs.Ready.{IsReady}
 use Rattle.machine_views.specs.Counts.{AreAtMost, AreSessionVerdicts}
-use Rattle.machine_views.specs.Upshots.{AreTrue}
 use Rattle.machine_views.proofs.batches.put_verdicts.Given as goal
 
 -- the verdicts on the sessions so far are counted
@@ -11,7 +10,5 @@ invariant-puts l = record {
   counted : AreSessionVerdicts (published_of (rows_of l.tables)) (take l.put-index (map (λ put. put.1) l.puts))
       l.verdicts;
   few : AreAtMost l.put-index l.verdicts;
-  held : AreHeld (published_of (rows_of l.tables)) l.shelf;
-  room : IsFullRoom l.work;
-  known : AreTrue (published_of (rows_of l.tables)) l.upshots;
+  ready : IsReady (rows_of l.tables) l.workplace;
 }

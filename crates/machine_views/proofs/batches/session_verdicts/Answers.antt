@@ -19,7 +19,5 @@ sessions-preserved c =
           c.index-sessions-next.is c.sessions.invariant.counted (assessment-found published session upshot comes)
           (c.with-verdicts.ensures.more ∙ ap (one_more c.sessions.verdicts) comes.verdict);
       few = c.with-verdicts.ensures.most c.sessions.next c.sessions.invariant.few;
-      held = c.in_ok-upshot.ensures.held;
-      room = c.in_ok-upshot.ensures.room;
-      known = c.in_ok-upshot.ensures.known;
+      ready = c.in_ok-upshot.ensures.ready;
     }

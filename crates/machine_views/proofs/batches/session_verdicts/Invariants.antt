@@ -1,8 +1,7 @@
 use Rattle.std.proofs.Common.{take}
 use Rattle.desk_words.specs.Tables.{published_of, rows_of}
-use Rattle.machine_core.specs.Shelves.{AreHeld, IsFullRoom}
+use Rattle.machine_workplace.specs.Ready.{IsReady}
 use Rattle.machine_views.specs.Counts.{AreAtMost, AreSessionVerdicts}
-use Rattle.machine_views.specs.Upshots.{AreTrue}
 use Rattle.machine_views.proofs.batches.session_verdicts.Given as goal
 
 -- the verdicts on the sessions so far are counted
@@ -10,7 +9,5 @@ abbrev pub invariant-sessions : goal.invariant-sessions
 invariant-sessions l = record {
   counted : AreSessionVerdicts (published_of (rows_of l.tables)) (take l.next l.sessions) l.verdicts;
   few : AreAtMost l.next l.verdicts;
-  held : AreHeld (published_of (rows_of l.tables)) l.shelf;
-  room : IsFullRoom l.work;
-  known : AreTrue (published_of (rows_of l.tables)) l.upshots;
+  ready : IsReady (rows_of l.tables) l.workplace;
 }

@@ -11,7 +11,7 @@ pub session_verdicts-requires-clause-sessions : goal.session_verdicts-requires-c
 session_verdicts-requires-clause-sessions c =
     let published = published_of (rows_of c.args.tables.now) in
     let own = c.args.own.now in
-    let are = own-rows (rows_of c.args.tables.now) own c.requires.valid c.requires.own in
+    let are = own-rows (rows_of c.args.tables.now) own c.requires.ready.valid c.requires.own in
     let part = rw c.sessions.ensures at c.sessions_in-sessions.ensures.sessions in
     All-part (IsSessionOf published) own.sessions c.sessions_in-sessions.result.now _ _ part
     (sessions-stand published own are)

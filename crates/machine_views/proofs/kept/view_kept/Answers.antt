@@ -13,7 +13,7 @@ view_of-requires-clause-session c =
     let own = c.args.own.now in
     let session = c.index-sessions-place.result in
     session-stands (published_of (rows_of c.args.tables.now)) own
-    (own-rows (rows_of c.args.tables.now) own c.requires.valid c.requires.own) c.args.place session
+    (own-rows (rows_of c.args.tables.now) own c.requires.ready.valid c.requires.own) c.args.place session
     (stands-read own.sessions c.args.place session c.requires.place
     (rw c.sessions.ensures at c.index-sessions-place.is))
 

@@ -77,7 +77,7 @@ region_made-requires-clause-region c =
     let row = c.index-as_slice-place-in-Region.result in
     let Target : Act → Type 0 = λ what. HasTarget rows 0 what c.args.target in
     let within : c.args.target < length rows.regions = subst Target c.in-Region.is c.requires.target in
-    c.requires.valid.regions c.args.target row (stands-read rows.regions c.args.target row within
+    c.requires.ready.valid.regions c.args.target row (stands-read rows.regions c.args.target row within
     (rw c.as_slice-in-Region.ensures at c.index-as_slice-place-in-Region.is))
 
 pub returns-in-Region-clause-made : goal.returns-in-Region-clause-made

@@ -9,11 +9,11 @@ use Rattle.machine_views.proofs.made.region_made.Goals as goal
 pub row_verdicts-requires-clause-room : goal.row_verdicts-requires-clause-room
 row_verdicts-requires-clause-room c =
     let rows = rows_of c.args.tables.now in
-    let book = IsNamedBook-at rows c.args.row.now.edition c.shelved.result.now c.requires.valid
-    (c.shelved.ensures.bound (published_of rows) c.in_ok-hold.ensures.held) in
+    let book = IsNamedBook-at rows c.args.row.now.edition c.shelved.result.now c.requires.ready.valid
+    (c.shelved.ensures.bound (published_of rows) c.in_ok-hold.ensures.ready.held) in
     record {
-      attributes = omega (arith, book.named.valid.narrow, c.requires.room.attributes);
-      rules = omega (arith, book.named.valid.few_rules, c.requires.room.rules);
+      attributes = omega (arith, book.named.valid.narrow, c.in_ok-hold.ensures.ready.room.attributes);
+      rules = omega (arith, book.named.valid.few_rules, c.in_ok-hold.ensures.ready.room.rules);
     }
 
 pub returns-clause-made : goal.returns-clause-made
@@ -22,6 +22,6 @@ returns-clause-made c =
     let row = c.args.row.now in
     let earlier : c.region_count-earlier.result ≡ region_count (take c.args.place published.regions) row.edition =
     rw c.as_slice.ensures at c.region_count-earlier.ensures.count in
-    let bound = c.shelved.ensures.bound published c.in_ok-hold.ensures.held in
+    let bound = c.shelved.ensures.bound published c.in_ok-hold.ensures.ready.held in
     region-given published c.args.place row (bound_on c.shelved.result.now) c.in_ok-verdicts.verdicts
     c.region_count-earlier.result bound c.in_ok-verdicts.ensures.verdicts earlier

@@ -9,9 +9,8 @@ use Rattle.machine_core.specs.Look.{look_reply}
 use Rattle.machine_core.specs.Machine.{machine}
 use Rattle.machine_core.specs.Outcomes.{Answers}
 use Rattle.machine_core.specs.Own.{IsOwn, Own, own_of}
-use Rattle.machine_core.specs.Shelves.{AreHeld}
 use Rattle.machine_views.proofs.Keeping.{own-rows}
-use Rattle.machine_views.specs.Upshots.{AreTrue}
+use Rattle.machine_workplace.specs.Ready.{IsReady}
 use Rattle.session_machine.specs.Booked.{IsBooked}
 use Rattle.machine_views.specs.Looking.{IsLookFirst}
 use Rattle.session_machine.proofs.ClerkBooks.{look-booked}
@@ -20,24 +19,16 @@ use Rattle.session_machine.proofs.ClerkLooks.{look-gives, look-stopped, look-unn
 use Rattle.session_machine.proofs.clerk.clerk_look.Goals as goal
 
 pub clerk_of-requires : goal.clerk_of-requires
-clerk_of-requires c = subst AreValid (sym c.tables-tables.ensures.tables) c.requires.valid
+clerk_of-requires c = subst AreValid (sym c.tables-tables.ensures.tables) c.requires.ready.valid
 
 pub own_at-own-requires : goal.own_at-own-requires
 own_at-own-requires c =
     omega (arith, c.in_ok-place.ensures.within, ap (λ (rows : Rows). length rows.clerks) c.tables-tables.ensures.tables)
 
-pub look_reply-requires-clause-valid : goal.look_reply-requires-clause-valid
-look_reply-requires-clause-valid c = subst AreValid (sym c.tables-tables.ensures.tables) c.requires.valid
-
-pub look_reply-requires-clause-held : goal.look_reply-requires-clause-held
-look_reply-requires-clause-held c =
-    let Held : Rows → Type 0 = λ rows. AreHeld (published_of rows) c.args.shelf.now in
-    subst Held (sym c.tables-tables.ensures.tables) c.requires.held
-
-pub look_reply-requires-clause-known : goal.look_reply-requires-clause-known
-look_reply-requires-clause-known c =
-    let Known : Rows → Type 0 = λ rows. AreTrue (published_of rows) c.args.upshots.now in
-    subst Known (sym c.tables-tables.ensures.tables) c.requires.known
+pub look_reply-requires-clause-ready : goal.look_reply-requires-clause-ready
+look_reply-requires-clause-ready c =
+    let Ready : Rows → Type 0 = λ rows. IsReady rows c.args.workplace.now in
+    subst Ready (sym c.tables-tables.ensures.tables) c.requires.ready
 
 pub look_reply-requires-clause-own : goal.look_reply-requires-clause-own
 look_reply-requires-clause-own c = record {
@@ -83,25 +74,25 @@ returns-clause-answers c =
     Gives (machine c.args.totalled.now (Look c.args.name.now c.args.look.now)) (Ok (reply, list)) in
     subst Listed (sym c.new.ensures) (subst Told c.tables-tables.ensures.tables gives)
 
-pub returns-in_err-reply-clause-held : goal.returns-in_err-reply-clause-held
-returns-in_err-reply-clause-held c =
-    let Held : Rows → Type 0 = λ rows. AreHeld (published_of rows) c.look_reply.new.shelf in
-    subst Held c.tables-tables.ensures.tables c.in_err-reply.ensures.held
+pub returns-in_err-reply-clause-ready : goal.returns-in_err-reply-clause-ready
+returns-in_err-reply-clause-ready c =
+    let Ready : Rows → Type 0 = λ rows. IsReady rows c.look_reply.new.workplace in
+    subst Ready c.tables-tables.ensures.tables c.in_err-reply.ensures.ready
 
-pub returns-clause-held : goal.returns-clause-held
-returns-clause-held c =
-    let Held : Rows → Type 0 = λ rows. AreHeld (published_of rows) c.look_reply.new.shelf in
-    subst Held c.tables-tables.ensures.tables c.in_ok-reply.ensures.held
+pub returns-clause-ready : goal.returns-clause-ready
+returns-clause-ready c =
+    let Ready : Rows → Type 0 = λ rows. IsReady rows c.look_reply.new.workplace in
+    subst Ready c.tables-tables.ensures.tables c.in_ok-reply.ensures.ready
 
 pub returns-clause-booked : goal.returns-clause-booked
 returns-clause-booked c =
     let rows : Rows = rows_of c.tables-tables.result.now in
     let place = c.in_ok-place.place in
     let reply = c.in_ok-reply.reply in
-    let held = c.look_reply.new.shelf in
+    let held = c.look_reply.new.workplace.shelf in
     let own = own-there c.args.totalled.now rows c.tables-tables.ensures.tables place c.own_at-own.result
     c.own_at-own.ensures in
-    let valid : AreValid rows = subst AreValid (sym c.tables-tables.ensures.tables) c.requires.valid in
+    let valid : AreValid rows = subst AreValid (sym c.tables-tables.ensures.tables) c.requires.ready.valid in
     let within = c.in_ok-place.ensures.within in
     let is : IsOwn rows (own_of rows place) = record { place = place; within = within; is = refl } in
     let Shown : Own → Type 0 = λ one. Gives (look_reply (published_of rows) one c.args.look.now) (Ok reply) in
@@ -110,13 +101,3 @@ returns-clause-booked c =
     subst Booked c.tables-tables.ensures.tables (look-booked rows held c.args.name.now place c.in_ok-place.ensures.finds
     (own_of rows place) refl (own-rows rows (own_of rows place) valid is) c.args.look.now
     (subst First own c.in_ok-reply.ensures.first) reply (subst Shown own c.in_ok-reply.ensures.answers))
-
-pub returns-in_err-reply-clause-known : goal.returns-in_err-reply-clause-known
-returns-in_err-reply-clause-known c =
-    let Known : Rows → Type 0 = λ rows. AreTrue (published_of rows) c.look_reply.new.upshots in
-    subst Known c.tables-tables.ensures.tables c.in_err-reply.ensures.known
-
-pub returns-clause-known : goal.returns-clause-known
-returns-clause-known c =
-    let Known : Rows → Type 0 = λ rows. AreTrue (published_of rows) c.look_reply.new.upshots in
-    subst Known c.tables-tables.ensures.tables c.in_ok-reply.ensures.known

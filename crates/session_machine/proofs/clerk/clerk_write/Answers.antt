@@ -3,17 +3,16 @@ use Rattle.std.specs.Prelude.{IfOk}
 use Rattle.desk_words.specs.declared.command.Command.{Command}
 use Rattle.desk_words.specs.declared.command.Command.TheVariants.{Clerk}
 use Rattle.desk_words.specs.declared.rows.clerk.ClerkRow.{ClerkRow}
-use Rattle.desk_words.specs.Tables.{Rows, published_of, rows_of}
+use Rattle.desk_words.specs.Tables.{Rows, rows_of}
 use Rattle.desk_valid.specs.Valid.{AreValid}
 use Rattle.machine_core.specs.Checked.{IsFound, told}
 use Rattle.machine_core.specs.Machine.{machine}
 use Rattle.machine_core.specs.Outcomes.{Answers}
 use Rattle.machine_core.specs.Own.{Own, own_of}
-use Rattle.machine_core.specs.Shelves.{AreHeld}
 use Rattle.machine_core.specs.Ticket.{use_of}
 use Rattle.machine_core.specs.declared.ticket.Use.{Use}
 use Rattle.machine_core.specs.declared.ticket.Use.TheVariants.{Fresh, Repeated}
-use Rattle.machine_views.specs.Upshots.{AreTrue}
+use Rattle.machine_workplace.specs.Ready.{IsReady}
 use Rattle.session_machine.specs.Booked.{IsBooked}
 use Rattle.session_machine.proofs.ClerkOwn.{own-row, own-there}
 use Rattle.session_machine.proofs.ClerkWrites.{write-stopped, write-told, write-unnamed}
@@ -21,7 +20,7 @@ use Rattle.session_machine.proofs.Stewards.{use-again}
 use Rattle.session_machine.proofs.clerk.clerk_write.Goals as goal
 
 pub clerk_of-requires : goal.clerk_of-requires
-clerk_of-requires c = subst AreValid (sym c.tables-tables.ensures.tables) c.requires.valid
+clerk_of-requires c = subst AreValid (sym c.tables-tables.ensures.tables) c.requires.ready.valid
 
 pub own_at-own-requires : goal.own_at-own-requires
 own_at-own-requires c =
@@ -38,20 +37,12 @@ use_of-requires c =
     ) in
     let row : c.row.result.now ≡ (own_of rows place).row = c.row.ensures ∙ ap (λ (own : Own). own.row)
     c.own_at-own.ensures in
-    omega (arith, ap (λ (one : ClerkRow). one.last) row, (own-row rows place c.requires.valid within).number)
+    omega (arith, ap (λ (one : ClerkRow). one.last) row, (own-row rows place c.requires.ready.valid within).number)
 
-pub repeated-requires-clause-valid : goal.repeated-requires-clause-valid
-repeated-requires-clause-valid c = subst AreValid (sym c.tables-tables.ensures.tables) c.requires.valid
-
-pub repeated-requires-clause-held : goal.repeated-requires-clause-held
-repeated-requires-clause-held c =
-    let Held : Rows → Type 0 = λ rows. AreHeld (published_of rows) c.args.shelf.now in
-    subst Held (sym c.tables-tables.ensures.tables) c.requires.held
-
-pub repeated-requires-clause-known : goal.repeated-requires-clause-known
-repeated-requires-clause-known c =
-    let Known : Rows → Type 0 = λ rows. AreTrue (published_of rows) c.args.upshots.now in
-    subst Known (sym c.tables-tables.ensures.tables) c.requires.known
+pub repeated-requires-clause-ready : goal.repeated-requires-clause-ready
+repeated-requires-clause-ready c =
+    let Ready : Rows → Type 0 = λ rows. IsReady rows c.args.workplace.now in
+    subst Ready (sym c.tables-tables.ensures.tables) c.requires.ready
 
 pub repeated-requires-clause-own : goal.repeated-requires-clause-own
 repeated-requires-clause-own c = own-there c.args.totalled.now (rows_of c.tables-tables.result.now)
@@ -68,18 +59,10 @@ repeated-requires-clause-started c =
       c.requires.numbered,
     )
 
-pub fresh-requires-clause-valid : goal.fresh-requires-clause-valid
-fresh-requires-clause-valid c = subst AreValid (sym c.tables-tables.ensures.tables) c.requires.valid
-
-pub fresh-requires-clause-held : goal.fresh-requires-clause-held
-fresh-requires-clause-held c =
-    let Held : Rows → Type 0 = λ rows. AreHeld (published_of rows) c.args.shelf.now in
-    subst Held (sym c.tables-tables.ensures.tables) c.requires.held
-
-pub fresh-requires-clause-known : goal.fresh-requires-clause-known
-fresh-requires-clause-known c =
-    let Known : Rows → Type 0 = λ rows. AreTrue (published_of rows) c.args.upshots.now in
-    subst Known (sym c.tables-tables.ensures.tables) c.requires.known
+pub fresh-requires-clause-ready : goal.fresh-requires-clause-ready
+fresh-requires-clause-ready c =
+    let Ready : Rows → Type 0 = λ rows. IsReady rows c.args.workplace.now in
+    subst Ready (sym c.tables-tables.ensures.tables) c.requires.ready
 
 pub fresh-requires-clause-own : goal.fresh-requires-clause-own
 fresh-requires-clause-own c = own-there c.args.totalled.now (rows_of c.tables-tables.result.now)
@@ -114,36 +97,26 @@ returns-in-Fresh-clause-answers c = write-told c.args.totalled.now (rows_of c.ta
     c.row.ensures c.args.name.now c.args.ticket.now c.args.work.now c.fresh.result c.in_ok-place.ensures.finds
     Fresh (c.in_ok-used.ensures.finds ∙ ap (λ (used : Use). told (Ok used)) c.in-Fresh.is) c.fresh.ensures.answers
 
-pub returns-in-Repeated-clause-held : goal.returns-in-Repeated-clause-held
-returns-in-Repeated-clause-held c =
-    let Held : Rows → Type 0 = λ rows. AreHeld (published_of rows) c.repeated.new.shelf in
-    subst Held c.tables-tables.ensures.tables c.repeated.ensures.held
+pub returns-in-Repeated-clause-ready : goal.returns-in-Repeated-clause-ready
+returns-in-Repeated-clause-ready c =
+    let Ready : Rows → Type 0 = λ rows. IsReady rows c.repeated.new.workplace in
+    subst Ready c.tables-tables.ensures.tables c.repeated.ensures.ready
 
-pub returns-in-Fresh-clause-held : goal.returns-in-Fresh-clause-held
-returns-in-Fresh-clause-held c =
-    let Held : Rows → Type 0 = λ rows. AreHeld (published_of rows) c.fresh.new.shelf in
-    subst Held c.tables-tables.ensures.tables c.fresh.ensures.held
+pub returns-in-Fresh-clause-ready : goal.returns-in-Fresh-clause-ready
+returns-in-Fresh-clause-ready c =
+    let Ready : Rows → Type 0 = λ rows. IsReady rows c.fresh.new.workplace in
+    subst Ready c.tables-tables.ensures.tables c.fresh.ensures.ready
 
 pub returns-in-Repeated-clause-booked : goal.returns-in-Repeated-clause-booked
 returns-in-Repeated-clause-booked c =
     let command : Command = Clerk c.args.name.now c.args.ticket.now c.args.work.now in
-    let held = c.repeated.new.shelf in
+    let held = c.repeated.new.workplace.shelf in
     let Booked : Rows → Type 0 = λ rows. IfOk c.repeated.result (λ made. IsBooked rows command made.0 held) in
     subst Booked c.tables-tables.ensures.tables (c.repeated.ensures.booked command)
 
 pub returns-in-Fresh-clause-booked : goal.returns-in-Fresh-clause-booked
 returns-in-Fresh-clause-booked c =
     let command : Command = Clerk c.args.name.now c.args.ticket.now c.args.work.now in
-    let held = c.fresh.new.shelf in
+    let held = c.fresh.new.workplace.shelf in
     let Booked : Rows → Type 0 = λ rows. IfOk c.fresh.result (λ made. IsBooked rows command made.0 held) in
     subst Booked c.tables-tables.ensures.tables (c.fresh.ensures.booked command)
-
-pub returns-in-Repeated-clause-known : goal.returns-in-Repeated-clause-known
-returns-in-Repeated-clause-known c =
-    let Known : Rows → Type 0 = λ rows. AreTrue (published_of rows) c.repeated.new.upshots in
-    subst Known c.tables-tables.ensures.tables c.repeated.ensures.known
-
-pub returns-in-Fresh-clause-known : goal.returns-in-Fresh-clause-known
-returns-in-Fresh-clause-known c =
-    let Known : Rows → Type 0 = λ rows. AreTrue (published_of rows) c.fresh.new.upshots in
-    subst Known c.tables-tables.ensures.tables c.fresh.ensures.known

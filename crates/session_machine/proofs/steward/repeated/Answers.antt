@@ -5,16 +5,16 @@ use Rattle.session_machine.proofs.steward.repeated.Goals as goal
 
 pub kept_made-requires-clause-steward : goal.kept_made-requires-clause-steward
 kept_made-requires-clause-steward c =
-    rw c.steward_of-row.ensures ((steward-row (rows_of c.args.tables.now) c.requires.valid).steward refl)
+    rw c.steward_of-row.ensures ((steward-row (rows_of c.args.tables.now) c.requires.ready.valid).steward refl)
 
 pub kept_made-requires-clause-started : goal.kept_made-requires-clause-started
 kept_made-requires-clause-started c =
-    let good = steward-row (rows_of c.args.tables.now) c.requires.valid in
+    let good = steward-row (rows_of c.args.tables.now) c.requires.ready.valid in
     rw c.steward_of-row.ensures (λ same. omega (arith, good.started.1 same, c.requires.started))
 
 pub kept_made-requires-clause-target : goal.kept_made-requires-clause-target
 kept_made-requires-clause-target c =
-    rw c.steward_of-row.ensures (steward-row (rows_of c.args.tables.now) c.requires.valid).target
+    rw c.steward_of-row.ensures (steward-row (rows_of c.args.tables.now) c.requires.ready.valid).target
 
 pub returns-clause-answers : goal.returns-clause-answers
 returns-clause-answers c = λ ticket work. repeated-given (rows_of c.args.tables.now) ticket work c.in_ok-made.made _

@@ -20,7 +20,7 @@ use_of-requires c =
     let rows : Rows = c.args.totalled.now in
     let row : c.steward_of.result.now ≡ (own_of rows 0).row =
     c.steward_of.ensures ∙ ap (λ (one : Rows). (own_of one 0).row) c.tables-tables.ensures.tables in
-    omega (arith, ap (λ (one : ClerkRow). one.last) row, (steward-row rows c.requires.valid).number)
+    omega (arith, ap (λ (one : ClerkRow). one.last) row, (steward-row rows c.requires.ready.valid).number)
 
 pub repeated-requires-clause-started : goal.repeated-requires-clause-started
 repeated-requires-clause-started c =
@@ -61,7 +61,7 @@ pub returns-in-Repeated-clause-booked : goal.returns-in-Repeated-clause-booked
 returns-in-Repeated-clause-booked c =
     let command = Steward c.args.ticket.now c.args.work.now in
     let Booked : Rows → Type 0 = λ rows.
-    IfOk c.repeated.result (λ made. IsBooked rows command made.0 c.repeated.new.shelf) in
+    IfOk c.repeated.result (λ made. IsBooked rows command made.0 c.repeated.new.workplace.shelf) in
     subst Booked c.tables-tables.ensures.tables (c.repeated.ensures.booked command)
 
 pub returns-in-Fresh-clause-answers : goal.returns-in-Fresh-clause-answers

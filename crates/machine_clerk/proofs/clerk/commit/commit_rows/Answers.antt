@@ -12,7 +12,7 @@ state_of-requires c =
     let published = published_of (rows_of c.args.tables.now) in
     let session = c.in_ok-session.session.now in
     let made = bound_on c.shelved-shelved.result.now in
-    let bound = c.shelved-shelved.ensures.bound published c.in_ok-session.ensures.held in
+    let bound = c.shelved-shelved.ensures.bound published c.in_ok-session.ensures.ready.held in
     typed-width published c.args.own.now.batches session made bound c.in_ok-session.ensures.good
     ∙ sym (confirmed-width published c.args.own.now.batches session made bound c.in_ok-session.ensures.good)
 
@@ -21,26 +21,26 @@ fixed_end-requires-clause-fits c =
     let rows = rows_of c.args.tables.now in
     let session = c.in_ok-session.session.now in
     let made = bound_on c.shelved-shelved.result.now in
-    let bound = c.shelved-shelved.ensures.bound (published_of rows) c.in_ok-session.ensures.held in
+    let bound = c.shelved-shelved.ensures.bound (published_of rows) c.in_ok-session.ensures.ready.held in
     c.in_ok-state_of.ensures.fits made.kit
     (typed-width (published_of rows) c.args.own.now.batches session made bound c.in_ok-session.ensures.good
-    ∙ kit-width rows session.edition made c.requires.valid bound)
+    ∙ kit-width rows session.edition made c.requires.ready.valid bound)
 
 pub fixed_end-requires-clause-room : goal.fixed_end-requires-clause-room
 fixed_end-requires-clause-room c =
     let rows = rows_of c.args.tables.now in
-    let bound = c.shelved-shelved.ensures.bound (published_of rows) c.in_ok-session.ensures.held in
+    let bound = c.shelved-shelved.ensures.bound (published_of rows) c.in_ok-session.ensures.ready.held in
     let named = named-kit rows c.in_ok-session.session.now.edition (bound_on c.shelved-shelved.result.now)
-    c.requires.valid bound in
+    c.requires.ready.valid bound in
     record {
-      attributes = omega (arith, named.valid.narrow, c.requires.room.attributes);
-      rules = omega (arith, named.valid.few_rules, c.requires.room.rules);
+      attributes = omega (arith, named.valid.narrow, c.requires.ready.room.attributes);
+      rules = omega (arith, named.valid.few_rules, c.requires.ready.room.rules);
     }
 
 pub returns-in_err-end-clause-answers : goal.returns-in_err-end-clause-answers
 returns-in_err-end-clause-answers c =
     let published = published_of (rows_of c.args.tables.now) in
-    let bound = c.shelved-shelved.ensures.bound published c.in_ok-session.ensures.held in
+    let bound = c.shelved-shelved.ensures.bound published c.in_ok-session.ensures.ready.held in
     let answers = rw c.in_ok-state_of.ensures.state at c.in_err-end.ensures.answers in
     commit-unended published c.args.own.now c.args.number c.args.accept c.in_ok-session.session.now
     (bound_on c.shelved-shelved.result.now) c.in_err-end.field-0.0 c.from_residual-in_err-end.result
@@ -49,7 +49,7 @@ returns-in_err-end-clause-answers c =
 pub returns-in_err-row-clause-answers : goal.returns-in_err-row-clause-answers
 returns-in_err-row-clause-answers c =
     let published = published_of (rows_of c.args.tables.now) in
-    let bound = c.shelved-shelved.ensures.bound published c.in_ok-session.ensures.held in
+    let bound = c.shelved-shelved.ensures.bound published c.in_ok-session.ensures.ready.held in
     let gives = rw c.in_ok-state_of.ensures.state at c.in_ok-end.ensures.answers in
     commit-recorded published c.args.own.now c.args.number c.args.accept c.in_ok-session.session.now
     (bound_on c.shelved-shelved.result.now) c.in_ok-end.end c.from_residual-in_err-row.result
@@ -59,15 +59,15 @@ returns-in_err-row-clause-answers c =
 pub bytes_in-requires : goal.bytes_in-requires
 bytes_in-requires c =
     let rows = rows_of c.args.tables.now in
-    let bound = c.shelved-shelved.ensures.bound (published_of rows) c.in_ok-session.ensures.held in
+    let bound = c.shelved-shelved.ensures.bound (published_of rows) c.in_ok-session.ensures.ready.held in
     let named = named-kit rows c.in_ok-session.session.now.edition (bound_on c.shelved-shelved.result.now)
-    c.requires.valid bound in
+    c.requires.ready.valid bound in
     omega (arith, ap length c.as_slice.ensures, c.in_ok-row.ensures.whole, named.valid.narrow)
 
 pub returns-in_err-within_bytes-clause-answers : goal.returns-in_err-within_bytes-clause-answers
 returns-in_err-within_bytes-clause-answers c =
     let published = published_of (rows_of c.args.tables.now) in
-    let bound = c.shelved-shelved.ensures.bound published c.in_ok-session.ensures.held in
+    let bound = c.shelved-shelved.ensures.bound published c.in_ok-session.ensures.ready.held in
     let gives = rw c.in_ok-state_of.ensures.state at c.in_ok-end.ensures.answers in
     let bytes = rw (c.bytes_in.ensures.bytes, c.as_slice.ensures) at c.in_err-within_bytes.ensures.finds in
     commit-recorded published c.args.own.now c.args.number c.args.accept c.in_ok-session.session.now
@@ -79,7 +79,7 @@ returns-in_err-within_bytes-clause-answers c =
 pub returns-clause-answers : goal.returns-clause-answers
 returns-clause-answers c =
     let published = published_of (rows_of c.args.tables.now) in
-    let bound = c.shelved-shelved.ensures.bound published c.in_ok-session.ensures.held in
+    let bound = c.shelved-shelved.ensures.bound published c.in_ok-session.ensures.ready.held in
     let gives = rw c.in_ok-state_of.ensures.state at c.in_ok-end.ensures.answers in
     let bytes = rw (c.bytes_in.ensures.bytes, c.as_slice.ensures) at c.in_ok-within_bytes.ensures.finds in
     commit-recorded published c.args.own.now c.args.number c.args.accept c.in_ok-session.session.now

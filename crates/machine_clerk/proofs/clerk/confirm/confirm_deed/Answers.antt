@@ -14,14 +14,14 @@ bytes_in-gone-requires c =
     let old = c.index-sessions-number.result in
     let within : place < length sessions =
     omega (arith, c.in_ok-session.ensures.counted, c.in_ok-session.ensures.within) in
-    let good = own-sessions (rows_of c.args.tables.now) c.args.own.now c.requires.valid c.requires.own place
+    let good = own-sessions (rows_of c.args.tables.now) c.args.own.now c.requires.ready.valid c.requires.own place
     (get_or sessions place old) (slice_get-get_or sessions place old within) in
     let is = rw c.sessions.ensures at c.index-sessions-number.is in
     omega (
       arith,
       ap length c.as_slice.ensures,
       ap (λ session. length session.typed) is,
-      few-texts (rows_of c.args.tables.now) c.args.own.now.batches (get_or sessions place old) c.requires.valid good,
+      few-texts (rows_of c.args.tables.now) c.args.own.now.batches (get_or sessions place old) c.requires.ready.valid good,
     )
 
 pub bytes_in-requires : goal.bytes_in-requires

@@ -9,7 +9,7 @@ use Rattle.machine_clerk.proofs.clerk.confirm.confirm_row.Goals as goal
 
 pub returns-in_err-texts-clause-finds : goal.returns-in_err-texts-clause-finds
 returns-in_err-texts-clause-finds c =
-    let bound = c.shelved.ensures.bound (published_of (rows_of c.args.tables.now)) c.in_ok-session.ensures.held in
+    let bound = c.shelved.ensures.bound (published_of (rows_of c.args.tables.now)) c.in_ok-session.ensures.ready.held in
     let texts = rw c.as_slice-attributes.ensures at c.in_err-texts.ensures.finds in
     rw (c.in_ok-session.ensures.finds, bound) (EndsWith-stopped _ _ c.in_err-texts.field-0.0
     c.from_residual-in_err-texts.result c.from_residual-in_err-texts.ensures.1 texts)
@@ -17,7 +17,7 @@ returns-in_err-texts-clause-finds c =
 pub with_cells-requires-clause-typed : goal.with_cells-requires-clause-typed
 with_cells-requires-clause-typed c =
     let published = published_of (rows_of c.args.tables.now) in
-    let bound = c.shelved.ensures.bound published c.in_ok-session.ensures.held in
+    let bound = c.shelved.ensures.bound published c.in_ok-session.ensures.ready.held in
     let wide = typed-width published c.args.own.now.batches c.in_ok-session.session.now (bound_on c.shelved.result.now)
     bound
     c.in_ok-session.ensures.good in
@@ -31,7 +31,7 @@ with_cells-requires-clause-typed c =
 pub with_cells-requires-clause-confirmed : goal.with_cells-requires-clause-confirmed
 with_cells-requires-clause-confirmed c =
     let published = published_of (rows_of c.args.tables.now) in
-    let bound = c.shelved.ensures.bound published c.in_ok-session.ensures.held in
+    let bound = c.shelved.ensures.bound published c.in_ok-session.ensures.ready.held in
     let wide = confirmed-width published c.args.own.now.batches c.in_ok-session.session.now
     (bound_on c.shelved.result.now)
     bound c.in_ok-session.ensures.good in
@@ -44,7 +44,7 @@ with_cells-requires-clause-confirmed c =
 
 pub returns-clause-finds : goal.returns-clause-finds
 returns-clause-finds c =
-    let bound = c.shelved.ensures.bound (published_of (rows_of c.args.tables.now)) c.in_ok-session.ensures.held in
+    let bound = c.shelved.ensures.bound (published_of (rows_of c.args.tables.now)) c.in_ok-session.ensures.ready.held in
     let texts = rw c.as_slice-attributes.ensures at c.in_ok-texts.ensures.finds in
     rw (c.in_ok-session.ensures.finds, bound, texts, c.in_ok-with_cells.ensures) refl
 
@@ -58,7 +58,7 @@ returns-clause-within c = omega (
 
 pub returns-clause-few : goal.returns-clause-few
 returns-clause-few c =
-    let few = few-texts (rows_of c.args.tables.now) c.args.own.now.batches c.in_ok-session.session.now c.requires.valid
+    let few = few-texts (rows_of c.args.tables.now) c.args.own.now.batches c.in_ok-session.session.now c.requires.ready.valid
     c.in_ok-session.ensures.good in
     omega (
       arith,

@@ -8,21 +8,21 @@ use Rattle.machine_clerk.proofs.clerk.enter.enter_row.Goals as goal
 
 pub returns-in_err-texts-clause-finds : goal.returns-in_err-texts-clause-finds
 returns-in_err-texts-clause-finds c =
-    let bound = c.shelved.ensures.bound (published_of (rows_of c.args.tables.now)) c.in_ok-place.ensures.held in
+    let bound = c.shelved.ensures.bound (published_of (rows_of c.args.tables.now)) c.in_ok-place.ensures.ready.held in
     let texts = rw c.as_slice-attributes.ensures at c.in_err-texts.ensures.finds in
     rw (c.in_ok-place.ensures.finds, bound) (EndsWith-stopped _ _ c.in_err-texts.field-0.0
     c.from_residual-in_err-texts.result c.from_residual-in_err-texts.ensures.1 texts)
 
 pub attributes_of-requires : goal.attributes_of-requires
 attributes_of-requires c =
-    let bound = c.shelved.ensures.bound (published_of (rows_of c.args.tables.now)) c.in_ok-place.ensures.held in
+    let bound = c.shelved.ensures.bound (published_of (rows_of c.args.tables.now)) c.in_ok-place.ensures.ready.held in
     let few = few-attributes (rows_of c.args.tables.now) c.in_ok-place.place (bound_on c.shelved.result.now)
-    c.requires.valid bound in
+    c.requires.ready.valid bound in
     omega (arith, few, ap length c.as_slice-attributes.ensures)
 
 pub returns-in_err-places-clause-finds : goal.returns-in_err-places-clause-finds
 returns-in_err-places-clause-finds c =
-    let bound = c.shelved.ensures.bound (published_of (rows_of c.args.tables.now)) c.in_ok-place.ensures.held in
+    let bound = c.shelved.ensures.bound (published_of (rows_of c.args.tables.now)) c.in_ok-place.ensures.ready.held in
     let texts = rw c.as_slice-attributes.ensures at c.in_ok-texts.ensures.finds in
     let places = rw c.as_slice-attributes.ensures at c.in_err-places.ensures in
     rw (c.in_ok-place.ensures.finds, bound, texts) (EndsWith-stopped _ _ c.in_err-places.field-0.0
@@ -30,7 +30,7 @@ returns-in_err-places-clause-finds c =
 
 pub returns-in_err-within-clause-finds : goal.returns-in_err-within-clause-finds
 returns-in_err-within-clause-finds c =
-    let bound = c.shelved.ensures.bound (published_of (rows_of c.args.tables.now)) c.in_ok-place.ensures.held in
+    let bound = c.shelved.ensures.bound (published_of (rows_of c.args.tables.now)) c.in_ok-place.ensures.ready.held in
     let texts = rw c.as_slice-attributes.ensures at c.in_ok-texts.ensures.finds in
     let places = rw c.as_slice-attributes.ensures at c.in_ok-places.ensures in
     let active = rw c.active.ensures at c.in_err-within.ensures.finds in
@@ -39,7 +39,7 @@ returns-in_err-within-clause-finds c =
 
 pub returns-in_err-within-2-clause-finds : goal.returns-in_err-within-2-clause-finds
 returns-in_err-within-2-clause-finds c =
-    let bound = c.shelved.ensures.bound (published_of (rows_of c.args.tables.now)) c.in_ok-place.ensures.held in
+    let bound = c.shelved.ensures.bound (published_of (rows_of c.args.tables.now)) c.in_ok-place.ensures.ready.held in
     let texts = rw c.as_slice-attributes.ensures at c.in_ok-texts.ensures.finds in
     let places = rw c.as_slice-attributes.ensures at c.in_ok-places.ensures in
     let active = rw c.active.ensures at c.in_ok-within.ensures.finds in
@@ -49,16 +49,16 @@ returns-in_err-within-2-clause-finds c =
 
 pub overflow_cast-width : goal.overflow_cast-width
 overflow_cast-width c =
-    let bound = c.shelved.ensures.bound (published_of (rows_of c.args.tables.now)) c.in_ok-place.ensures.held in
+    let bound = c.shelved.ensures.bound (published_of (rows_of c.args.tables.now)) c.in_ok-place.ensures.ready.held in
     let few = few-attributes (rows_of c.args.tables.now) c.in_ok-place.place (bound_on c.shelved.result.now)
-    c.requires.valid bound in
+    c.requires.ready.valid bound in
     omega (arith, few, ap length c.as_slice-attributes.ensures)
 
 pub bytes_in-requires : goal.bytes_in-requires
 bytes_in-requires c =
-    let bound = c.shelved.ensures.bound (published_of (rows_of c.args.tables.now)) c.in_ok-place.ensures.held in
+    let bound = c.shelved.ensures.bound (published_of (rows_of c.args.tables.now)) c.in_ok-place.ensures.ready.held in
     let few = few-attributes (rows_of c.args.tables.now) c.in_ok-place.place (bound_on c.shelved.result.now)
-    c.requires.valid bound in
+    c.requires.ready.valid bound in
     let width = length c.as_slice-attributes.result.now in
     omega (
       arith,
@@ -72,7 +72,7 @@ bytes_in-requires c =
 
 pub returns-in_err-within_bytes-clause-finds : goal.returns-in_err-within_bytes-clause-finds
 returns-in_err-within_bytes-clause-finds c =
-    let bound = c.shelved.ensures.bound (published_of (rows_of c.args.tables.now)) c.in_ok-place.ensures.held in
+    let bound = c.shelved.ensures.bound (published_of (rows_of c.args.tables.now)) c.in_ok-place.ensures.ready.held in
     let texts = rw c.as_slice-attributes.ensures at c.in_ok-texts.ensures.finds in
     let places = rw c.as_slice-attributes.ensures at c.in_ok-places.ensures in
     let active = rw c.active.ensures at c.in_ok-within.ensures.finds in
@@ -85,7 +85,7 @@ returns-in_err-within_bytes-clause-finds c =
 
 pub returns-clause-finds : goal.returns-clause-finds
 returns-clause-finds c =
-    let bound = c.shelved.ensures.bound (published_of (rows_of c.args.tables.now)) c.in_ok-place.ensures.held in
+    let bound = c.shelved.ensures.bound (published_of (rows_of c.args.tables.now)) c.in_ok-place.ensures.ready.held in
     let texts = rw c.as_slice-attributes.ensures at c.in_ok-texts.ensures.finds in
     let places = rw c.as_slice-attributes.ensures at c.in_ok-places.ensures in
     let active = rw c.active.ensures at c.in_ok-within.ensures.finds in

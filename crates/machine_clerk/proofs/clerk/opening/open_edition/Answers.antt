@@ -6,7 +6,7 @@ use Rattle.machine_clerk.proofs.clerk.opening.open_edition.Goals as goal
 
 pub newest_of-requires : goal.newest_of-requires
 newest_of-requires c = rw c.as_slice.ensures
-    (λ place row stands. (c.requires.valid.editions place row stands).version)
+    (λ place row stands. (c.requires.ready.valid.editions place row stands).version)
 
 pub returns-in_default-clause-finds : goal.returns-in_default-clause-finds
 returns-in_default-clause-finds c =

@@ -6,11 +6,11 @@ use Rattle.machine_clerk.proofs.clerk.opening.open_session.Goals as goal
 pub hold-requires-clause-edition : goal.hold-requires-clause-edition
 hold-requires-clause-edition c =
     let stands = rw c.sessions.ensures at c.in_ok-session.ensures.stands in
-    (own-sessions (rows_of c.args.tables.now) c.args.own.now c.requires.valid c.requires.own (c.args.number - 1)
+    (own-sessions (rows_of c.args.tables.now) c.args.own.now c.requires.ready.valid c.requires.own (c.args.number - 1)
     c.in_ok-session.session.now stands).edition
 
 pub returns-clause-good : goal.returns-clause-good
 returns-clause-good c =
     let stands = rw c.sessions.ensures at c.in_ok-session.ensures.stands in
-    own-sessions (rows_of c.args.tables.now) c.args.own.now c.requires.valid c.requires.own (c.args.number - 1)
+    own-sessions (rows_of c.args.tables.now) c.args.own.now c.requires.ready.valid c.requires.own (c.args.number - 1)
     c.in_ok-session.session.now stands

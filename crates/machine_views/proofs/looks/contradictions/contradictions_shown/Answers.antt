@@ -13,8 +13,8 @@ pub contradictions_on-requires : goal.contradictions_on-requires
 contradictions_on-requires c =
     let rows = rows_of c.args.tables.now in
     record {
-      named = IsNamedBook-at rows c.in_ok-place.place c.shelved.result.now c.requires.valid
-          (c.shelved.ensures.bound (published_of rows) c.in_ok-hold.ensures.held);
+      named = IsNamedBook-at rows c.in_ok-place.place c.shelved.result.now c.requires.ready.valid
+          (c.shelved.ensures.bound (published_of rows) c.in_ok-hold.ensures.ready.held);
     }
 
 pub returns-clause-contradictions : goal.returns-clause-contradictions
@@ -24,4 +24,4 @@ returns-clause-contradictions c =
     (some_or (edition_named published.editions c.args.edition.now c.args.version) (NoSuch kind.Edition))
     (λ bound. contradictions_on bound c.args.name.now) c.in_ok-place.place (bound_on c.shelved.result.now)
     c.contradictions_on.result (rw c.as_slice.ensures at c.in_ok-place.ensures.finds)
-    (c.shelved.ensures.bound published c.in_ok-hold.ensures.held) c.contradictions_on.ensures
+    (c.shelved.ensures.bound published c.in_ok-hold.ensures.ready.held) c.contradictions_on.ensures

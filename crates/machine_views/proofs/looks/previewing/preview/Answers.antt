@@ -9,7 +9,7 @@ view_of-requires-clause-session c =
     let own = c.args.own.now in
     let finds = rw c.as_slice.ensures at c.in_ok-session.ensures.finds in
     confirm_row-stands (published_of rows) own c.args.number c.args.cells.now c.in_ok-session.session finds
-    c.in_ok-session.ensures.counted (own-rows rows own c.requires.valid c.requires.own)
+    c.in_ok-session.ensures.counted (own-rows rows own c.requires.ready.valid c.requires.own)
 
 pub returns-in_err-session-clause-view : goal.returns-in_err-session-clause-view
 returns-in_err-session-clause-view c =
@@ -27,4 +27,4 @@ pub returns-clause-first : goal.returns-clause-first
 returns-clause-first c =
     let finds = rw c.as_slice.ensures at c.in_ok-session.ensures.finds in
     confirm_row-first (published_of (rows_of c.args.tables.now)) c.args.own.now c.args.number c.args.cells.now
-    c.in_ok-session.session finds c.view_of.new.shelf c.in_ok-view_of.ensures.first
+    c.in_ok-session.session finds c.view_of.new.workplace.shelf c.in_ok-view_of.ensures.first

@@ -15,11 +15,11 @@ use Rattle.machine_views.proofs.looks.region.region_shown.Goals as goal
 pub verdicts_on-requires-clause-room : goal.verdicts_on-requires-clause-room
 verdicts_on-requires-clause-room c =
     let rows = rows_of c.args.tables.now in
-    let book = IsNamedBook-at rows c.in_ok-place.place c.shelved-shelved.result.now c.requires.valid
-    (c.shelved-shelved.ensures.bound (published_of rows) c.in_ok-hold.ensures.held) in
+    let book = IsNamedBook-at rows c.in_ok-place.place c.shelved-shelved.result.now c.requires.ready.valid
+    (c.shelved-shelved.ensures.bound (published_of rows) c.in_ok-hold.ensures.ready.held) in
     record {
-      attributes = omega (arith, book.named.valid.narrow, c.requires.room.attributes);
-      rules = omega (arith, book.named.valid.few_rules, c.requires.room.rules);
+      attributes = omega (arith, book.named.valid.narrow, c.in_ok-hold.ensures.ready.room.attributes);
+      rules = omega (arith, book.named.valid.few_rules, c.in_ok-hold.ensures.ready.room.rules);
     }
 
 pub verdicts_on-requires-clause-whole : goal.verdicts_on-requires-clause-whole
@@ -29,21 +29,21 @@ verdicts_on-requires-clause-whole c =
     let bound = bound_on c.shelved-shelved.result.now in
     let there = sym (rw c.as_slice-2.ensures at c.in-Some.ensures) in
     let good = All-numbered (IsRegionOf bound.kit) (regions_of rows.regions place) c.args.number c.in-Some.region.now
-    (regions-good rows c.requires.valid place bound
-    (c.shelved-shelved.ensures.bound (published_of rows) c.in_ok-hold.ensures.held)) there in
+    (regions-good rows c.requires.ready.valid place bound
+    (c.shelved-shelved.ensures.bound (published_of rows) c.in_ok-hold.ensures.ready.held)) there in
     good.rows
 
 pub named_attributes-requires : goal.named_attributes-requires
 named_attributes-requires c =
     let rows = rows_of c.args.tables.now in
     let place = c.in_ok-place.place in
-    let binds = c.shelved-shelved.ensures.bound (published_of rows) c.in_ok-hold.ensures.held in
+    let binds = c.shelved-shelved.ensures.bound (published_of rows) c.in_ok-hold.ensures.ready.held in
     let bound = bound_on c.shelved-shelved.result.now in
     let region = c.in-Some.region.now in
     let there = sym (rw c.as_slice-2.ensures at c.in-Some.ensures) in
     let good = All-numbered (IsRegionOf bound.kit) (regions_of rows.regions place) c.args.number region
-    (regions-good rows c.requires.valid place bound binds) there in
-    let book = IsNamedBook-at rows place c.shelved-shelved.result.now c.requires.valid binds in
+    (regions-good rows c.requires.ready.valid place bound binds) there in
+    let book = IsNamedBook-at rows place c.shelved-shelved.result.now c.requires.ready.valid binds in
     let Within : ℕ → Type 0 = λ width. All (λ attribute. attribute < width) region.attrs in
     rw (c.as_slice-4.ensures, c.as_slice-words.ensures)
     (subst Within (sym book.named.attributes) good.attributes.attributes_within)
@@ -52,7 +52,7 @@ pub returns-clause-region : goal.returns-clause-region
 returns-clause-region c =
     let rows = rows_of c.args.tables.now in
     let place = c.in_ok-place.place in
-    let binds = c.shelved-shelved.ensures.bound (published_of rows) c.in_ok-hold.ensures.held in
+    let binds = c.shelved-shelved.ensures.bound (published_of rows) c.in_ok-hold.ensures.ready.held in
     let bound = bound_on c.shelved-shelved.result.now in
     let region = c.in-Some.region.now in
     let there = sym (rw c.as_slice-2.ensures at c.in-Some.ensures) in

@@ -1,9 +1,8 @@
 use Rattle.std.proofs.Common.{◌*◌, ◌^◌, take}
 use Rattle.std.specs.List.{flat_map}
 use Rattle.desk_words.specs.Tables.{published_of, rows_of}
-use Rattle.machine_core.specs.Shelves.{AreHeld, IsFullRoom}
+use Rattle.machine_workplace.specs.Ready.{IsReady}
 use Rattle.machine_views.specs.Reporting.{AreCountsOn, AreFew}
-use Rattle.machine_views.specs.Upshots.{AreTrue}
 use Rattle.machine_views.proofs.looks.report.all_counted.Given as goal
 
 -- the sessions of the clerks so far are counted
@@ -12,7 +11,5 @@ invariant-clerks l = record {
   counts : AreCountsOn (published_of (rows_of l.tables)) l.edition
       (flat_map (λ sessions. sessions) (take l.clerk (rows_of l.tables).sessions)) l.counts;
   few : AreFew (l.clerk * 2 ^ 31) l.counts;
-  held : AreHeld (published_of (rows_of l.tables)) l.shelf;
-  room : IsFullRoom l.work;
-  known : AreTrue (published_of (rows_of l.tables)) l.upshots;
+  ready : IsReady (rows_of l.tables) l.workplace;
 }

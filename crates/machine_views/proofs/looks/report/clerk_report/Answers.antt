@@ -12,11 +12,11 @@ pub lines_over-requires-clause-sessions : goal.lines_over-requires-clause-sessio
 lines_over-requires-clause-sessions c =
     let own = c.args.own.now in
     rw c.sessions.ensures (sessions-stand (published_of (rows_of c.args.tables.now)) own
-    (own-rows (rows_of c.args.tables.now) own c.requires.valid c.requires.own))
+    (own-rows (rows_of c.args.tables.now) own c.requires.ready.valid c.requires.own))
 
 pub lines_over-requires-clause-short : goal.lines_over-requires-clause-short
 lines_over-requires-clause-short c =
-    rw c.sessions.ensures (own-short (rows_of c.args.tables.now) c.requires.valid c.args.own.now c.requires.own)
+    rw c.sessions.ensures (own-short (rows_of c.args.tables.now) c.requires.ready.valid c.args.own.now c.requires.own)
 
 pub returns-clause-report : goal.returns-clause-report
 returns-clause-report c =

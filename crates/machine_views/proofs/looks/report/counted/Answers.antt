@@ -2,9 +2,8 @@ use Rattle.std.proofs.Common.{◌≡◌, ◌∙◌, ◌+◌, ◌^◌, true, fals
 use Rattle.std.specs.Prelude.{◌==◌}
 use Rattle.std.proofs.lemmas.Bool.{eq-eqb}
 use Rattle.desk_words.specs.Tables.{published_of, rows_of}
-use Rattle.machine_core.specs.Shelves.{AreHeld, IsFullRoom}
+use Rattle.machine_workplace.specs.Ready.{IsReady}
 use Rattle.machine_views.specs.Reporting.{AreFew}
-use Rattle.machine_views.specs.Upshots.{AreTrue}
 use Rattle.machine_views.proofs.Few.{AreFew-weaker}
 use Rattle.machine_views.proofs.Reporting.{AreCountsOn-next_left, AreCountsOn-next_more, other-edition}
 use Rattle.machine_views.proofs.Known.{assessment, assessment-found, upshot-counted}
@@ -38,9 +37,7 @@ sessions-preserved c =
             most = λ most few. subst (AreFew (most + (place + 1))) (sym w.counts-is)
                 (AreFew-weaker (most + place + 1) (most + (place + 1)) w.with-counts.result (omega arith)
                 (w.with-counts.ensures.most (most + place) (c.sessions.invariant.most most few)));
-            held = subst (AreHeld published) (sym w.shelf-is) w.in_ok-upshot.ensures.held;
-            room = subst IsFullRoom (sym w.work-is) w.in_ok-upshot.ensures.room;
-            known = subst (AreTrue published) (sym w.upshots-is) w.in_ok-upshot.ensures.known;
+            ready = subst (IsReady (rows_of c.args.tables.now)) (sym w.workplace-is) w.in_ok-upshot.ensures.ready;
           })
       | else-session-edition w ↦ (let other : (session.edition == edition) ≡ false =
           other-edition session.edition edition w.if-session-edition.false in
@@ -51,9 +48,7 @@ sessions-preserved c =
             most = λ most few. subst (AreFew (most + (place + 1))) (sym w.counts-is)
                 (AreFew-weaker (most + place) (most + (place + 1)) c.sessions.counts (omega arith)
                 (c.sessions.invariant.most most few));
-            held = subst (AreHeld published) (sym w.shelf-is) c.sessions.invariant.held;
-            room = subst IsFullRoom (sym w.work-is) c.sessions.invariant.room;
-            known = subst (AreTrue published) (sym w.upshots-is) c.sessions.invariant.known;
+            ready = subst (IsReady (rows_of c.args.tables.now)) (sym w.workplace-is) c.sessions.invariant.ready;
           })
     ]
 

@@ -27,9 +27,7 @@ editions-preserved c =
           c.in_ok-push.ensures.pushed;
       few = total-more edition c.editions.lines _ line row counts c.editions.invariant.few
           c.in_ok-counts.ensures.few c.in_ok-report_line.ensures c.in_ok-push.ensures.pushed;
-      held = c.in_ok-counts.ensures.held;
-      room = c.in_ok-counts.ensures.room;
-      known = c.in_ok-counts.ensures.known;
+      ready = c.in_ok-counts.ensures.ready;
     }
 
 pub returns-clause-lines : goal.returns-clause-lines
@@ -42,5 +40,5 @@ returns-clause-lines c =
 
 pub returns-clause-few : goal.returns-clause-few
 returns-clause-few c =
-    let few = editions-few (rows_of c.args.tables.now) c.requires.valid in
+    let few = editions-few (rows_of c.args.tables.now) c.requires.ready.valid in
     omega (arith, few, c.editions.invariant.few, c.editions.auto.edition-end, c.len-edition-end.ensures)

@@ -9,14 +9,14 @@ pub hold-requires-clause-edition : goal.hold-requires-clause-edition
 hold-requires-clause-edition c =
     let own = c.args.own.now in
     (session-stands (published_of (rows_of c.args.tables.now)) own
-    (own-rows (rows_of c.args.tables.now) own c.requires.valid c.requires.own) (c.args.number - 1)
+    (own-rows (rows_of c.args.tables.now) own c.requires.ready.valid c.requires.own) (c.args.number - 1)
     c.in_ok-session.session.now (rw c.sessions.ensures at c.in_ok-session.ensures.stands)).edition
 
 pub book_for-shelved-requires-clause-session : goal.book_for-shelved-requires-clause-session
 book_for-shelved-requires-clause-session c =
     let own = c.args.own.now in
     session-stands (published_of (rows_of c.args.tables.now)) own
-    (own-rows (rows_of c.args.tables.now) own c.requires.valid c.requires.own) (c.args.number - 1)
+    (own-rows (rows_of c.args.tables.now) own c.requires.ready.valid c.requires.own) (c.args.number - 1)
     c.in_ok-session.session.now (rw c.sessions.ensures at c.in_ok-session.ensures.stands)
 
 pub returns-clause-suggestion : goal.returns-clause-suggestion

@@ -7,5 +7,5 @@ pub view_of-requires-clause-session : goal.view_of-requires-clause-session
 view_of-requires-clause-session c =
     let own = c.args.own.now in
     session-stands (published_of (rows_of c.args.tables.now)) own
-    (own-rows (rows_of c.args.tables.now) own c.requires.valid c.requires.own) (c.args.number - 1)
+    (own-rows (rows_of c.args.tables.now) own c.requires.ready.valid c.requires.own) (c.args.number - 1)
     c.in_ok-session.session.now (rw c.sessions.ensures at c.in_ok-session.ensures.stands)

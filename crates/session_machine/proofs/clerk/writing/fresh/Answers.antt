@@ -20,7 +20,7 @@ deed_of-requires-clause-own c = record { place = c.args.place; within = c.requir
 
 pub deed_reply-requires-clause-sound : goal.deed_reply-requires-clause-sound
 deed_reply-requires-clause-sound c = deed_of-sound (rows_of c.args.tables.now) c.args.place c.args.own.now
-    c.args.work.now c.in_ok-deed.deed c.requires.valid c.requires.within c.requires.own c.in_ok-deed.ensures.answers
+    c.args.work.now c.in_ok-deed.deed c.requires.ready.valid c.requires.within c.requires.own c.in_ok-deed.ensures.answers
 
 pub deed_reply-requires-clause-told : goal.deed_reply-requires-clause-told
 deed_reply-requires-clause-told c = told-deed (published_of (rows_of c.args.tables.now)) c.args.own.now c.args.work.now
@@ -58,8 +58,8 @@ returns-clause-booked c = λ command.
     let published : Published = published_of rows in
     let own : Own = c.args.own.now in
     let deed : Deed = c.in_ok-deed.deed in
-    let held = c.deed_reply.new.shelf in
-    let sound = deed_of-sound rows c.args.place own c.args.work.now deed c.requires.valid c.requires.within
+    let held = c.deed_reply.new.workplace.shelf in
+    let sound = deed_of-sound rows c.args.place own c.args.work.now deed c.requires.ready.valid c.requires.within
     c.requires.own c.in_ok-deed.ensures.answers in
     let told = told-deed published own c.args.work.now deed c.in_ok-deed.ensures.answers in
     let first = target-first published own deed held sound deed.act told c.in_ok-reply.ensures.first in

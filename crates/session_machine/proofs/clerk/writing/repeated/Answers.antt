@@ -24,7 +24,7 @@ kept_reply-requires-clause-target c =
     let Last : Own → Type 0 = λ own. HasOwnTarget own own.row.act own.row.target in
     let OfRow : ClerkRow → Type 0 = λ row. HasOwnTarget c.args.own.now row.act row.target in
     subst OfRow (sym c.row-row.ensures) (subst Last (sym c.requires.own)
-    (last-target rows c.args.place c.requires.valid c.requires.within c.requires.place
+    (last-target rows c.args.place c.requires.ready.valid c.requires.within c.requires.place
     (subst Started c.requires.own c.requires.started)))
 
 pub returns-clause-answers : goal.returns-clause-answers
@@ -45,5 +45,5 @@ returns-clause-booked c = λ command.
     let own : Own = c.args.own.now in
     let row : ClerkRow = c.row-row.result.now in
     let is : IsOwn rows own = record { place = c.args.place; within = c.requires.within; is = c.requires.own } in
-    kept-booked rows c.kept_reply.new.shelf own (own-rows rows own c.requires.valid is) command row.act row.target
+    kept-booked rows c.kept_reply.new.workplace.shelf own (own-rows rows own c.requires.ready.valid is) command row.act row.target
     c.in_ok-reply.reply c.in_ok-reply.ensures.first c.in_ok-reply.ensures.reply

@@ -14,30 +14,10 @@ use Rattle.machine_core.specs.declared.stop.Stop.{Stop}
 
 pub invariant_of-self : goal.invariant_of-self
 invariant_of-self c = elim c.match-command.branch [
-  | in-Steward w ↦ rw w.self-inside-is (record {
-    valid = c.self.invariant.valid;
-    held = w.steward_write.ensures.held;
-    room = w.steward_write.ensures.room;
-    known = c.self.invariant.known;
-  })
-  | in-Clerk w ↦ rw w.self-inside-is (record {
-    valid = c.self.invariant.valid;
-    held = w.clerk_write.ensures.held;
-    room = w.clerk_write.ensures.room;
-    known = w.clerk_write.ensures.known;
-  })
-  | in-Look w ↦ rw w.self-inside-is (record {
-    valid = c.self.invariant.valid;
-    held = w.clerk_look.ensures.held;
-    room = w.clerk_look.ensures.room;
-    known = w.clerk_look.ensures.known;
-  })
-  | in-Desk w ↦ rw w.self-inside-is (record {
-    valid = c.self.invariant.valid;
-    held = w.desk_look.ensures.held;
-    room = w.desk_look.ensures.room;
-    known = w.desk_look.ensures.known;
-  })
+  | in-Steward w ↦ rw w.self-inside-is w.steward_write.ensures.ready
+  | in-Clerk w ↦ rw w.self-inside-is w.clerk_write.ensures.ready
+  | in-Look w ↦ rw w.self-inside-is w.clerk_look.ensures.ready
+  | in-Desk w ↦ rw w.self-inside-is w.desk_look.ensures.ready
 ]
 
 -- what answers a command over tables answers it over equal tables

@@ -12,7 +12,7 @@ pub region_made-requires-clause-region : goal.region_made-requires-clause-region
 region_made-requires-clause-region c =
     let rows : Rows = rows_of c.args.tables.now in
     rw c.len-target.ensures (region-good rows c.args.work.now c.in_ok-row.row c.requires.adds
-    c.in_ok-row.ensures.answers c.requires.valid)
+    c.in_ok-row.ensures.answers c.requires.ready.valid)
 
 pub returns-clause-answers : goal.returns-clause-answers
 returns-clause-answers c =

@@ -12,14 +12,14 @@ use Rattle.machine_core.specs.Steward.AddRegion.{region_on}
 pub region_on-requires : goal.region_on-requires
 region_on-requires c =
     let rows = rows_of c.args.tables.now in
-    let bound = c.shelved.ensures.bound (published_of rows) c.in_ok-hold.ensures.held in
-    let few = few-attributes rows c.in_ok-place.place (bound_on c.shelved.result.now) c.requires.valid bound in
+    let bound = c.shelved.ensures.bound (published_of rows) c.in_ok-hold.ensures.ready.held in
+    let few = few-attributes rows c.in_ok-place.place (bound_on c.shelved.result.now) c.requires.ready.valid bound in
     omega (arith, few, ap length c.as_slice-attributes.ensures)
 
 pub returns-clause-finds : goal.returns-clause-finds
 returns-clause-finds c =
     let rows = rows_of c.args.tables.now in
-    let bound = c.shelved.ensures.bound (published_of rows) c.in_ok-hold.ensures.held in
+    let bound = c.shelved.ensures.bound (published_of rows) c.in_ok-hold.ensures.ready.held in
     let named = rw c.as_slice.ensures at c.in_ok-place.ensures.finds in
     let result = c.region_on.result in
     let over : List (List ℕ) → List (List (List ℕ)) → Checked RegionRow = λ words texts.

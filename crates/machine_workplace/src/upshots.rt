@@ -3,8 +3,8 @@ ghost use Rattle.std.specs.Prelude.{◌≡◌, ◌+◌, ◌≤◌, ◌^◌, ◌�
 ghost use Rattle.desk_base.specs.declared.limits.TheConstants.{MAX_ATTRIBUTES};
 ghost use Rattle.desk_words.specs.Tables.{Published};
 ghost use Rattle.machine_core.specs.Look.Report.{is_confirmed_cell, is_fixed_cell, is_uncovered_cell};
-ghost use Rattle.machine_views.specs.Upshots.{AreCellsUpTo, AreTrue, IsNoteOf, IsTrueNote, IsUpshotOf};
-ghost use Rattle.machine_views.specs.Upshots.{cells_in, cells_of_both};
+ghost use Rattle.machine_workplace.specs.Upshots.{AreCellsUpTo, AreTrue, IsNoteOf, IsTrueNote, IsUpshotOf};
+ghost use Rattle.machine_workplace.specs.Upshots.{cells_in, cells_of_both};
 
 use desk_base::{Duplicate, NoMemory, Shared, Text};
 use desk_words::SessionRow;
@@ -112,7 +112,7 @@ pub struct Upshot {
 
 /// Where a session stands: the place of its clerk, and its own among the clerk's sessions, both counted from 0.
 #[derive(Clone, Copy, Debug, PartialEq, Eq)]
-pub(crate) struct SessionAt {
+pub struct SessionAt {
     pub clerk: u32,
     pub place: u32,
 }
@@ -133,7 +133,7 @@ impl SessionAt {
 
 /// What a session came to when it was decided, with what was decided on. It shares texts and flags with the session.
 #[derive(Debug, Drop)]
-pub(crate) struct Noted {
+pub struct Noted {
     edition: u32,
     typed: Shared<Text>,
     confirmed: Shared<bool>,
@@ -209,7 +209,7 @@ impl Upshots {
     }
 
     /// What the session at this place came to, if that is known.
-    pub(crate) fn known(&self, at: SessionAt, session: &SessionRow) -> Option<Upshot>
+    pub fn known(&self, at: SessionAt, session: &SessionRow) -> Option<Upshot>
         ensures { (published : Published) → AreTrue published self.now
             → IfSome result (IsUpshotOf published session.now) }
     {
@@ -222,7 +222,7 @@ impl Upshots {
     }
 
     /// Keeps what the session at this place came to, where there is memory.
-    pub(crate) fn note(&mut self, at: SessionAt, session: &SessionRow, upshot: Upshot)
+    pub fn note(&mut self, at: SessionAt, session: &SessionRow, upshot: Upshot)
         ensures { (published : Published) → AreTrue published self.old → IsUpshotOf published session.now upshot
             → AreTrue published self.new }
     {

@@ -13,10 +13,10 @@ use Rattle.fix_model.specs.States.{confirmed_cell}
 use Rattle.machine_core.specs.Answers.{shown_state, state_of}
 use Rattle.machine_core.specs.Checked.{Answer}
 use Rattle.machine_core.specs.Look.Report.{is_confirmed_cell, is_fixed_cell, is_uncovered_cell}
-use Rattle.machine_views.specs.declared.upshots.Cells.{Cells}
-use Rattle.machine_views.specs.declared.upshots.Noted.{Noted}
-use Rattle.machine_views.specs.declared.upshots.Upshot.{Upshot}
-use Rattle.machine_views.specs.declared.upshots.Upshots.{Upshots}
+use Rattle.machine_workplace.specs.declared.upshots.Cells.{Cells}
+use Rattle.machine_workplace.specs.declared.upshots.Noted.{Noted}
+use Rattle.machine_workplace.specs.declared.upshots.Upshot.{Upshot}
+use Rattle.machine_workplace.specs.declared.upshots.Upshots.{Upshots}
 
 -- how many attributes came to their value in each way
 abbrev pub cells_in : List Cell → Cells

@@ -2,7 +2,7 @@ use Rattle.std.proofs.Common.{◌≡◌, ◌∙◌, ◌<◌, ◌++◌, [], ◌�
 use Rattle.std.proofs.lemmas.Bool.{not-false}
 use Rattle.std.proofs.lemmas.List.{take_more}
 use Rattle.std.proofs.lemmas.Slice.Eq.{bytes_eq-Decides}
-use Rattle.machine_views.proofs.upshots.are_equal.Goals as goal
+use Rattle.machine_workplace.proofs.upshots.are_equal.Goals as goal
 
 pub texts-preserved : goal.texts-preserved
 texts-preserved c =

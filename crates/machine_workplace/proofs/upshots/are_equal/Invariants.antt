@@ -1,5 +1,5 @@
 use Rattle.std.proofs.Common.{◌≡◌, take}
-use Rattle.machine_views.proofs.upshots.are_equal.Given as goal
+use Rattle.machine_workplace.proofs.upshots.are_equal.Given as goal
 
 -- the texts so far are the same
 abbrev pub invariant-texts : goal.invariant-texts

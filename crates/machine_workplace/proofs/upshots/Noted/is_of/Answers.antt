@@ -2,7 +2,7 @@ use Rattle.std.proofs.Common.{◌≡◌, ◌∙◌, refl, sym}
 use Rattle.std.proofs.lemmas.Bool.{not-false, not-true}
 use Rattle.std.proofs.lemmas.Slice.Eq.{slice_eq-Decides}
 use Rattle.std.specs.Cmp.{booleans_Decides}
-use Rattle.machine_views.proofs.upshots.Noted.is_of.Goals as goal
+use Rattle.machine_workplace.proofs.upshots.Noted.is_of.Goals as goal
 
 pub returns-then-ne : goal.returns-then-ne
 returns-then-ne c =

@@ -1,0 +1,2 @@
+pub mod Upshots
+pub mod Ready
