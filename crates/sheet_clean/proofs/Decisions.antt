@@ -10,7 +10,7 @@ use Rattle.fix_model.specs.Run.{end_of}
 use Rattle.fix_model.specs.States.{Fits}
 use Rattle.fix_model.specs.Valid.{IsValid}
 use Rattle.fix_model.proofs.Lengths.{Fits-end_of}
-use Rattle.fix_engine.specs.declared.verdict.Verdict.TheVariants.{Fix, Conflict}
+use Rattle.fix_engine.specs.declared.verdict.Verdict.TheVariants.{Fix}
 use Rattle.sheet_clean.specs.Decision.{IsDecision}
 
 -- a unique fix is decided, whose second run is none
@@ -23,18 +23,6 @@ IsDecision-fix kit state end first second certain dissent fix none is = record {
   answer = (fix, refl);
   first = is;
   second = refl;
-}
-
--- a conflict is, with the ends of both runs
-pub IsDecision-conflict : (kit : Kit) (state end other : State) (first second : List Step)
-    → IsConflict kit state first second → end ≡ end_of kit state first → other ≡ end_of kit state second
-    → IsDecision kit state (record { verdict = Conflict; first = end; second = other })
-IsDecision-conflict kit state end other first second conflict is other_is = record {
-  first_run = first;
-  second_run = second;
-  answer = conflict;
-  first = is;
-  second = other_is;
 }
 
 -- the end of the first run is a state of the kit

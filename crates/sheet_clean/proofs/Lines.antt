@@ -1,5 +1,5 @@
 -- The text of lines, one after another, and of those that the numbers of a range give.
-use Rattle.std.proofs.Common.{◌≡◌, ◌+◌, ◌++◌, ◌∷◌, [], ℕ, List, Vec, length}
+use Rattle.std.proofs.Common.{◌≡◌, ◌+◌, ◌<◌, ◌≤◌, ◌++◌, ◌∷◌, [], ℕ, List, Vec, arith, length}
 use Rattle.std.proofs.Common.{flat_map, ap, add-one, refl, subst, sym, ◌∙◌}
 use Rattle.std.proofs.Common.{append_assoc, length-append, zero-add}
 use Rattle.std.specs.declared.alloc.Global.{Global}
@@ -21,13 +21,6 @@ lines-range f place =
     ∙ flat_map-append f (range_with_len 0 place) (place ∷ [])
     ∙ ap (λ l. flat_map f (range_with_len 0 place) ++ l) (append-nil (f place))
 
--- no line was written
-pub Writes-none : (setting : Setting) (writer : Writer (Vec ℕ Global)) → Writes setting writer writer [] 0
-Writes-none setting writer = record {
-  written = λ text has. rw (append-nil text) has;
-  counted = refl;
-}
-
 -- a line was written
 pub Writes-one : (setting : Setting) (old new : Writer (Vec ℕ Global)) (line : List (List ℕ))
     → ((text : List ℕ) → HasWritten setting old text → HasWritten setting new (text ++ line_text setting line))
@@ -48,4 +41,20 @@ Writes-then setting old now new lines others count more first second = record {
       (second.written (text ++ lines_text setting lines) (first.written text has));
   counted = ap (λ n. n + more) first.counted ∙ ap (λ n. length lines + n) second.counted
       ∙ sym (length-append lines others);
+}
+
+-- the lines were written that the numbers below a place give, at most one for each
+pub record WritesBelow (setting : Setting) (old new : Writer (Vec ℕ Global)) (f : ℕ → List (List (List ℕ)))
+    (place count : ℕ) : Type 0 where
+  pub lines : Writes setting old new (flat_map f (range_with_len 0 place)) count
+  pub few : count ≤ place
+
+-- and then those that the number there gives
+pub WritesBelow-next : (setting : Setting) (old now new : Writer (Vec ℕ Global)) (f : ℕ → List (List (List ℕ)))
+    (place count more : ℕ) → WritesBelow setting old now f place count → Writes setting now new (f place) more
+    → more < 2 → WritesBelow setting old new f (place + 1) (count + more)
+WritesBelow-next setting old now new f place count more below written one = record {
+  lines = rw (lines-range f place)
+      (Writes-then setting old now new (flat_map f (range_with_len 0 place)) (f place) count more below.lines written);
+  few = omega (arith, below.few, one);
 }

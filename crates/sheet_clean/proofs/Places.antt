@@ -8,7 +8,6 @@ use Rattle.std.specs.Option.{option_or}
 use Rattle.std.proofs.lemmas.List.{take_all}
 use Rattle.std.proofs.lemmas.List.FromFn.{get_or-range_with_len, length-range_with_len}
 use Rattle.fix_model.proofs.Twins.{position-none, position-some}
-use Rattle.sheet_clean.specs.declared.fault.SheetFault.{SheetFault}
 use Rattle.sheet_clean.specs.declared.setting.Setting.{Setting}
 use Rattle.sheet_clean.specs.Header.{column_fault, columns_fault}
 
@@ -48,13 +47,6 @@ before-next test place none here before less =
       | inl same ↦ rw same here
       | inr lower ↦ none before lower
     ]
-
--- the first fault of the columns from a place on, where the one there has one
-pub columns_fault-here : (setting : Setting) (earlier later : List (List ℕ)) (column : List ℕ) (fault : SheetFault)
-    → column_fault setting earlier column ≡ Some fault
-    → columns_fault setting earlier (column ∷ later) ≡ Some fault
-columns_fault-here setting earlier later column fault here =
-    ap (λ found. option_or found (columns_fault setting (earlier ++ column ∷ []) later)) here
 
 -- and where it has none
 pub columns_fault-next : (setting : Setting) (earlier later : List (List ℕ)) (column : List ℕ)

@@ -7,3 +7,4 @@ pub mod Fields
 pub mod Sheets
 pub mod Writing
 pub mod Steps
+pub mod SheetRows

@@ -1,71 +1,59 @@
 //! The line of a row in the clean sheet.
-ghost use Rattle.std.specs.Prelude.{◌≡◌, ◌<◌, ◌≤◌, ◌++◌, List, ℕ, IfOk, IfSome, OnOk, length};
+ghost use Rattle.std.specs.Prelude.{◌≡◌, ◌<◌, ◌++◌, List, ℕ, IfOk, IfSome, OnOk, length};
 ghost use Rattle.csv.specs.Writing.{row_text};
 ghost use Rattle.desk_base.specs.Texts.{bytes_of};
 ghost use Rattle.fix_model.specs.States.{Fits};
 ghost use Rattle.sheet_clean.specs.Fields.{cell_shown, cells_shown, clean_fields, cleaned_cells};
 ghost use Rattle.sheet_clean.specs.Fields.{column_shown, shown_at};
 ghost use Rattle.sheet_clean.specs.Fields.{verdict_field, verdict_word};
-ghost use Rattle.sheet_clean.specs.Layouts.{IsLayout};
 ghost use Rattle.sheet_clean.specs.Setting.{writer_of};
+ghost use Rattle.sheet_clean.specs.SheetRows.{IsRowAt};
 ghost use Rattle.sheet_clean.specs.Writing.{HasWritten};
 
-use crate::layout::{Layout, cell_at};
-use crate::setting::Setting;
+use crate::layout::cell_at;
+use crate::row_cleaner::RowCleaner;
 use crate::writing::write;
 use csv::Writer;
 use desk_base::{NoMemory, Text};
 use fix_engine::Verdict;
 use fix_model::{Book, State};
-use std::alloc::Global;
 
-/// Writes the line of a row with these cells, of which this was decided, with the end of the first run.
+/// Writes the line of a row, of which this was decided, with the end of the first run.
 pub(crate) fn write_row<B: Book<()>>(
-    alloc: Global,
+    cleaner: &RowCleaner<'_, B>,
     writer: &mut Writer<Vec<u8>>,
-    setting: &Setting,
-    layout: &Layout,
-    book: &B,
-    cells: &[&[u8]],
     verdict: &Verdict,
     end: &State,
 ) -> Result<(), NoMemory>
-    requires laid { IsLayout setting.now layout.now }
-    requires narrow { length setting.now.names.attributes ≤ 48 }
-    requires full { length cells.now ≡ length layout.now.header }
-    requires fits { Fits (B.kit book.now) end.now }
-    ensures { OnOk result ((text : List ℕ) → HasWritten setting.now writer.old text
-        → HasWritten setting.now writer.new (text ++ row_text (writer_of setting.now)
-        (clean_fields (B.kit book.now) setting.now layout.now.header (bytes_of cells.now) verdict.now end.now))) }
+    requires { IsRowAt (B.kit cleaner.now.book.now) cleaner.now.row end.now }
+    ensures { let row = cleaner.now.row in
+        OnOk result ((text : List ℕ) → HasWritten row.setting.now writer.old text
+        → HasWritten row.setting.now writer.new (text ++ row_text (writer_of row.setting.now)
+        (clean_fields (B.kit cleaner.now.book.now) row.setting.now row.layout.now.header (bytes_of row.cells.now)
+        verdict.now end.now))) }
 {
-    let mut fields = cleaned_cells(alloc, setting, layout, book, cells, verdict, end)?;
-    push_verdict(&mut fields, &setting.verdict, verdict)?;
+    let mut fields = cleaned_cells(cleaner, verdict, end)?;
+    push_verdict(&mut fields, &cleaner.row.setting.verdict, verdict)?;
     write(writer, fields.as_slice())?;
     Ok(())
 }
 
 /// The cells of a cleaned row.
 fn cleaned_cells<'a, B: Book<()>>(
-    alloc: Global,
-    setting: &Setting,
-    layout: &Layout,
-    book: &'a B,
-    cells: &[&'a [u8]],
+    cleaner: &'a RowCleaner<'_, B>,
     verdict: &Verdict,
     end: &'a State,
 ) -> Result<Vec<&'a [u8]>, NoMemory>
-    requires laid { IsLayout setting.now layout.now }
-    requires narrow { length setting.now.names.attributes ≤ 48 }
-    requires full { length cells.now ≡ length layout.now.header }
-    requires fits { Fits (B.kit book.now) end.now }
-    ensures { IfOk result (λ fields. bytes_of fields.items ≡ cleaned_cells (B.kit book.now) setting.now
-        layout.now.header (bytes_of cells.now) verdict.now end.now) }
+    requires { IsRowAt (B.kit cleaner.now.book.now) cleaner.now.row end.now }
+    ensures { let row = cleaner.now.row in
+        IfOk result (λ fields. bytes_of fields.items ≡ cleaned_cells (B.kit cleaner.now.book.now) row.setting.now
+        row.layout.now.header (bytes_of row.cells.now) verdict.now end.now) }
 {
     match verdict {
-        Verdict::Fix { .. } => cells_shown(alloc, setting, layout, book, cells, end),
+        Verdict::Fix { .. } => cells_shown(cleaner, end),
         Verdict::Conflict => {
-            let mut fields = Vec::new(alloc);
-            fields.extend_from_slice(cells)?;
+            let mut fields = Vec::new(cleaner.alloc);
+            fields.extend_from_slice(cleaner.row.cells)?;
             Ok(fields)
         }
     }
@@ -73,46 +61,37 @@ fn cleaned_cells<'a, B: Book<()>>(
 
 /// The cells of a row at the end of a run.
 fn cells_shown<'a, B: Book<()>>(
-    alloc: Global,
-    setting: &Setting,
-    layout: &Layout,
-    book: &'a B,
-    cells: &[&'a [u8]],
+    cleaner: &'a RowCleaner<'_, B>,
     end: &'a State,
 ) -> Result<Vec<&'a [u8]>, NoMemory>
-    requires laid { IsLayout setting.now layout.now }
-    requires narrow { length setting.now.names.attributes ≤ 48 }
-    requires full { length cells.now ≡ length layout.now.header }
-    requires fits { Fits (B.kit book.now) end.now }
-    ensures { IfOk result (λ fields. bytes_of fields.items ≡ cells_shown (B.kit book.now) setting.now
-        layout.now.header (bytes_of cells.now) end.now) }
+    requires { IsRowAt (B.kit cleaner.now.book.now) cleaner.now.row end.now }
+    ensures { let row = cleaner.now.row in
+        IfOk result (λ fields. bytes_of fields.items ≡ cells_shown (B.kit cleaner.now.book.now) row.setting.now
+        row.layout.now.header (bytes_of row.cells.now) end.now) }
 {
-    let count = layout.header.len();
-    let mut fields = Vec::new(alloc);
+    let count = cleaner.row.layout.header.len();
+    let mut fields = Vec::new(cleaner.alloc);
     'columns: for column in 0..count {
-        fields.push(cell_shown(setting, layout, book, cells, end, column))?;
+        fields.push(cell_shown(cleaner, end, column))?;
     }
     Ok(fields)
 }
 
 /// The cell of a row in a column, at the end of a run.
 fn cell_shown<'a, B: Book<()>>(
-    setting: &Setting,
-    layout: &Layout,
-    book: &'a B,
-    cells: &[&'a [u8]],
+    cleaner: &'a RowCleaner<'_, B>,
     end: &'a State,
     column: usize,
 ) -> &'a [u8]
-    requires laid { IsLayout setting.now layout.now }
-    requires narrow { length setting.now.names.attributes ≤ 48 }
-    requires within { column < length layout.now.header }
-    requires fits { Fits (B.kit book.now) end.now }
-    ensures { result.now ≡ cell_shown (B.kit book.now) setting.now layout.now.header (bytes_of cells.now)
-        end.now column }
+    requires row_at { IsRowAt (B.kit cleaner.now.book.now) cleaner.now.row end.now }
+    requires within { column < length cleaner.now.row.layout.now.header }
+    ensures { let row = cleaner.now.row in
+        result.now ≡ cell_shown (B.kit cleaner.now.book.now) row.setting.now row.layout.now.header
+        (bytes_of row.cells.now) end.now column }
 {
-    let attribute = layout.attribute_at(setting, column);
-    column_shown(book, end, cell_at(cells, column), attribute)
+    let row = &cleaner.row;
+    let attribute = row.layout.attribute_at(row.setting, column);
+    column_shown(cleaner.book, end, cell_at(row.cells, column), attribute)
 }
 
 /// The cell of a column at the end of a run.

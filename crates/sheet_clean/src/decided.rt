@@ -3,12 +3,12 @@ ghost use Rattle.std.specs.Prelude.{◌≡◌, ◌≤◌, IfOk, length};
 ghost use Rattle.desk_base.specs.Texts.{bytes_of};
 ghost use Rattle.fix_engine.specs.WorkSeen.{IsRoomFor};
 ghost use Rattle.fix_engine.specs.declared.verdict.Verdict.TheVariants.{Fix, Conflict};
-ghost use Rattle.fix_model.specs.States.{Fits};
 ghost use Rattle.fix_model.specs.Valid.{IsValid};
 ghost use Rattle.fix_model.specs.declared.state.State.{State as StateOf};
 ghost use Rattle.sheet_clean.specs.Fields.{dissent_lines};
 ghost use Rattle.sheet_clean.specs.Layouts.{IsLayout};
 ghost use Rattle.sheet_clean.specs.Setting.{IsSettingOf};
+ghost use Rattle.sheet_clean.specs.SheetRows.{IsRowAt};
 ghost use Rattle.sheet_clean.specs.Sheets.{verdict_summary};
 ghost use Rattle.sheet_clean.specs.Steps.{IsOriginOf};
 ghost use Rattle.sheet_clean.specs.Writing.{GivesLines, GivesRow, Writes};
@@ -20,7 +20,9 @@ use crate::dissents::write_dissent;
 use crate::drafts::Drafts;
 use crate::layout::Layout;
 use crate::row::row_state;
+use crate::row_cleaner::RowCleaner;
 use crate::setting::Setting;
+use crate::sheet_row::SheetRow;
 use crate::summary::Summary;
 use csv::Writer;
 use desk_base::{Duplicate, NoMemory, Steps};
@@ -50,23 +52,29 @@ pub fn write_decided<B: Book<()>>(
         (bytes_of cells.now) drafts.old drafts.new summary) }
     ensures room { IsRoomFor work.new (B.kit book.now) }
 {
-    let mut state = row_state(alloc, setting, layout, cells)?;
+    let cleaner = RowCleaner {
+        alloc,
+        book,
+        row: SheetRow {
+            setting,
+            layout,
+            number,
+            cells,
+        },
+    };
+    let mut state = row_state(alloc, &cleaner.row)?;
     let mut steps = Steps::new(());
     match decide(work, book, &mut state, &mut steps) {
         Verdict::Fix { certain, dissent } => {
             apply::<(), B>(book, &mut state, work.first());
-            let counted = write_fix(
-                alloc, setting, layout, book, number, cells, certain, dissent, &state, drafts,
-            )?;
+            let counted = write_fix(&cleaner, certain, dissent, &state, drafts)?;
             Ok(counted)
         }
         Verdict::Conflict => {
             let mut second = state.copy()?;
             apply::<(), B>(book, &mut state, work.first());
             apply::<(), B>(book, &mut second, work.second());
-            let counted = write_conflict(
-                alloc, setting, layout, book, number, cells, &state, &second, drafts,
-            )?;
+            let counted = write_conflict(&cleaner, &state, &second, drafts)?;
             Ok(counted)
         }
     }
@@ -74,61 +82,26 @@ pub fn write_decided<B: Book<()>>(
 
 /// Puts the lines of a row at a fix after those of the drafts.
 fn write_fix<B: Book<()>>(
-    alloc: Global,
-    setting: &Setting,
-    layout: &Layout,
-    book: &B,
-    number: u64,
-    cells: &[&[u8]],
+    cleaner: &RowCleaner<'_, B>,
     certain: bool,
     dissent: Option<Step>,
     end: &State,
     drafts: &mut Drafts,
 ) -> Result<Summary, NoMemory>
-    requires laid { IsLayout setting.now layout.now }
-    requires set { IsSettingOf (B.kit book.now) setting.now }
-    requires narrow { length setting.now.names.attributes ≤ 48 }
-    requires full { length cells.now ≡ length layout.now.header }
-    requires fits { Fits (B.kit book.now) end.now }
-    requires step_of { IsOriginOf (B.kit book.now) dissent }
-    ensures { IfOk result (λ summary. (second : StateOf) → GivesLines (B.kit book.now) setting.now
-        layout.now.header number
+    requires row_at { IsRowAt (B.kit cleaner.now.book.now) cleaner.now.row end.now }
+    requires step_of { IsOriginOf (B.kit cleaner.now.book.now) dissent }
+    ensures { let row = cleaner.now.row in
+        IfOk result (λ summary. (second : StateOf) → GivesLines (B.kit cleaner.now.book.now) row.setting.now
+        row.layout.now.header row.number
         (record {
-          cells = bytes_of cells.now;
+          cells = bytes_of row.cells.now;
           decision = record { verdict = Fix certain dissent; first = end.now; second = second };
         }) drafts.old drafts.new summary) }
 {
     let verdict = Verdict::Fix { certain, dissent };
-    write_row(
-        alloc,
-        &mut drafts.clean,
-        setting,
-        layout,
-        book,
-        cells,
-        &verdict,
-        end,
-    )?;
-    let changed = write_changes(
-        alloc,
-        &mut drafts.changes,
-        setting,
-        layout,
-        book,
-        number,
-        cells,
-        end,
-    )?;
-    let dissents = write_dissents(
-        alloc,
-        &mut drafts.dissents,
-        setting,
-        book,
-        number,
-        certain,
-        dissent,
-        end,
-    )?;
+    write_row(cleaner, &mut drafts.clean, &verdict, end)?;
+    let changed = write_changes(cleaner, &mut drafts.changes, end)?;
+    let dissents = write_dissents(cleaner, &mut drafts.dissents, certain, dissent, end)?;
     let counted = verdict_summary(&verdict);
     Ok(Summary {
         changed,
@@ -164,71 +137,43 @@ fn verdict_summary(verdict: &Verdict) -> Summary
 /// Writes the line of the least step that dissents from a row at a fix, if one does, and answers how many lines these
 /// are.
 fn write_dissents<B: Book<()>>(
-    alloc: Global,
+    cleaner: &RowCleaner<'_, B>,
     writer: &mut Writer<Vec<u8>>,
-    setting: &Setting,
-    book: &B,
-    number: u64,
     certain: bool,
     dissent: Option<Step>,
     end: &State,
 ) -> Result<u64, NoMemory>
-    requires set { IsSettingOf (B.kit book.now) setting.now }
-    requires fits { Fits (B.kit book.now) end.now }
-    requires step_of { IsOriginOf (B.kit book.now) dissent }
-    ensures { IfOk result (λ count. Writes setting.now writer.old writer.new
-        (dissent_lines (B.kit book.now) setting.now number (Fix certain dissent) end.now) count) }
+    requires row_at { IsRowAt (B.kit cleaner.now.book.now) cleaner.now.row end.now }
+    requires step_of { IsOriginOf (B.kit cleaner.now.book.now) dissent }
+    ensures { let row = cleaner.now.row in
+        IfOk result (λ count. Writes row.setting.now writer.old writer.new
+        (dissent_lines (B.kit cleaner.now.book.now) row.setting.now row.number (Fix certain dissent) end.now) count) }
 {
     match dissent {
-        Some(step) => write_dissent(alloc, writer, setting, book, number, end, step),
+        Some(step) => write_dissent(cleaner, writer, end, step),
         None => Ok(0),
     }
 }
 
 /// Puts the lines of a row at a conflict after those of the drafts.
 fn write_conflict<B: Book<()>>(
-    alloc: Global,
-    setting: &Setting,
-    layout: &Layout,
-    book: &B,
-    number: u64,
-    cells: &[&[u8]],
+    cleaner: &RowCleaner<'_, B>,
     first: &State,
     second: &State,
     drafts: &mut Drafts,
 ) -> Result<Summary, NoMemory>
-    requires laid { IsLayout setting.now layout.now }
-    requires set { IsSettingOf (B.kit book.now) setting.now }
-    requires narrow { length setting.now.names.attributes ≤ 48 }
-    requires full { length cells.now ≡ length layout.now.header }
-    requires first_fits { Fits (B.kit book.now) first.now }
-    requires second_fits { Fits (B.kit book.now) second.now }
-    ensures { IfOk result (λ summary. GivesLines (B.kit book.now) setting.now layout.now.header number (record {
-      cells = bytes_of cells.now;
-      decision = record { verdict = Conflict; first = first.now; second = second.now };
-    }) drafts.old drafts.new summary) }
+    requires first { IsRowAt (B.kit cleaner.now.book.now) cleaner.now.row first.now }
+    requires second { IsRowAt (B.kit cleaner.now.book.now) cleaner.now.row second.now }
+    ensures { let row = cleaner.now.row in
+        IfOk result (λ summary. GivesLines (B.kit cleaner.now.book.now) row.setting.now row.layout.now.header
+        row.number
+        (record {
+          cells = bytes_of row.cells.now;
+          decision = record { verdict = Conflict; first = first.now; second = second.now };
+        }) drafts.old drafts.new summary) }
 {
     let verdict = Verdict::Conflict;
-    write_row(
-        alloc,
-        &mut drafts.clean,
-        setting,
-        layout,
-        book,
-        cells,
-        &verdict,
-        first,
-    )?;
-    write_conflicts(
-        alloc,
-        &mut drafts.conflicts,
-        setting,
-        layout,
-        book,
-        number,
-        cells,
-        first,
-        second,
-    )?;
+    write_row(cleaner, &mut drafts.clean, &verdict, first)?;
+    write_conflicts(cleaner, &mut drafts.conflicts, first, second)?;
     Ok(verdict_summary(&verdict))
 }

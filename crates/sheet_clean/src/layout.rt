@@ -7,7 +7,6 @@ ghost use Rattle.sheet_clean.specs.Header.{attribute_of, column_of, header_fault
 ghost use Rattle.sheet_clean.specs.declared.fault.SheetFault.{SheetFault as FaultOf};
 ghost use Rattle.sheet_clean.specs.declared.layout.LayoutFault.TheVariants as fault;
 ghost use Rattle.sheet_clean.specs.Layouts.{IsLayout};
-ghost use Rattle.sheet_clean.specs.Row.{typed_at};
 
 use crate::fault::SheetFault;
 use crate::fields::{place_of, texts_of};
@@ -63,23 +62,6 @@ impl Layout {
         ensures { result ≡ is_some (column_of setting.now self.now.header attribute) }
     {
         self.columns[usize::from(attribute)].is_some()
-    }
-
-    /// What a row of these cells has for an attribute: a cell, or a blank.
-    pub(crate) fn typed<'a>(
-        &self,
-        setting: &Setting,
-        cells: &[&'a [u8]],
-        attribute: u16,
-    ) -> &'a [u8]
-        requires laid { IsLayout setting.now self.now }
-        requires within { attribute < length setting.now.names.attributes }
-        ensures { result.now ≡ typed_at setting.now self.now.header (bytes_of cells.now) attribute }
-    {
-        match self.columns[usize::from(attribute)] {
-            Some(column) => cell_at(cells, column),
-            None => b"",
-        }
     }
 }
 

@@ -8,11 +8,13 @@ ghost use Rattle.sheet_clean.specs.Layouts.{IsLayout};
 ghost use Rattle.sheet_clean.specs.Row.{decided_at, decided_text, is_confirmed, is_long};
 ghost use Rattle.sheet_clean.specs.Row.{long_fault, row_fault, row_state};
 ghost use Rattle.sheet_clean.specs.Setting.{IsSettingOf};
+ghost use Rattle.sheet_clean.specs.SheetRows.{IsSheetRow};
 
 use crate::fault::SheetFault;
 use crate::fields::are_texts;
 use crate::layout::Layout;
 use crate::setting::Setting;
+use crate::sheet_row::SheetRow;
 use desk_base::{List, MAX_TEXT, NoMemory, Text, TextFault};
 use fix_model::State;
 use std::alloc::Global;
@@ -36,77 +38,64 @@ pub fn row_fault(
     if !are_texts(cells) {
         return Some(SheetFault::NotUtf8(number));
     }
-    long_fault(setting, layout, number, cells)
+    let row = SheetRow {
+        setting,
+        layout,
+        number,
+        cells,
+    };
+    long_fault(&row)
 }
 
 /// The first known attribute whose cell is longer than a text of a desk.
-fn long_fault(
-    setting: &Setting,
-    layout: &Layout,
-    number: u64,
-    cells: &[&[u8]],
-) -> Option<SheetFault>
-    requires laid { IsLayout setting.now layout.now }
-    requires known { length setting.now.known ≡ length setting.now.names.attributes }
-    requires narrow { length setting.now.names.attributes ≤ 48 }
-    ensures { result ≡ long_fault setting.now layout.now.header number (bytes_of cells.now) }
+fn long_fault(row: &SheetRow<'_>) -> Option<SheetFault>
+    requires { IsSheetRow row.now }
+    ensures { result ≡ long_fault row.now.setting.now row.now.layout.now.header row.now.number
+        (bytes_of row.now.cells.now) }
 {
-    let count = setting.names.attributes.len() as u16;
+    let count = row.setting.names.attributes.len() as u16;
     'attributes: for attribute in 0..count {
-        if is_long(setting, layout, cells, attribute) {
-            return Some(SheetFault::CellLong(number, u64::from(attribute)));
+        if is_long(row, attribute) {
+            return Some(SheetFault::CellLong(row.number, u64::from(attribute)));
         }
     }
     None
 }
 
 /// Whether an attribute is known, and its cell is longer than a text of a desk.
-fn is_long(setting: &Setting, layout: &Layout, cells: &[&[u8]], attribute: u16) -> bool
-    requires laid { IsLayout setting.now layout.now }
-    requires known { length setting.now.known ≡ length setting.now.names.attributes }
-    requires within { attribute < length setting.now.names.attributes }
-    ensures { result ≡ is_long setting.now layout.now.header (bytes_of cells.now) attribute }
+fn is_long(row: &SheetRow<'_>, attribute: u16) -> bool
+    requires row { IsSheetRow row.now }
+    requires within { attribute < length row.now.setting.now.names.attributes }
+    ensures { result ≡ is_long row.now.setting.now row.now.layout.now.header (bytes_of row.now.cells.now) attribute }
 {
-    setting.is_known(usize::from(attribute))
-        && layout.typed(setting, cells, attribute).len() > MAX_TEXT
+    row.setting.is_known(usize::from(attribute)) && row.typed(attribute).len() > MAX_TEXT
 }
 
-/// The state in which the row with these cells is decided.
-pub(crate) fn row_state(
-    alloc: Global,
-    setting: &Setting,
-    layout: &Layout,
-    cells: &[&[u8]],
-) -> Result<State, NoMemory>
-    requires laid { IsLayout setting.now layout.now }
-    requires known { length setting.now.known ≡ length setting.now.names.attributes }
-    requires narrow { length setting.now.names.attributes ≤ 48 }
-    ensures state { IfOk result (λ state. state ≡ row_state setting.now layout.now.header (bytes_of cells.now)) }
-    ensures fits { IfOk result (λ state. (kit : Kit) → IsSettingOf kit setting.now → Fits kit state) }
+/// The state in which the row is decided.
+pub(crate) fn row_state(alloc: Global, row: &SheetRow<'_>) -> Result<State, NoMemory>
+    requires { IsSheetRow row.now }
+    ensures state { IfOk result (λ state. state ≡ row_state row.now.setting.now row.now.layout.now.header
+        (bytes_of row.now.cells.now)) }
+    ensures fits { IfOk result (λ state. (kit : Kit) → IsSettingOf kit row.now.setting.now → Fits kit state) }
 {
-    let typed = decided_texts(alloc, setting, layout, cells)?;
-    let confirmed = confirmed_flags(alloc, setting, layout, cells)?;
+    let typed = decided_texts(alloc, row)?;
+    let confirmed = confirmed_flags(alloc, row)?;
     let state = State::new(alloc, typed, confirmed.as_slice())?;
     Ok(state)
 }
 
 /// The texts that are decided over.
-fn decided_texts(
-    alloc: Global,
-    setting: &Setting,
-    layout: &Layout,
-    cells: &[&[u8]],
-) -> Result<List<Text>, NoMemory>
-    requires laid { IsLayout setting.now layout.now }
-    requires narrow { length setting.now.names.attributes ≤ 48 }
-    ensures texts { IfOk result (λ typed. typed ≡ map (decided_at setting.now layout.now.header (bytes_of cells.now))
-        (range_with_len 0 (length setting.now.names.attributes))) }
-    ensures full { IfOk result (λ typed. length typed ≡ length setting.now.names.attributes) }
+fn decided_texts(alloc: Global, row: &SheetRow<'_>) -> Result<List<Text>, NoMemory>
+    requires { IsSheetRow row.now }
+    ensures texts { IfOk result (λ typed. typed
+        ≡ map (decided_at row.now.setting.now row.now.layout.now.header (bytes_of row.now.cells.now))
+        (range_with_len 0 (length row.now.setting.now.names.attributes))) }
+    ensures full { IfOk result (λ typed. length typed ≡ length row.now.setting.now.names.attributes) }
 {
-    let count = setting.names.attributes.len() as u16;
+    let count = row.setting.names.attributes.len() as u16;
     let mut texts = List::new(alloc);
     'attributes: for attribute in 0..count {
-        let cell = layout.typed(setting, cells, attribute);
+        let cell = row.typed(attribute);
         texts.push(decided_text(alloc, cell)?)?;
     }
     Ok(texts)
@@ -126,33 +115,27 @@ fn decided_text(alloc: Global, text: &[u8]) -> Result<Text, NoMemory>
 }
 
 /// For each attribute whether it is known, and not blank.
-fn confirmed_flags(
-    alloc: Global,
-    setting: &Setting,
-    layout: &Layout,
-    cells: &[&[u8]],
-) -> Result<List<bool>, NoMemory>
-    requires laid { IsLayout setting.now layout.now }
-    requires known { length setting.now.known ≡ length setting.now.names.attributes }
-    requires narrow { length setting.now.names.attributes ≤ 48 }
-    ensures flags { IfOk result (λ flags. flags ≡ map (is_confirmed setting.now layout.now.header (bytes_of cells.now))
-        (range_with_len 0 (length setting.now.names.attributes))) }
-    ensures full { IfOk result (λ flags. length flags ≡ length setting.now.names.attributes) }
+fn confirmed_flags(alloc: Global, row: &SheetRow<'_>) -> Result<List<bool>, NoMemory>
+    requires { IsSheetRow row.now }
+    ensures flags { IfOk result (λ flags. flags
+        ≡ map (is_confirmed row.now.setting.now row.now.layout.now.header (bytes_of row.now.cells.now))
+        (range_with_len 0 (length row.now.setting.now.names.attributes))) }
+    ensures full { IfOk result (λ flags. length flags ≡ length row.now.setting.now.names.attributes) }
 {
-    let count = setting.names.attributes.len() as u16;
+    let count = row.setting.names.attributes.len() as u16;
     let mut flags = List::new(alloc);
     'attributes: for attribute in 0..count {
-        flags.push(is_confirmed(setting, layout, cells, attribute))?;
+        flags.push(is_confirmed(row, attribute))?;
     }
     Ok(flags)
 }
 
 /// Whether an attribute is known, and not blank.
-fn is_confirmed(setting: &Setting, layout: &Layout, cells: &[&[u8]], attribute: u16) -> bool
-    requires laid { IsLayout setting.now layout.now }
-    requires known { length setting.now.known ≡ length setting.now.names.attributes }
-    requires within { attribute < length setting.now.names.attributes }
-    ensures { result ≡ is_confirmed setting.now layout.now.header (bytes_of cells.now) attribute }
+fn is_confirmed(row: &SheetRow<'_>, attribute: u16) -> bool
+    requires row { IsSheetRow row.now }
+    requires within { attribute < length row.now.setting.now.names.attributes }
+    ensures { result ≡ is_confirmed row.now.setting.now row.now.layout.now.header (bytes_of row.now.cells.now)
+        attribute }
 {
-    setting.is_known(usize::from(attribute)) && !layout.typed(setting, cells, attribute).is_empty()
+    row.setting.is_known(usize::from(attribute)) && !row.typed(attribute).is_empty()
 }

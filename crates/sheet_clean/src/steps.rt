@@ -1,14 +1,15 @@
 //! The fields that say where a text comes from.
-ghost use Rattle.std.specs.Prelude.{◌≡◌, ◌+◌, ◌++◌, IfOk, OnOk, decimal, string_bytes, length};
+ghost use Rattle.std.specs.Prelude.{◌≡◌, ◌+◌, ◌++◌, IfOk, OnOk, decimal, string_bytes};
 ghost use Rattle.desk_base.specs.Texts.{bytes_of};
-ghost use Rattle.fix_model.specs.Rules.{IsStepOf};
+ghost use Rattle.fix_model.specs.Rules.{IsStepOf, rule_at};
+ghost use Rattle.fix_model.specs.Valid.{IsValidRule};
 ghost use Rattle.sheet_clean.specs.Fields.{origin_fields, step_fields};
-ghost use Rattle.sheet_clean.specs.Setting.{IsSettingOf};
+ghost use Rattle.sheet_clean.specs.SheetRows.{IsRowOf};
 ghost use Rattle.sheet_clean.specs.Steps.{IsOriginOf, origin_digits};
 
-use crate::setting::Setting;
+use crate::row_cleaner::RowCleaner;
 use desk_base::NoMemory;
-use fix_model::{Book, Step};
+use fix_model::{Book, Rule, Step};
 use std::alloc::Global;
 
 /// A number as digits.
@@ -28,47 +29,55 @@ pub(crate) fn row_digits(alloc: Global, step: Option<Step>) -> Result<String, No
     }
 }
 
-/// Puts the rule of a step, the rule's master and the row after the fields of a line.
-pub(crate) fn push_step<'a, B: Book<()>>(
-    fields: &mut Vec<&'a [u8]>,
-    setting: &'a Setting,
-    book: &B,
-    step: Step,
-    row: &'a str,
-) -> Result<(), NoMemory>
-    requires set { IsSettingOf (B.kit book.now) setting.now }
-    requires step_of { IsStepOf (B.kit book.now) step }
-    requires row_is { row.now ≡ decimal (step.row + 1) }
-    ensures { OnOk result (bytes_of fields.new.items
-        ≡ bytes_of fields.old.items ++ step_fields (B.kit book.now) setting.now step) }
+/// The rule of a step.
+pub(crate) fn rule_of<B: Book<()>>(book: &B, step: Step) -> &Rule
+    requires { IsStepOf (B.kit book.now) step }
+    ensures rule { result.now ≡ rule_at (B.kit book.now) step.rule }
+    ensures valid { IsValidRule (B.kit book.now) result.now }
 {
-    let master = book.rules()[usize::from(step.rule)].master;
-    fields.push(setting.rule_name(step.rule).as_str().as_bytes())?;
-    fields.push(setting.master_name(master).as_str().as_bytes())?;
-    fields.push(row.as_bytes())?;
+    &book.rules()[usize::from(step.rule)]
+}
+
+/// Puts the rule of a step, the rule's master and the row, of which these are the digits, after the fields of a line.
+pub(crate) fn push_step<'a, B: Book<()>>(
+    line: &mut Vec<&'a [u8]>,
+    cleaner: &'a RowCleaner<'_, B>,
+    step: Step,
+    digits: &'a str,
+) -> Result<(), NoMemory>
+    requires row_of { IsRowOf (B.kit cleaner.now.book.now) cleaner.now.row }
+    requires step_of { IsStepOf (B.kit cleaner.now.book.now) step }
+    requires digits_are { digits.now ≡ decimal (step.row + 1) }
+    ensures { OnOk result (bytes_of line.new.items ≡ bytes_of line.old.items
+        ++ step_fields (B.kit cleaner.now.book.now) cleaner.now.row.setting.now step) }
+{
+    let setting = cleaner.row.setting;
+    let master = rule_of(cleaner.book, step).master;
+    line.push(setting.rule_name(step.rule).as_str().as_bytes())?;
+    line.push(setting.master_name(master).as_str().as_bytes())?;
+    line.push(digits.as_bytes())?;
     Ok(())
 }
 
 /// Puts the same after them, or three blanks where there is no step.
 pub(crate) fn push_origin<'a, B: Book<()>>(
-    fields: &mut Vec<&'a [u8]>,
-    setting: &'a Setting,
-    book: &B,
+    line: &mut Vec<&'a [u8]>,
+    cleaner: &'a RowCleaner<'_, B>,
     step: Option<Step>,
-    row: &'a str,
+    digits: &'a str,
 ) -> Result<(), NoMemory>
-    requires set { IsSettingOf (B.kit book.now) setting.now }
-    requires step_of { IsOriginOf (B.kit book.now) step }
-    requires row_is { row.now ≡ origin_digits step }
-    ensures { OnOk result (bytes_of fields.new.items
-        ≡ bytes_of fields.old.items ++ origin_fields (B.kit book.now) setting.now step) }
+    requires row_of { IsRowOf (B.kit cleaner.now.book.now) cleaner.now.row }
+    requires step_of { IsOriginOf (B.kit cleaner.now.book.now) step }
+    requires digits_are { digits.now ≡ origin_digits step }
+    ensures { OnOk result (bytes_of line.new.items ≡ bytes_of line.old.items
+        ++ origin_fields (B.kit cleaner.now.book.now) cleaner.now.row.setting.now step) }
 {
     match step {
-        Some(step) => push_step(fields, setting, book, step, row),
+        Some(step) => push_step(line, cleaner, step, digits),
         None => {
-            fields.push(b"".as_slice())?;
-            fields.push(b"".as_slice())?;
-            fields.push(b"".as_slice())?;
+            line.push(b"".as_slice())?;
+            line.push(b"".as_slice())?;
+            line.push(b"".as_slice())?;
             Ok(())
         }
     }

@@ -94,12 +94,6 @@ ends-whole kit setting (Some layout) summary old new taken sheets read stands = 
 
 -- ---- counts of faults
 
-pub NoneFell-then : (old mid new : World) → NoneFell old mid → NoneFell mid new → NoneFell old new
-NoneFell-then old mid new first second = record {
-  read_faults = omega (arith, first.read_faults, second.read_faults);
-  sinks = Later-then old.sinks mid.sinks new.sinks first.sinks second.sinks;
-}
-
 -- ---- blocks
 
 -- these bytes were read, and of them these taken and written
@@ -359,12 +353,6 @@ ends-unfilled kit setting TakeRest cleaning blocks old now new at begins same bl
     ends-unread kit setting cleaning TakeRest blocks old now new at begins (kept refl).0 same (kept refl).1
 ends-unfilled kit setting TakeRest cleaning blocks old now new at begins same blocks_fault.NoMemory kept lost =
     ends-reading kit setting cleaning TakeRest blocks old now new at begins (lost refl) same
-
--- a source that does not fail is at fault never
-pub faultless-unread : (summary : Option Summary) (fault : BlocksFault) → (¬ (fault ≡ blocks_fault.Failed))
-    → IsFaultless (unread_end summary fault)
-faultless-unread summary blocks_fault.Failed not = absurd (not refl)
-faultless-unread summary blocks_fault.NoMemory not = tt
 
 -- ---- a block is taken, or not
 

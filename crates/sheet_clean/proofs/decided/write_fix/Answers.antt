@@ -6,7 +6,7 @@ pub returns : goal.returns
 returns g c = λ second. record {
   written = λ sheets has. record {
     clean = c.in_ok-write_row.ensures sheets.clean has.clean;
-    changes = rw c.requires.set.attributes (c.in_ok-changed.ensures.written sheets.changes has.changes);
+    changes = rw c.requires.row_at.row_of.set.attributes (c.in_ok-changed.ensures.written sheets.changes has.changes);
     conflicts = rw (append-nil sheets.conflicts) has.conflicts;
     dissents = c.in_ok-dissents.ensures.written sheets.dissents has.dissents;
   };
@@ -14,6 +14,6 @@ returns g c = λ second. record {
     c.verdict_summary-counted.ensures,
     c.in_ok-changed.ensures.counted,
     c.in_ok-dissents.ensures.counted,
-    c.requires.set.attributes,
+    c.requires.row_at.row_of.set.attributes,
   ) refl;
 }

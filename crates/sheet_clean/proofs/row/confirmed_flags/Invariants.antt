@@ -5,7 +5,10 @@ use Rattle.sheet_clean.specs.Row.{is_confirmed}
 use Rattle.sheet_clean.proofs.row.confirmed_flags.Given as goal
 
 abbrev pub invariant-attributes : goal.invariant-attributes
-invariant-attributes l = record {
-  flags : l.flags ≡ map (is_confirmed l.setting l.layout.header (bytes_of l.cells)) (range_with_len 0 l.attribute);
-  full : length l.flags ≡ l.attribute;
-}
+invariant-attributes l =
+    let row = l.row in
+    record {
+      flags : l.flags ≡ map (is_confirmed row.setting.now row.layout.now.header (bytes_of row.cells.now))
+          (range_with_len 0 l.attribute);
+      full : length l.flags ≡ l.attribute;
+    }

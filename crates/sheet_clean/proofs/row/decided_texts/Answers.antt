@@ -6,7 +6,8 @@ use Rattle.sheet_clean.proofs.row.decided_texts.Goals as goal
 
 pub attributes-preserved : goal.attributes-preserved
 attributes-preserved c =
-    let decided = decided_at c.args.setting.now c.args.layout.now.header (bytes_of c.args.cells.now) in
+    let row = c.args.row.now in
+    let decided = decided_at row.setting.now row.layout.now.header (bytes_of row.cells.now) in
     let place : ℕ = c.attributes.attribute in
     record {
       texts = rw (

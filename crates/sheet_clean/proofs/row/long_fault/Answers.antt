@@ -6,19 +6,22 @@ use Rattle.sheet_clean.proofs.row.long_fault.Goals as goal
 
 pub returns-then-is_long : goal.returns-then-is_long
 returns-then-is_long c =
-    let test = is_long c.args.setting.now c.args.layout.now.header (bytes_of c.args.cells.now) in
-    let count = length c.args.setting.now.names.attributes in
+    let row = c.args.row.now in
+    let test = is_long row.setting.now row.layout.now.header (bytes_of row.cells.now) in
+    let count = length row.setting.now.names.attributes in
     rw (first-of-range test count c.attributes.attribute
     (omega (arith, c.attributes-test.true, c.len-count.ensures)) c.attributes.invariant
     (sym c.is_long.ensures ∙ c.if-is_long.true)) (rw c.from.ensures refl)
 
 pub attributes-preserved : goal.attributes-preserved
 attributes-preserved c =
-    let test = is_long c.args.setting.now c.args.layout.now.header (bytes_of c.args.cells.now) in
+    let row = c.args.row.now in
+    let test = is_long row.setting.now row.layout.now.header (bytes_of row.cells.now) in
     before-next test c.attributes.attribute c.attributes.invariant (sym c.is_long.ensures ∙ c.if-is_long.false)
 
 pub returns : goal.returns
 returns c =
-    let test = is_long c.args.setting.now c.args.layout.now.header (bytes_of c.args.cells.now) in
-    rw (none-of-range test (length c.args.setting.now.names.attributes) (λ before less.
+    let row = c.args.row.now in
+    let test = is_long row.setting.now row.layout.now.header (bytes_of row.cells.now) in
+    rw (none-of-range test (length row.setting.now.names.attributes) (λ before less.
     c.attributes.invariant before (omega (arith, less, c.attributes-test.false, c.len-count.ensures)))) refl

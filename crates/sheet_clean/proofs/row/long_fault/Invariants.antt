@@ -4,5 +4,7 @@ use Rattle.sheet_clean.specs.Row.{is_long}
 use Rattle.sheet_clean.proofs.row.long_fault.Given as goal
 
 abbrev pub invariant-attributes : goal.invariant-attributes
-invariant-attributes l = (before : ℕ) → before < l.attribute
-    → is_long l.setting l.layout.header (bytes_of l.cells) before ≡ false
+invariant-attributes l =
+    let row = l.row in
+    (before : ℕ) → before < l.attribute
+    → is_long row.setting.now row.layout.now.header (bytes_of row.cells.now) before ≡ false
