@@ -8,6 +8,12 @@ ghost use Rattle.tcp_door.specs.Time.{IsOver, begun, end_from};
 use std::marker::Model;
 use std::time::{Duration, Instant};
 
+/// How many seconds a peer is waited for in all until its request is read, and again until it has taken its response.
+pub(crate) const WAIT: u64 = 10;
+
+/// How many seconds a peer is waited for in all until it closes its own side, after its response.
+pub(crate) const LAST_WAIT: u64 = 2;
+
 /// A time for all waits together, which begins with the first of them.
 #[derive(Debug, Drop)]
 pub struct Deadline {

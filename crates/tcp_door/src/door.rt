@@ -1,44 +1,28 @@
 //! A door on a TCP port of the loopback address. A clause sees its counts and its port.
-ghost use Rattle.std.specs.Prelude.{◌≡◌, ℕ, IfOk, None};
-ghost use Rattle.desk_base.specs.Faults.{HasCause};
+ghost use Rattle.std.specs.Prelude.{◌≡◌, IfOk, None};
 ghost use Rattle.tcp_door.specs.Tcp.{fresh_end};
 
+use crate::door_state::DoorState;
 use crate::ends::{TcpSink, TcpSource};
-use desk_base::{Both, Failed, FaultCount};
+use desk_base::{Both, Failed};
 use desk_links::Listener;
 use std::io;
 use std::marker::Model;
 use std::net::{Ipv4Addr, OpenListener, TcpListener};
 
-/// A port that is listened at, and how many links were handed out since.
-#[derive(Drop)]
-struct Bound {
-    listener: TcpListener,
-    port: u16,
-    accepted: u32,
-}
-
 /// A door on a port of 127.0.0.1. It tells nothing of the bytes of its peers.
 #[derive(Drop)]
 pub struct TcpDoor<'r> {
     rt: &'r HostRuntime,
-    bound: Option<Bound>,
-    live: u32,
-    faults: FaultCount,
+    state: DoorState<TcpListener>,
 }
 
 impl<'r> Model for TcpDoor<'r> {
-    ghost use Rattle.std.specs.Prelude.{option_map};
     ghost use Rattle.tcp_door.specs.Tcp.{TcpSeen};
 
     ghost Value = { TcpSeen };
 
-    ghost view = { λ d. record {
-      port = option_map (λ bound. bound.port) d.bound;
-      accepted = option_map (λ bound. bound.accepted) d.bound;
-      live = d.live;
-      faults = d.faults;
-    } };
+    ghost view = { λ d. d.state };
 }
 
 impl<'r> TcpDoor<'r> {
@@ -48,9 +32,7 @@ impl<'r> TcpDoor<'r> {
     {
         TcpDoor {
             rt,
-            bound: None,
-            live: 0,
-            faults: FaultCount::at(0),
+            state: DoorState::new(),
         }
     }
 }
@@ -88,37 +70,13 @@ impl<'r> Listener for TcpDoor<'r> {
     ghost offers = { λ _ _. ⊥ };
 
     fn bind(&mut self, number: u16) -> Result<(), Failed> {
-        match TcpListener::bind(self.rt, (Ipv4Addr::LOCALHOST, number)) {
-            Ok(listener) => {
-                self.bound = Some(Bound {
-                    listener,
-                    port: number,
-                    accepted: 0,
-                });
-                Ok(())
-            }
-            Err(_) => {
-                self.faults.rise();
-                Err(Failed)
-            }
-        }
+        let listening = TcpListener::bind(self.rt, (Ipv4Addr::LOCALHOST, number));
+        self.state.bind(number, listening)
     }
 
     fn accept(&mut self) -> Result<Both<TcpSource<'r>, TcpSink<'r>>, Failed> {
-        let Some(bound) = &mut self.bound else {
-            unreachable!()
-        };
-        match connect(self.rt, &bound.listener) {
-            Ok(link) => {
-                bound.accepted += 1;
-                self.live = 1;
-                Ok(link)
-            }
-            Err(_) => {
-                self.faults.rise();
-                Err(Failed)
-            }
-        }
+        let next = connect(self.rt, self.state.listener());
+        self.state.accept(next)
     }
 
     fn close(&mut self, link: Both<TcpSource<'r>, TcpSink<'r>>)
@@ -131,6 +89,6 @@ impl<'r> Listener for TcpDoor<'r> {
         if !is_lost {
             source.drain();
         }
-        self.live = 0;
+        self.state.close();
     }
 }

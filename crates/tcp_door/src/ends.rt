@@ -1,22 +1,12 @@
 //! The two ends of a link to a peer. A clause sees the count of faults of each, and the time that its peer has.
 ghost use Rattle.std.specs.Prelude.{◌≡◌, None};
-ghost use Rattle.std.specs.Io.{ReadsAtMost, WritesAtMost};
 ghost use Rattle.tcp_door.specs.Tcp.{KeepsEnd, fresh_end};
-ghost use Rattle.tcp_door.specs.Time.{KeepsTime};
 
-use crate::deadline::Deadline;
-use desk_base::{Failed, FaultCount, Sink, Source};
-use std::io;
-use std::io::{ErrorKind, Read, Write};
+use crate::deadline::LAST_WAIT;
+use crate::link_end::LinkEnd;
+use desk_base::{Failed, Sink, Source};
 use std::marker::Model;
-use std::net::{Shutdown, TcpStream};
-use std::time::{Duration, Instant};
-
-/// How many seconds a peer is waited for in all until its request is read, and again until it has taken its response.
-pub(crate) const WAIT: u64 = 10;
-
-/// How many seconds a peer is waited for in all until it closes its own side, after its response.
-pub(crate) const LAST_WAIT: u64 = 2;
+use std::net::TcpStream;
 
 /// How many bytes after its request are taken from a peer at most.
 const MOST: usize = 16_777_216;
@@ -24,33 +14,10 @@ const MOST: usize = 16_777_216;
 /// How many of them a read asks for.
 pub(crate) const PIECE: usize = 8_192;
 
-/// The time that is left, which is not zero. It is an error that none is.
-fn time_left(rt: &HostRuntime, deadline: &mut Deadline) -> io::Result<Duration>
-    ensures { KeepsTime deadline.old deadline.new }
-{
-    let now = Instant::now(rt)?;
-    match deadline.left(now) {
-        Some(left) => Ok(left),
-        None => Err(io::Error::from(ErrorKind::TimedOut)),
-    }
-}
-
-/// Whether a signal came before anything was read or written.
-fn is_interrupted(moved: &io::Result<usize>) -> bool {
-    match moved {
-        Ok(_) => false,
-        Err(error) => error.kind() == ErrorKind::Interrupted,
-    }
-}
-
 /// What a peer sends. An error of the socket is a fault, and so is a peer that takes too long.
 #[derive(Drop)]
 pub struct TcpSource<'r> {
-    rt: &'r HostRuntime,
-    stream: TcpStream,
-    deadline: Deadline,
-    faults: FaultCount,
-    is_lost: bool,
+    end: LinkEnd<'r>,
 }
 
 impl<'r> Model for TcpSource<'r> {
@@ -58,7 +25,7 @@ impl<'r> Model for TcpSource<'r> {
 
     ghost Value = { TcpEnd };
 
-    ghost view = { λ s. record { faults = s.faults; time = s.deadline } };
+    ghost view = { λ s. s.end };
 }
 
 impl<'r> TcpSource<'r> {
@@ -67,52 +34,23 @@ impl<'r> TcpSource<'r> {
         ensures { result ≡ fresh_end }
     {
         TcpSource {
-            rt,
-            stream,
-            deadline: Deadline::after(WAIT),
-            faults: FaultCount::at(0),
-            is_lost: false,
+            end: LinkEnd::new(rt, stream),
         }
     }
 
-    /// Whether a call has failed, so that the peer is not waited for any more.
+    /// Whether a read has failed, so that the peer is not waited for any more.
     pub(crate) fn is_lost(&self) -> bool {
-        self.is_lost
-    }
-
-    /// Reads while there is time. A read that a signal interrupts is made again.
-    fn read_in_time(&mut self, buf: &mut [u8]) -> io::Result<usize>
-        ensures within { ReadsAtMost result buf.new }
-        ensures faults { self.new.faults ≡ self.old.faults }
-        ensures time { KeepsTime self.old.time self.new.time }
-    {
-        'reads: for _ in 0..u64::MAX {
-            let read = self.read_once(buf);
-            if !is_interrupted(&read) {
-                return read;
-            }
-        }
-        Err(io::Error::from(ErrorKind::TimedOut))
-    }
-
-    fn read_once(&mut self, buf: &mut [u8]) -> io::Result<usize>
-        ensures within { ReadsAtMost result buf.new }
-        ensures faults { self.new.faults ≡ self.old.faults }
-        ensures time { KeepsTime self.old.time self.new.time }
-    {
-        let left = time_left(self.rt, &mut self.deadline)?;
-        self.stream.set_read_timeout(Some(left))?;
-        self.stream.read(buf)
+        self.end.is_lost()
     }
 
     /// Takes what the peer still sends, until it closes its side, it fails, the time is over or 16,777,216 bytes were
     /// taken: a socket that is closed with bytes unread takes back what was written to it.
     pub(crate) fn drain(mut self) {
-        self.deadline = Deadline::after(LAST_WAIT);
+        self.end.wait_anew(LAST_WAIT);
         let mut piece = [0u8; PIECE];
         let mut taken: usize = 0;
         'pieces: while taken < MOST {
-            match self.read_in_time(&mut piece) {
+            match self.end.read_in_time(&mut piece) {
                 Ok(count) if count > 0 => taken += count,
                 _ => return,
             }
@@ -131,13 +69,9 @@ impl<'r> Source for TcpSource<'r> {
     ghost reads = { λ before after _ result. KeepsEnd before after result };
 
     fn read(&mut self, buf: &mut [u8]) -> Result<usize, Failed> {
-        match self.read_in_time(buf) {
+        match self.end.read_in_time(buf) {
             Ok(count) => Ok(count),
-            Err(_) => {
-                self.is_lost = true;
-                self.faults.rise();
-                Err(Failed)
-            }
+            Err(_) => Err(self.end.lose()),
         }
     }
 }
@@ -146,11 +80,7 @@ impl<'r> Source for TcpSource<'r> {
 /// takes nothing.
 #[derive(Drop)]
 pub struct TcpSink<'r> {
-    rt: &'r HostRuntime,
-    stream: TcpStream,
-    deadline: Deadline,
-    faults: FaultCount,
-    is_lost: bool,
+    end: LinkEnd<'r>,
 }
 
 impl<'r> Model for TcpSink<'r> {
@@ -158,7 +88,7 @@ impl<'r> Model for TcpSink<'r> {
 
     ghost Value = { TcpEnd };
 
-    ghost view = { λ s. record { faults = s.faults; time = s.deadline } };
+    ghost view = { λ s. s.end };
 }
 
 impl<'r> TcpSink<'r> {
@@ -167,47 +97,18 @@ impl<'r> TcpSink<'r> {
         ensures { result ≡ fresh_end }
     {
         TcpSink {
-            rt,
-            stream,
-            deadline: Deadline::after(WAIT),
-            faults: FaultCount::at(0),
-            is_lost: false,
+            end: LinkEnd::new(rt, stream),
         }
     }
 
-    /// Whether a call has failed, so that the peer is not waited for any more.
+    /// Whether a write has failed, so that the peer is not waited for any more.
     pub(crate) fn is_lost(&self) -> bool {
-        self.is_lost
-    }
-
-    /// Writes while there is time. A write that a signal interrupts is made again.
-    fn write_in_time(&mut self, piece: &[u8]) -> io::Result<usize>
-        ensures within { WritesAtMost result piece.now }
-        ensures faults { self.new.faults ≡ self.old.faults }
-        ensures time { KeepsTime self.old.time self.new.time }
-    {
-        'writes: for _ in 0..u64::MAX {
-            let written = self.write_once(piece);
-            if !is_interrupted(&written) {
-                return written;
-            }
-        }
-        Err(io::Error::from(ErrorKind::TimedOut))
-    }
-
-    fn write_once(&mut self, piece: &[u8]) -> io::Result<usize>
-        ensures within { WritesAtMost result piece.now }
-        ensures faults { self.new.faults ≡ self.old.faults }
-        ensures time { KeepsTime self.old.time self.new.time }
-    {
-        let left = time_left(self.rt, &mut self.deadline)?;
-        self.stream.set_write_timeout(Some(left))?;
-        self.stream.write(piece)
+        self.end.is_lost()
     }
 
     /// Tells the peer that nothing more is sent.
     pub(crate) fn finish(self) {
-        let _ = self.stream.shutdown(Shutdown::Write);
+        self.end.shut();
     }
 }
 
@@ -222,13 +123,9 @@ impl<'r> Sink for TcpSink<'r> {
     ghost writes = { λ before after _ result. KeepsEnd before after result };
 
     fn write(&mut self, piece: &[u8]) -> Result<usize, Failed> {
-        match self.write_in_time(piece) {
+        match self.end.write_in_time(piece) {
             Ok(count) if count > 0 => Ok(count),
-            _ => {
-                self.is_lost = true;
-                self.faults.rise();
-                Err(Failed)
-            }
+            _ => Err(self.end.lose()),
         }
     }
 }

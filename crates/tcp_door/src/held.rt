@@ -4,8 +4,8 @@ ghost use Rattle.std.specs.Prelude.{◌≡◌, ◌<◌, ◌≤◌, [], length, N
 ghost use Rattle.tcp_door.specs.Turns.{Gathers, IsJudged};
 ghost use Rattle.tcp_door.specs.declared.held.Side.{Side};
 
-use crate::deadline::Deadline;
-use crate::ends::{PIECE, WAIT};
+use crate::deadline::{Deadline, WAIT};
+use crate::ends::PIECE;
 use crate::ready_test::ReadyTest;
 use crate::turn_ends::{TurnSink, TurnSource};
 use desk_base::{Both, MAX_HEAD, MAX_LONG_BODY};

@@ -3,8 +3,8 @@
 ghost use Rattle.std.specs.Prelude.{◌≡◌, None};
 ghost use Rattle.tcp_door.specs.Turns.{KeepsTimes};
 
-use crate::deadline::Deadline;
-use crate::ends::{LAST_WAIT, PIECE, WAIT};
+use crate::deadline::{Deadline, LAST_WAIT, WAIT};
+use crate::ends::PIECE;
 use crate::held::{READS, would_wait};
 use std::io;
 use std::io::{ErrorKind, Read, Write};

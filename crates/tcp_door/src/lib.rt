@@ -7,11 +7,16 @@
 
 mod deadline;
 mod door;
+mod door_state;
+mod end_faults;
 mod ends;
 mod held;
 mod leaving;
+mod link_end;
 mod peers;
 mod ready_test;
+#[cfg(test)]
+mod test_links;
 #[cfg(test)]
 mod tests;
 mod turn_door;

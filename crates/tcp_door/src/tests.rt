@@ -1,53 +1,65 @@
 //! Connections in one process: the kernel takes them before they are accepted.
-ghost use Rattle.std.specs.Prelude.{◌≡◌, IfSome, Some};
+ghost use Rattle.std.specs.Prelude.{◌≡◌};
 
 use crate::door::TcpDoor;
-use desk_base::{Source, write_all};
-use desk_links::Listener;
+use crate::test_links::{Asked, answer_next, bind_some};
+use std::io;
 use std::io::{Read, Write};
 use std::net::{Ipv4Addr, OpenStream, Shutdown, TcpStream};
 use std::test::Fail;
 
-/// The first of a hundred ports that are tried, since another program may have one.
+/// The first of a hundred ports that are tried.
 const FIRST_PORT: u16 = 18_431;
 
-/// Binds the door to the first of a hundred ports that is free.
-fn bind_some(door: &mut TcpDoor<'_>) -> Option<u16>
-    requires { door.old.live ≡ 0 }
-    ensures { IfSome result (λ port. (door.new.live ≡ 0) × (door.new.accepted ≡ Some 0)) }
-{
-    'ports: for port in FIRST_PORT..FIRST_PORT + 100 {
-        if door.bind(port).is_ok() {
-            return Some(port);
-        }
-    }
-    None
+/// What the link of a peer gave that wrote, and what the peer got by two reads.
+#[derive(Clone, Copy, Debug, PartialEq, Eq)]
+struct Told {
+    asked: Asked,
+    answer: [u8; 8],
+    counts: [usize; 2],
 }
 
-/// A peer connects and writes. Its link is accepted, read, written to and closed, and the peer reads to the end.
+/// A peer connects and writes. Its link is accepted, read, written to and closed, and the peer reads to the end. None
+/// where no port was free, or the connection was not accepted.
+fn one_connection(rt: &HostRuntime, door: &mut TcpDoor<'_>) -> io::Result<Option<Told>>
+    requires { door.old.live ≡ 0 }
+{
+    let Some(port) = bind_some(door, FIRST_PORT) else {
+        return Ok(None);
+    };
+    let mut peer = TcpStream::connect(rt, (Ipv4Addr::LOCALHOST, port))?;
+    peer.write_all(b"hello")?;
+    peer.shutdown(Shutdown::Write)?;
+    let Some(asked) = answer_next(door, b"welcome") else {
+        return Ok(None);
+    };
+    let mut answer = [0u8; 8];
+    let first = peer.read(&mut answer)?;
+    let second = peer.read(&mut [0u8; 8])?;
+    Ok(Some(Told {
+        asked,
+        answer,
+        counts: [first, second],
+    }))
+}
+
+/// What a peer writes is read, and what is answered it gets whole, and then the end.
 #[test]
 fn a_connection_is_read_and_answered(rt: HostRuntime) -> Result<(), Fail> {
     let mut door = TcpDoor::new(&rt);
-    let Some(port) = bind_some(&mut door) else {
-        return Err(Fail::new("no port was free"));
+    let told = one_connection(&rt, &mut door);
+    drop(door);
+    let wanted = Told {
+        asked: Asked {
+            bytes: *b"hello\0\0\0",
+            first: Ok(5),
+            second: Ok(0),
+            is_answered: true,
+        },
+        answer: *b"welcome\0",
+        counts: [7, 0],
     };
-    let mut peer = TcpStream::connect(&rt, (Ipv4Addr::LOCALHOST, port))?;
-    peer.write_all(b"hello")?;
-    peer.shutdown(Shutdown::Write)?;
-    let Ok(mut link) = door.accept() else {
-        return Err(Fail::new("the connection was not accepted"));
-    };
-    let mut asked = [0u8; 16];
-    let count = link.source.read(&mut asked);
-    let is_written = write_all(&mut link.sink, b"welcome").is_ok();
-    door.close(link);
-    assert_eq!(rt; count, Ok(5));
-    assert_eq!(rt; &asked[..5], b"hello".as_slice());
-    assert!(rt; is_written);
-    let mut answer = [0u8; 16];
-    assert_eq!(rt; peer.read(&mut answer)?, 7);
-    assert_eq!(rt; &answer[..7], b"welcome".as_slice());
-    assert_eq!(rt; peer.read(&mut answer)?, 0);
+    assert_eq!(rt; told?, Some(wanted));
     Ok(())
 }
 
@@ -55,7 +67,7 @@ fn a_connection_is_read_and_answered(rt: HostRuntime) -> Result<(), Fail> {
 #[test]
 fn the_door_is_on_one_address(rt: HostRuntime) -> Result<(), Fail> {
     let mut door = TcpDoor::new(&rt);
-    let Some(port) = bind_some(&mut door) else {
+    let Some(port) = bind_some(&mut door, FIRST_PORT) else {
         return Err(Fail::new("no port was free"));
     };
     let other = TcpStream::connect(&rt, (Ipv4Addr::new(127, 0, 0, 2), port));

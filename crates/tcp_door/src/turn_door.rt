@@ -1,45 +1,30 @@
 //! A door on a TCP port of the loopback address that reads its peers in turns. A clause sees its counts and its port.
-ghost use Rattle.std.specs.Prelude.{◌≡◌, ℕ, None};
-ghost use Rattle.desk_base.specs.Faults.{HasCause};
+ghost use Rattle.std.specs.Prelude.{◌≡◌, None};
 
+use crate::door_state::DoorState;
 use crate::peers::Peers;
 use crate::ready_test::ReadyTest;
 use crate::turn_ends::{TurnSink, TurnSource};
-use desk_base::{Both, Failed, FaultCount};
+use desk_base::{Both, Failed};
 use desk_links::Listener;
 use std::marker::Model;
 use std::time::Instant;
-
-/// A port that is listened at, and how many links were handed out since.
-#[derive(Drop)]
-struct Bound {
-    port: u16,
-    accepted: u32,
-}
 
 /// A door on a port of 127.0.0.1 that holds many peers at once, reads each in turn without waiting for it, and hands
 /// out the first whose bytes are ready by a test, that has closed its side, or that is lost.
 #[derive(Drop)]
 pub struct TurnDoor<'r, T: ReadyTest> {
     rt: &'r HostRuntime,
-    bound: Option<Bound>,
     peers: Peers<T>,
-    live: u32,
-    faults: FaultCount,
+    state: DoorState<()>,
 }
 
 impl<'r, T: ReadyTest> Model for TurnDoor<'r, T> {
-    ghost use Rattle.std.specs.Prelude.{option_map};
     ghost use Rattle.tcp_door.specs.Tcp.{TcpSeen};
 
     ghost Value = { TcpSeen };
 
-    ghost view = { λ d. record {
-      port = option_map (λ bound. bound.port) d.bound;
-      accepted = option_map (λ bound. bound.accepted) d.bound;
-      live = d.live;
-      faults = d.faults;
-    } };
+    ghost view = { λ d. d.state };
 }
 
 impl<'r, T: ReadyTest> TurnDoor<'r, T> {
@@ -49,10 +34,8 @@ impl<'r, T: ReadyTest> TurnDoor<'r, T> {
     {
         TurnDoor {
             rt,
-            bound: None,
             peers: Peers::new(rt.alloc(), test),
-            live: 0,
-            faults: FaultCount::at(0),
+            state: DoorState::new(),
         }
     }
 
@@ -85,37 +68,13 @@ impl<'r, T: ReadyTest> Listener for TurnDoor<'r, T> {
     ghost offers = { λ _ _. ⊥ };
 
     fn bind(&mut self, number: u16) -> Result<(), Failed> {
-        match self.peers.listen(self.rt, number) {
-            Ok(()) => {
-                self.bound = Some(Bound {
-                    port: number,
-                    accepted: 0,
-                });
-                Ok(())
-            }
-            Err(_) => {
-                self.faults.rise();
-                Err(Failed)
-            }
-        }
+        let listening = self.peers.listen(self.rt, number);
+        self.state.bind(number, listening)
     }
 
     fn accept(&mut self) -> Result<Both<TurnSource, TurnSink>, Failed> {
         let next = self.peers.next_link(self.rt);
-        let Some(bound) = &mut self.bound else {
-            unreachable!()
-        };
-        match next {
-            Ok(link) => {
-                bound.accepted += 1;
-                self.live = 1;
-                Ok(link)
-            }
-            Err(_) => {
-                self.faults.rise();
-                Err(Failed)
-            }
-        }
+        self.state.accept(next)
     }
 
     fn close(&mut self, link: Both<TurnSource, TurnSink>)
@@ -123,7 +82,7 @@ impl<'r, T: ReadyTest> Listener for TurnDoor<'r, T> {
         ensures { self.new ≡ record self.old { live = 0 } }
     {
         let Both { source, sink } = link;
-        self.live = 0;
+        self.state.close();
         if source.is_lost() || sink.is_lost() {
             return;
         }

@@ -1,17 +1,18 @@
 //! The two ends of a link to a peer that was read in turns. Neither waits for its peer. A clause sees the bytes that
 //! the source has left, what comes after them, and the count of faults of each.
-ghost use Rattle.std.specs.Prelude.{◌≡◌, ◌≤◌, length, None, Some};
+ghost use Rattle.std.specs.Prelude.{◌≡◌, None, Some};
 ghost use Rattle.std.specs.Io.{WritesAtMost};
 ghost use Rattle.desk_base.specs.Faults.{CountsFaults};
 ghost use Rattle.tcp_door.specs.Turns.{ReadsGiven};
 ghost use Rattle.tcp_door.specs.declared.held.Side.{Side};
 
+use crate::end_faults::EndFaults;
 use crate::held::{Side, would_wait};
 use crate::leaving::LeavingPeer;
-use desk_base::{Failed, FaultCount, Sink, Source};
+use desk_base::{Failed, Sink, Source};
 use std::alloc::Global;
 use std::io;
-use std::io::Write;
+use std::io::{Cursor, Read, Write};
 use std::marker::Model;
 use std::net::TcpStream;
 
@@ -19,22 +20,23 @@ use std::net::TcpStream;
 /// more is a fault.
 #[derive(Drop)]
 pub struct TurnSource {
-    bytes: Vec<u8>,
-    at: usize,
+    bytes: Cursor<Vec<u8>>,
     side: Side,
-    faults: FaultCount,
-    is_lost: bool,
+    faults: EndFaults,
 }
 
 impl Model for TurnSource {
-    ghost use Rattle.std.specs.Prelude.{◌≤◌, drop, length};
+    ghost use Rattle.std.specs.Prelude.{drop};
+    ghost use Rattle.std.specs.Io.Cursor.{cursor_inner, cursor_position};
     ghost use Rattle.tcp_door.specs.Turns.{GivenSeen};
 
     ghost Value = { GivenSeen };
 
-    ghost view = { λ s. record { left = drop s.at s.bytes.items; side = s.side; faults = s.faults } };
-
-    ghost invariant = { λ s. s.at ≤ length s.bytes.items };
+    ghost view = { λ s. record {
+      left = drop (cursor_position s.bytes) (cursor_inner s.bytes).items;
+      side = s.side;
+      faults = s.faults;
+    } };
 }
 
 impl TurnSource {
@@ -43,17 +45,15 @@ impl TurnSource {
         ensures { result ≡ record { left = bytes.items; side = side; faults = 0 } }
     {
         TurnSource {
-            bytes,
-            at: 0,
+            bytes: Cursor::new(bytes),
             side,
-            faults: FaultCount::at(0),
-            is_lost: false,
+            faults: EndFaults::none(),
         }
     }
 
     /// Whether a read has failed, so that the peer is not waited for any more.
     pub(crate) fn is_lost(&self) -> bool {
-        self.is_lost
+        self.faults.is_lost()
     }
 }
 
@@ -68,16 +68,10 @@ impl Source for TurnSource {
     ghost reads = { λ before after _ result. ReadsGiven before after result };
 
     fn read(&mut self, buf: &mut [u8]) -> Result<usize, Failed> {
-        let rest = &self.bytes[self.at..];
-        let count = rest.len().min(buf.len());
-        if count == 0 && self.side != Side::Closed {
-            self.is_lost = true;
-            self.faults.rise();
-            return Err(Failed);
+        match self.bytes.read(buf) {
+            Ok(count) if count > 0 || self.side == Side::Closed => Ok(count),
+            _ => Err(self.faults.lose()),
         }
-        buf[..count].copy_from_slice(&rest[..count]);
-        self.at += count;
-        Ok(count)
     }
 }
 
@@ -87,8 +81,7 @@ impl Source for TurnSource {
 pub struct TurnSink {
     stream: TcpStream,
     unsent: Vec<u8>,
-    faults: FaultCount,
-    is_lost: bool,
+    faults: EndFaults,
 }
 
 impl Model for TurnSink {
@@ -107,14 +100,13 @@ impl TurnSink {
         TurnSink {
             stream,
             unsent: Vec::new(alloc),
-            faults: FaultCount::at(0),
-            is_lost: false,
+            faults: EndFaults::none(),
         }
     }
 
     /// Whether a write has failed, so that the peer is not waited for any more.
     pub(crate) fn is_lost(&self) -> bool {
-        self.is_lost
+        self.faults.is_lost()
     }
 
     /// The peer, with what is still to be sent to it.
@@ -123,7 +115,6 @@ impl TurnSink {
             stream,
             unsent,
             faults: _,
-            is_lost: _,
         } = self;
         LeavingPeer::new(stream, unsent)
     }
@@ -157,11 +148,7 @@ impl Sink for TurnSink {
     fn write(&mut self, piece: &[u8]) -> Result<usize, Failed> {
         match self.take(piece) {
             Ok(count) if count > 0 => Ok(count),
-            _ => {
-                self.is_lost = true;
-                self.faults.rise();
-                Err(Failed)
-            }
+            _ => Err(self.faults.lose()),
         }
     }
 }

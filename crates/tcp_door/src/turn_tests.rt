@@ -1,18 +1,17 @@
 //! Peers of a door that reads them in turns, in one process: the kernel takes them before they are accepted.
-ghost use Rattle.std.specs.Prelude.{◌≡◌, IfSome, Some, ⊤};
-ghost use Rattle.desk_links.specs.Doors.{MayAccept, one_more};
+ghost use Rattle.std.specs.Prelude.{◌≡◌, ⊤};
 
 use crate::ready_test::ReadyTest;
+use crate::test_links::{Asked, answer_next, bind_some};
 use crate::turn_door::TurnDoor;
-use desk_base::{Failed, Source, write_all};
-use desk_links::Listener;
+use desk_base::Failed;
 use std::io;
 use std::io::Write;
 use std::net::{Ipv4Addr, OpenStream, Shutdown, TcpStream};
 use std::test::Fail;
 use std::time::{Duration, Instant};
 
-/// The first of a hundred ports that are tried, since another program may have one.
+/// The first of a hundred ports that are tried.
 const FIRST_PORT: u16 = 18_531;
 
 /// Bytes are ready with their first full stop.
@@ -27,26 +26,13 @@ impl ReadyTest for Sentence {
     }
 }
 
-/// What the source of a link gave by two reads.
-#[derive(Clone, Copy, Debug, PartialEq, Eq)]
-struct Asked {
-    bytes: [u8; 8],
-    first: Result<usize, Failed>,
-    second: Result<usize, Failed>,
-}
-
-/// Binds the door to the first of a hundred ports that is free.
-fn bind_some(door: &mut TurnDoor<'_, Sentence>) -> Option<u16>
-    requires { door.old.live ≡ 0 }
-    ensures { IfSome result (λ _. (door.new.live ≡ 0) × (door.new.accepted ≡ Some 0)) }
-{
-    'ports: for port in FIRST_PORT..FIRST_PORT + 100 {
-        if door.bind(port).is_ok() {
-            return Some(port);
-        }
-    }
-    None
-}
+/// What the source of a link gives whose peer sent `now.` and may send more.
+const NOW: Asked = Asked {
+    bytes: *b"now.\0\0\0\0",
+    first: Ok(4),
+    second: Err(Failed),
+    is_answered: true,
+};
 
 /// So many peers that have connected and say nothing.
 fn silent_peers(rt: &HostRuntime, port: u16, count: u32) -> io::Result<Vec<TcpStream>> {
@@ -64,28 +50,6 @@ fn peer_that_sent(rt: &HostRuntime, port: u16, bytes: &[u8]) -> io::Result<TcpSt
     Ok(peer)
 }
 
-/// Hands out the next link, reads it twice, writes to it and closes it. None where no link is handed out.
-fn answer_next(door: &mut TurnDoor<'_, Sentence>) -> Option<Asked>
-    requires idle { door.old.live ≡ 0 }
-    requires bound { MayAccept door.old.accepted }
-    ensures idle { door.new.live ≡ 0 }
-    ensures counted { IfSome result (λ _. door.new.accepted ≡ one_more door.old.accepted) }
-{
-    let Ok(mut link) = door.accept() else {
-        return None;
-    };
-    let mut bytes = [0u8; 8];
-    let first = link.source.read(&mut bytes);
-    let second = link.source.read(&mut [0u8; 8]);
-    let _ = write_all(&mut link.sink, b"yes");
-    door.close(link);
-    Some(Asked {
-        bytes,
-        first,
-        second,
-    })
-}
-
 /// What half a sentence, and a whole one after it, lead to: the links as they came.
 fn two_that_ask(
     rt: &HostRuntime,
@@ -93,16 +57,16 @@ fn two_that_ask(
 ) -> io::Result<[Option<Asked>; 2]>
     requires { door.old.live ≡ 0 }
 {
-    let Some(port) = bind_some(door) else {
+    let Some(port) = bind_some(door, FIRST_PORT) else {
         return Ok([None, None]);
     };
     let mut slow = peer_that_sent(rt, port, b"at")?;
     let quick = peer_that_sent(rt, port, b"now.")?;
-    let Some(first) = answer_next(door) else {
+    let Some(first) = answer_next(door, b"yes") else {
         return Ok([None, None]);
     };
     slow.write_all(b" last.")?;
-    let second = answer_next(door);
+    let second = answer_next(door, b"yes");
     drop((slow, quick));
     Ok([Some(first), second])
 }
@@ -115,17 +79,13 @@ fn the_first_that_is_whole_comes_first(rt: HostRuntime) -> Result<(), Fail> {
     let begun = Instant::now(&rt)?;
     let links = two_that_ask(&rt, &mut door);
     drop(door);
-    let now = Asked {
-        bytes: *b"now.\0\0\0\0",
-        first: Ok(4),
-        second: Err(Failed),
-    };
     let last = Asked {
         bytes: *b"at last.",
         first: Ok(8),
         second: Err(Failed),
+        is_answered: true,
     };
-    assert_eq!(rt; links?, [Some(now), Some(last)]);
+    assert_eq!(rt; links?, [Some(NOW), Some(last)]);
     assert!(rt; begun.elapsed(&rt)? < Duration::from_secs(5));
     Ok(())
 }
@@ -137,21 +97,21 @@ fn beside_silent_ones(
 ) -> io::Result<[Option<Asked>; 3]>
     requires { door.old.live ≡ 0 }
 {
-    let Some(port) = bind_some(door) else {
+    let Some(port) = bind_some(door, FIRST_PORT) else {
         return Ok([None, None, None]);
     };
     let silent = silent_peers(rt, port, 64)?;
     let asks = peer_that_sent(rt, port, b"now.")?;
-    let Some(first) = answer_next(door) else {
+    let Some(first) = answer_next(door, b"yes") else {
         return Ok([None, None, None]);
     };
     let closes = peer_that_sent(rt, port, b"at")?;
     closes.shutdown(Shutdown::Write)?;
-    let Some(second) = answer_next(door) else {
+    let Some(second) = answer_next(door, b"yes") else {
         return Ok([Some(first), None, None]);
     };
     let more = silent_peers(rt, port, 2)?;
-    let third = answer_next(door);
+    let third = answer_next(door, b"yes");
     drop((silent, asks, closes, more));
     Ok([Some(first), Some(second), third])
 }
@@ -164,22 +124,19 @@ fn silent_peers_hold_nobody_up(rt: HostRuntime) -> Result<(), Fail> {
     let begun = Instant::now(&rt)?;
     let links = beside_silent_ones(&rt, &mut door);
     drop(door);
-    let now = Asked {
-        bytes: *b"now.\0\0\0\0",
-        first: Ok(4),
-        second: Err(Failed),
-    };
     let closed = Asked {
         bytes: *b"at\0\0\0\0\0\0",
         first: Ok(2),
         second: Ok(0),
+        is_answered: true,
     };
     let gave_way = Asked {
         bytes: [0; 8],
         first: Err(Failed),
         second: Err(Failed),
+        is_answered: true,
     };
-    assert_eq!(rt; links?, [Some(now), Some(closed), Some(gave_way)]);
+    assert_eq!(rt; links?, [Some(NOW), Some(closed), Some(gave_way)]);
     assert!(rt; begun.elapsed(&rt)? < Duration::from_secs(5));
     Ok(())
 }

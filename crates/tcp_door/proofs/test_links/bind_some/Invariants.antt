@@ -1,0 +1,5 @@
+use Rattle.std.proofs.Common.{◌≡◌}
+use Rattle.tcp_door.proofs.test_links.bind_some.Given as goal
+
+abbrev pub invariant-ports : goal.invariant-ports
+invariant-ports g l = g.D.Listener.live l.door ≡ 0

@@ -1,5 +1,0 @@
-use Rattle.std.proofs.Common.{◌≡◌}
-use Rattle.tcp_door.proofs.tests.bind_some.Given as goal
-
-abbrev pub invariant-ports : goal.invariant-ports
-invariant-ports l = l.door.live ≡ 0
