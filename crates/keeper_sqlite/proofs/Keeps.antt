@@ -1,18 +1,20 @@
 -- Calls that change nothing that is told.
 use Rattle.std.proofs.Common.{Option, Some, None, is_some, true, true≢false, ◌≡◌, inl, inr, false, List, [], IsTrue}
-use Rattle.std.proofs.Common.{refl, sym, ap, ◌∙◌}
+use Rattle.std.proofs.Common.{Ok, Err, refl, sym, ap, ◌∙◌}
 use Rattle.desk_words.specs.Tables.{Rows, empty_rows}
 use Rattle.desk_packing.specs.Lines.{Line, put_lines}
 use Rattle.desk_packing.specs.Shapes.{Lengths, migration_lines}
 use Rattle.desk_packing.specs.Stands.{StandIn, lines_of}
+use Rattle.keeper_core.specs.declared.keeper.KeepFail.{KeepFail}
 use Rattle.row_store.specs.declared.footing.Footing.TheVariants.{Absent}
-use Rattle.row_store.specs.Stored.{MakesTable, Puts, stored_rows}
+use Rattle.row_store.specs.Stored.{MakesTable, Puts, Stands, stored_rows}
 use Rattle.row_store.specs.Table.{footing_of}
-use Rattle.row_store.specs.Calls.{Becomes, IsUp, Lasts, Leaves, MayFind, Stays}
+use Rattle.row_store.specs.Calls.{Becomes, GoesOn, IsUp, Lasts, Leaves, MayFind, Stays}
 use Rattle.sqlite.specs.Effect.{Database}
 use Rattle.sqlite.specs.State.{State, HasCleanDisk}
 use Rattle.keeper_sqlite.specs.declared.loading.Age.{Age}
 use Rattle.keeper_sqlite.specs.declared.loading.Age.TheVariants as age
+use Rattle.keeper_sqlite.specs.Leaving.{RenewLeaves}
 use Rattle.keeper_sqlite.specs.Steps.{IsFound, IsHeld, KeepsTold, Knows}
 use Rattle.keeper_sqlite.specs.Telling.{AgesAs, HoldsTables, told_in, told_under}
 use Rattle.keeper_sqlite.proofs.Packing.{first_stand, migrated_stand}
@@ -97,13 +99,37 @@ module _ (a : Age) (s : State) (rows : Rows) (more : List Line) (found : IsFound
       }
 
   -- lines are put that make the table one of this version
-  pub put_tells : TellsAs (Puts more) s
+  put_tells : TellsAs (Puts more) s
   put_tells =
       λ clean db put. told_holding age.New db rows (renewed clean db put)
       ∙ sym (told_holding a s.now rows (found clean).1)
 
-  pub put_held : (new : State) → Becomes (Puts more) s new → IsHeld new rows
+  put_held : (new : State) → Becomes (Puts more) s new → IsHeld new rows
   put_held new becomes = λ clean. let (up, is_open, made) = becomes clean in (is_open, renewed up.0 new.now made)
+
+-- what is left where rows are put over those that were found
+module _ (a : Age) (old new : State) (rows : Rows) (more : List Line) (found : IsFound a old rows)
+    (renews : (lines : List Line) → AgesAs a lines rows → StandIn false (put_lines lines more) rows)
+    (crash : Leaves (Puts more) old new) (alone : old.in_transaction ≡ false → new.in_transaction ≡ false)
+    (on : GoesOn old new) where
+  pub renew_done : {T : Type 0} (done : T) → Becomes (Puts more) old new
+      → ((lines : List Line) → Stands old.now lines → Lasts new) → RenewLeaves rows old new (Ok done)
+  renew_done done put lasts = record {
+    held = put_held a old rows more found renews new put;
+    keeps = keeps_done (Puts more) old new crash (put_tells a old rows more found renews) alone put;
+    lasts = λ up. let held = (found (put up.0).0.0).1 in lasts held.lines held.stand up;
+    goes_on = on;
+    unchanged = tt;
+  }
+
+  pub renew_refused : {T : Type 0} (fail : KeepFail) → Stays old new → RenewLeaves {T = T} rows old new (Err fail)
+  renew_refused fail stays = record {
+    held = tt;
+    keeps = keeps_refused (Puts more) old new crash (put_tells a old rows more found renews) alone stays;
+    lasts = tt;
+    goes_on = on;
+    unchanged = stays;
+  }
 
 -- the first rows
 pub first_renews : (more lines : List Line) → more ≡ lines_of empty_rows → AgesAs age.Blank lines empty_rows

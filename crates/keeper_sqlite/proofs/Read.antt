@@ -21,7 +21,7 @@ use Rattle.desk_packing.specs.Lines.{AreByKey, Line, comes_before}
 use Rattle.desk_packing.specs.Reading.{rows_in}
 use Rattle.desk_packing.specs.RowFormats.{batch, clerk, committed, master, region, rulebook, schema, session}
 use Rattle.desk_packing.specs.Stands as stands
-use Rattle.desk_packing.specs.Stands.{StandFor, edition_in, list_lines, own_lines, version_line}
+use Rattle.desk_packing.specs.Stands.{StandFor, edition_in, list_lines, own_lines}
 use Rattle.desk_words.specs.Tables.{AreTables, IsShort as IsShortList, Rows}
 use Rattle.row_store.specs.Refusals.{IsShort}
 use Rattle.row_store.proofs.Made.{footing_desk}

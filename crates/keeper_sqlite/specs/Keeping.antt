@@ -1,5 +1,5 @@
 -- What a keeper over SQL is to a clause.
-use Rattle.std.specs.Prelude.{ℕ, List, Option, option_and_then, option_map, refl}
+use Rattle.std.specs.Prelude.{ℕ, List, Option, None, option_and_then, option_map, refl}
 use Rattle.std.specs.Coded.{Coded, code_by, coded×, coded_list, coded_ℕ, coded_option}
 use Rattle.desk_packing.specs.Shapes.{Lengths, lengths_code}
 use Rattle.sqlite.specs.Held.{Held, held_code}
@@ -33,6 +33,11 @@ kept_code {S} store =
     code_by (Held S × (Option Lengths × (ℕ × ℕ)))
     (coded× (held_code store) (coded× (coded_option lengths_code) (coded× coded_ℕ coded_ℕ)))
     (λ k. (k.connection, (k.lengths, (k.calls, k.faults)))) kept_from (λ _. refl)
+
+-- a keeper over this connection that was not called: no tables are known, and the steps of a statement have no limit
+abbrev pub kept_over : {S : Type 0} → Held S → Kept S
+kept_over connection =
+    record { connection = record connection { step_limit = None }; lengths = None; calls = 0; faults = 0 }
 
 -- What a keeper over files is to a clause: their path, what they held at first until they are opened, their connection
 -- from then on, and how often it was called and has failed.

@@ -2,5 +2,5 @@ pub mod Telling
 pub mod Steps
 pub mod Causes
 pub mod Keeping
-pub mod Leaving
 pub mod Files
+pub mod Leaving

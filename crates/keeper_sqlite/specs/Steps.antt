@@ -9,8 +9,11 @@ use Rattle.row_store.specs.Calls.{IsUp, Lasts, MayFind}
 use Rattle.row_store.specs.Stored.{MakesTable}
 use Rattle.row_store.specs.Table.{is_desk}
 use Rattle.sqlite.specs.Effect.{Database}
+use Rattle.sqlite.specs.Held.{state}
 use Rattle.sqlite.specs.State.{State, HasCleanDisk}
+use Rattle.sqlite.specs.Store.{Ghosts}
 use Rattle.keeper_sqlite.specs.declared.loading.Age.{Age}
+use Rattle.keeper_sqlite.specs.Keeping.{Kept}
 use Rattle.keeper_sqlite.specs.Telling.{HoldsAs, HoldsTables, told, told_in}
 
 -- a call changes nothing that is told, not even where a crash comes in it
@@ -72,3 +75,11 @@ told_loaded s (Some lengths) = told s
 abbrev pub FitKnown : State → Option Lengths → List Change → Type 0
 FitKnown s None changes = ⊤
 FitKnown s (Some lengths) changes = FitTold (told s) changes
+
+-- what a keeper over a connection tells from the beginning
+abbrev pub told_by : {S : Type 0} → Ghosts S → Kept S → Option Rows
+told_by g keeper = told (state g keeper.connection)
+
+-- what one tells that tells nothing before it has loaded
+abbrev pub told_once : {S : Type 0} → Ghosts S → Kept S → Option Rows
+told_once g keeper = told_loaded (state g keeper.connection) keeper.lengths

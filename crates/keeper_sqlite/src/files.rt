@@ -1,17 +1,14 @@
 //! A keeper over the files at a path. It opens them with its first `load`.
-ghost use Rattle.std.specs.Prelude.{◌≡◌, None, Some, Err, IfOk, IsErrOf, IsSome, OnOk, OnErr};
+ghost use Rattle.std.specs.Prelude.{◌≡◌, None, Some, IfOk, IsSome, OnOk, OnErr};
 ghost use Rattle.desk_base.specs.Counts.{risen};
 ghost use Rattle.desk_words.specs.Tables.{AreTables, rows_of};
 ghost use Rattle.keeper_core.specs.Keeping.{ChangeTold, CountsFailures, FitTold};
 ghost use Rattle.keeper_core.specs.Keeping.{IsLoaded, LoadsHeld, NeverFails, StayTold};
-ghost use Rattle.row_store.specs.Calls.{Becomes, Lasts, Leaves, Stays};
-ghost use Rattle.sqlite.specs.State.{HasCleanDisk};
 ghost use Rattle.sqlite.specs.WalFiles.{image_at};
-ghost use Rattle.keeper_sqlite.specs.Causes.{FailsToCommit};
-ghost use Rattle.keeper_sqlite.specs.Files.{FailsClean, FailsFound, Finds, HoldsFiled, IfLoaded, IfOpen, IfOpened};
-ghost use Rattle.keeper_sqlite.specs.Files.{IfUnloaded, IsLeft, KeepsFound, SparesFound, told_opened};
-ghost use Rattle.keeper_sqlite.specs.Keeping.{connection_of, lengths_of};
-ghost use Rattle.keeper_sqlite.specs.Steps.{ChangesTables, IsHeld, KeepsTold, Spares};
+ghost use Rattle.keeper_sqlite.specs.Files.{Finds, HoldsFiled, IfOpen, IfOpened, IsLeft, told_opened};
+ghost use Rattle.keeper_sqlite.specs.Keeping.{lengths_of};
+ghost use Rattle.keeper_sqlite.specs.Leaving.{CommitLeavesFiles, LoadLeavesFiles, LoadLeavesFound, LoadTells};
+ghost use Rattle.keeper_sqlite.specs.Steps.{Spares};
 
 use crate::counts::Counts;
 use crate::fault::{open_fail, store_fail};
@@ -127,21 +124,11 @@ impl<'r, S: Start> FileKeeper<'r, S, FileStore<FileFrom<S>>> {
     /// Opens the files and loads the tables, once.
     fn load_once(&mut self) -> Result<Tables, KeepFail>
         ensures counts { (self.new.calls ≡ self.old.calls) × (self.new.faults ≡ self.old.faults) }
-        ensures loaded { IfOk result (λ made. IsLoaded (told_opened self.old.tables)
-            (told_opened self.new.tables) (rows_of made)) }
+        ensures told { LoadTells (told_opened self.old.tables) (told_opened self.new.tables) result }
         ensures kept { IfOk result (λ made. LoadsHeld (HoldsFiled (image_at S.Start) self.old.tables)
             (told_opened self.new.tables) (rows_of made)) }
-        ensures whole { IfOk result (λ made. AreTables (rows_of made)) }
-        ensures unchanged { OnErr result (StayTold (told_opened self.old.tables) (told_opened self.new.tables)) }
-        ensures held { IfOk result (λ made. IfOpened self.new.tables (λ s. IsHeld s (rows_of made))) }
-        ensures keeps { IfOpen self.old.tables self.new.tables KeepsTold }
-        ensures found { self.old.tables ≡ None → IfOpened self.new.tables (KeepsFound (image_at S.Start)) }
-        ensures spares { self.old.tables ≡ None
-            → OnErr result (IfOpened self.new.tables (SparesFound (image_at S.Start))) }
-        ensures lasts { OnOk result (IfOpened self.new.tables Lasts) }
-        ensures fails { IsErrOf result KeepFail.Failed → IfUnloaded self.old.tables self.new.tables FailsClean }
-        ensures fails_first { IsErrOf result KeepFail.Failed → self.old.tables ≡ None
-            → IfOpened self.new.tables (FailsFound (image_at S.Start)) }
+        ensures leaves { LoadLeavesFiles self.old.tables self.new.tables result }
+        ensures first { LoadLeavesFound (image_at S.Start) self.old.tables self.new.tables result }
     {
         if let Err(fail) = self.open_once() {
             return Err(fail);
@@ -191,17 +178,9 @@ impl<'r, S: Start> Keeper for FileKeeper<'r, S, FileStore<FileFrom<S>>> {
         ensures faults { CountsFailures self.old.faults self.new.faults result }
         ensures steady { ⊥ → NeverFails result × ⊥ }
 
-        // What stands in the table then, what a crash leaves, what of it stood in the files at first, what a refused
-        // load leaves of it, and why it fails.
-        ensures held { IfOk result (λ made. IfOpened self.new.tables (λ s. IsHeld s (rows_of made))) }
-        ensures keeps { IfOpen self.old.tables self.new.tables KeepsTold }
-        ensures found { self.old.tables ≡ None → IfOpened self.new.tables (KeepsFound (image_at S.Start)) }
-        ensures spares { self.old.tables ≡ None
-            → OnErr result (IfOpened self.new.tables (SparesFound (image_at S.Start))) }
-        ensures lasts { OnOk result (IfOpened self.new.tables Lasts) }
-        ensures fails { IsErrOf result KeepFail.Failed → IfUnloaded self.old.tables self.new.tables FailsClean }
-        ensures fails_first { IsErrOf result KeepFail.Failed → self.old.tables ≡ None
-            → IfOpened self.new.tables (FailsFound (image_at S.Start)) }
+        // What the load leaves of the files, what the first one leaves of what they held, and why each fails.
+        ensures leaves { LoadLeavesFiles self.old.tables self.new.tables result }
+        ensures first { LoadLeavesFound (image_at S.Start) self.old.tables self.new.tables result }
     {
         let answer = self.load_once();
         self.counts.count(answer)
@@ -218,15 +197,8 @@ impl<'r, S: Start> Keeper for FileKeeper<'r, S, FileStore<FileFrom<S>>> {
         ensures faults { CountsFailures self.old.faults self.new.faults result }
         ensures steady { ⊥ → NeverFails result × ⊥ }
 
-        // What stands in the table then, what a crash leaves, and why it fails.
-        ensures put { OnOk result (IfOpen self.old.tables self.new.tables (Becomes (ChangesTables changes.now))) }
-        ensures stays { OnErr result (IfOpen self.old.tables self.new.tables Stays) }
-        ensures crash { IfLoaded self.old.tables self.new.tables (λ _. Leaves (ChangesTables changes.now)) }
-        ensures lasts { OnOk result (IfOpened self.new.tables Lasts) }
-        ensures early { lengths_of self.old.tables ≡ None
-            → (result ≡ Err KeepFail.Failed) × (connection_of self.new.tables ≡ connection_of self.old.tables) }
-        ensures fails { IsErrOf result KeepFail.Failed → IfLoaded self.old.tables self.new.tables (λ lengths old new.
-            HasCleanDisk new → FailsToCommit lengths changes.now old new) }
+        // What the commit leaves of the files, and why it fails.
+        ensures leaves { CommitLeavesFiles changes.now self.old.tables self.new.tables result }
     {
         let answer = commit_opened(&mut self.tables, changes);
         self.counts.count(answer)
@@ -235,14 +207,9 @@ impl<'r, S: Start> Keeper for FileKeeper<'r, S, FileStore<FileFrom<S>>> {
 
 /// Loads the tables from files that are open.
 fn load_opened<S: Start>(tables: &mut Option<Opened<S>>) -> Result<Tables, KeepFail>
-    ensures loaded { IfOk result (λ made. IsLoaded (told_opened tables.old) (told_opened tables.new) (rows_of made)) }
-    ensures whole { IfOk result (λ made. AreTables (rows_of made)) }
-    ensures unchanged { OnErr result (StayTold (told_opened tables.old) (told_opened tables.new)) }
-    ensures held { IfOk result (λ made. IfOpened tables.new (λ s. IsHeld s (rows_of made))) }
-    ensures keeps { IfOpen tables.old tables.new KeepsTold }
-    ensures lasts { OnOk result (IfOpened tables.new Lasts) }
+    ensures told { LoadTells (told_opened tables.old) (told_opened tables.new) result }
+    ensures leaves { LoadLeavesFiles tables.old tables.new result }
     ensures spares { OnErr result (IfOpen tables.old tables.new Spares) }
-    ensures fails { IsErrOf result KeepFail.Failed → IfUnloaded tables.old tables.new FailsClean }
 {
     match tables {
         Some(holding) => holding.load_once(),
@@ -258,14 +225,7 @@ fn commit_opened<S: Start>(
     requires { FitTold (told_opened tables.old) changes.now }
     ensures committed { OnOk result (ChangeTold (told_opened tables.old) (told_opened tables.new) changes.now) }
     ensures unchanged { OnErr result (StayTold (told_opened tables.old) (told_opened tables.new)) }
-    ensures put { OnOk result (IfOpen tables.old tables.new (Becomes (ChangesTables changes.now))) }
-    ensures stays { OnErr result (IfOpen tables.old tables.new Stays) }
-    ensures crash { IfLoaded tables.old tables.new (λ _. Leaves (ChangesTables changes.now)) }
-    ensures lasts { OnOk result (IfOpened tables.new Lasts) }
-    ensures early { lengths_of tables.old ≡ None
-        → (result ≡ Err KeepFail.Failed) × (connection_of tables.new ≡ connection_of tables.old) }
-    ensures fails { IsErrOf result KeepFail.Failed → IfLoaded tables.old tables.new (λ lengths old new.
-        HasCleanDisk new → FailsToCommit lengths changes.now old new) }
+    ensures leaves { CommitLeavesFiles changes.now tables.old tables.new result }
 {
     match tables {
         Some(holding) => holding.commit_loaded(changes),

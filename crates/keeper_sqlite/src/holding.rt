@@ -1,11 +1,11 @@
 //! An open connection, and how long the lists of its tables are once they were loaded.
-ghost use Rattle.std.specs.Prelude.{◌≡◌, false, None, Err, IfOk, IsErrOf, MatchOption, OnOk, OnErr, IsSome};
+ghost use Rattle.std.specs.Prelude.{◌≡◌, false, None, IfOk, IsErrOf, MatchOption, OnOk, OnErr, IsSome};
 ghost use Rattle.desk_words.specs.Tables.{AreTables, rows_of};
-ghost use Rattle.keeper_core.specs.Keeping.{ChangeTold, FitTold, IsLoaded, StayTold};
+ghost use Rattle.keeper_core.specs.Keeping.{ChangeTold, FitTold, StayTold};
 ghost use Rattle.sqlite.specs.Held.{state};
 ghost use Rattle.sqlite.specs.State.{HasCleanDisk};
-ghost use Rattle.keeper_sqlite.specs.Causes.{FailsToCommit, FailsToLoad};
-ghost use Rattle.keeper_sqlite.specs.Leaving.{CommitLeaves, LoadLeaves};
+ghost use Rattle.keeper_sqlite.specs.Causes.{FailsToLoad};
+ghost use Rattle.keeper_sqlite.specs.Leaving.{CommitLeaves, IsGivenBack, LoadLeaves, LoadTells, LoadsOnce};
 ghost use Rattle.keeper_sqlite.specs.Steps.{FitKnown, Knows, told_loaded};
 ghost use Rattle.keeper_sqlite.specs.Telling.{told};
 
@@ -54,11 +54,9 @@ impl<S: Alter> Holding<S> {
         }
     }
 
-    /// Gives the connection back.
+    /// Gives the connection back, with what is known of its tables.
     pub fn into_connection(self) -> Connection<S>
-        ensures given { result ≡ self.connection }
-        ensures autocommit { result.in_transaction ≡ false }
-        ensures unlimited { result.step_limit ≡ None }
+        ensures given { IsGivenBack self.connection result }
         ensures known { Knows (state S.Store self.connection) self.lengths }
     {
         let Holding {
@@ -96,9 +94,6 @@ impl<S: Alter> Holding<S> {
             (state S.Store self.new.connection)) changes.now) }
         ensures known { OnOk result (IsSome self.old.lengths × IsSome self.new.lengths) }
         ensures kept { OnErr result (self.new.lengths ≡ self.old.lengths) }
-        ensures fails { IsErrOf result KeepFail.Failed → HasCleanDisk (state S.Store self.new.connection)
-            → FailsToCommit self.old.lengths changes.now (state S.Store self.old.connection)
-            (state S.Store self.new.connection) }
     {
         let Some(shape) = &self.shape else {
             return Err(KeepFail::Failed);
@@ -114,19 +109,10 @@ impl<S: Alter> Holding<S> {
 
     /// Loads the tables once. Where they are known already it is a failure, and nothing is touched.
     pub fn load_once(&mut self) -> Result<Tables, KeepFail>
-        ensures loaded { IfOk result (λ made. IsLoaded (told_loaded
-            (state S.Store self.old.connection) self.old.lengths)
-            (told_loaded (state S.Store self.new.connection) self.new.lengths) (rows_of made)) }
-        ensures whole { IfOk result (λ made. AreTables (rows_of made)) }
-        ensures unchanged { OnErr result (StayTold (told_loaded (state S.Store self.old.connection) self.old.lengths)
-            (told_loaded (state S.Store self.new.connection) self.new.lengths)) }
-        ensures leaves { LoadLeaves S.Store self.old.connection self.new.connection result }
+        ensures told { LoadTells (told_loaded (state S.Store self.old.connection) self.old.lengths)
+            (told_loaded (state S.Store self.new.connection) self.new.lengths) result }
+        ensures loads { LoadsOnce S.Store self.old.lengths self.old.connection self.new.connection result }
         ensures known { OnOk result (self.old.lengths ≡ None) }
-        ensures once { IsSome self.old.lengths
-            → (result ≡ Err KeepFail.Failed) × (self.new.connection ≡ self.old.connection) }
-        ensures fails { IsErrOf result KeepFail.Failed → self.old.lengths ≡ None
-            → HasCleanDisk (state S.Store self.new.connection)
-            → FailsToLoad (state S.Store self.old.connection) (state S.Store self.new.connection) }
     {
         if self.shape.is_some() {
             return Err(KeepFail::Failed);
@@ -143,9 +129,6 @@ impl<S: Alter> Holding<S> {
             (told_loaded (state S.Store self.new.connection) self.new.lengths)) }
         ensures leaves { CommitLeaves S.Store self.old.lengths changes.now self.old.connection self.new.connection
             result }
-        ensures fails { IsErrOf result KeepFail.Failed → HasCleanDisk (state S.Store self.new.connection)
-            → FailsToCommit self.old.lengths changes.now (state S.Store self.old.connection)
-            (state S.Store self.new.connection) }
     {
         self.commit(changes)
     }

@@ -5,6 +5,7 @@
 #![tactic(auto)]
 
 mod committing;
+mod connected;
 mod counts;
 mod fault;
 mod files;
@@ -14,6 +15,7 @@ mod open;
 mod renewing;
 mod tables;
 
+pub use connected::ConnectionKeeper;
 pub use files::{FileKeeper, SqlKeeper};
-pub use open::OpenTables;
-pub use tables::{NeverUnclean, SqlTables};
+pub use open::{OnceLoaded, OpenTables};
+pub use tables::{FromTheStart, NeverUnclean, SqlTables};

@@ -1,12 +1,11 @@
 //! The first rows are put, and rows of the old version anew.
-ghost use Rattle.std.specs.Prelude.{◌≡◌, ◌⊎◌, false, None, IsErrOf, OnOk, OnErr};
+ghost use Rattle.std.specs.Prelude.{◌⊎◌, IsErrOf};
 ghost use Rattle.desk_words.specs.Tables.{AreTables, empty_rows, rows_of};
 ghost use Rattle.sqlite.specs.Held.{state};
 ghost use Rattle.sqlite.specs.State.{HasCleanDisk};
-ghost use Rattle.row_store.specs.Calls.{GoesOn, Lasts, Stays};
 ghost use Rattle.row_store.specs.Refusals.{IsHalted};
 ghost use Rattle.keeper_sqlite.specs.Causes.{LacksRoomFirst, LacksRoomToMigrate};
-ghost use Rattle.keeper_sqlite.specs.Steps.{IsFound, IsHeld, KeepsTold};
+ghost use Rattle.keeper_sqlite.specs.Leaving.{MayRenew, RenewLeaves};
 
 use crate::fault::{pack_fail, store_fail};
 use crate::loading::{Age, Found};
@@ -23,16 +22,9 @@ pub fn renew<S: Alter>(
     conn: &mut Connection<S>,
     found: &Found,
 ) -> Result<(), KeepFail>
-    requires autocommit { conn.old.in_transaction ≡ false }
-    requires unlimited { conn.old.step_limit ≡ None }
-    requires found { IsFound found.now.age (state S.Store conn.old) (rows_of found.now.tables) }
+    requires may { MayRenew S.Store found.now.age (rows_of found.now.tables) conn.old }
     requires whole { AreTables (rows_of found.now.tables) }
-    requires lasts { Lasts (state S.Store conn.old) }
-    ensures held { OnOk result (IsHeld (state S.Store conn.new) (rows_of found.now.tables)) }
-    ensures keeps { KeepsTold (state S.Store conn.old) (state S.Store conn.new) }
-    ensures lasts { OnOk result (Lasts (state S.Store conn.new)) }
-    ensures goes_on { GoesOn (state S.Store conn.old) (state S.Store conn.new) }
-    ensures unchanged { OnErr result (Stays (state S.Store conn.old) (state S.Store conn.new)) }
+    ensures leaves { RenewLeaves (rows_of found.now.tables) (state S.Store conn.old) (state S.Store conn.new) result }
     ensures fails { IsErrOf result KeepFail.Failed → HasCleanDisk (state S.Store conn.new)
         → IsHalted (state S.Store conn.old) (state S.Store conn.new)
         ⊎ (LacksRoomToMigrate (rows_of found.now.tables) (state S.Store conn.old).now
@@ -47,15 +39,8 @@ pub fn renew<S: Alter>(
 
 /// Puts the rows of a new desk.
 fn put_first<S: Alter>(alloc: Global, conn: &mut Connection<S>) -> Result<(), KeepFail>
-    requires autocommit { conn.old.in_transaction ≡ false }
-    requires unlimited { conn.old.step_limit ≡ None }
-    requires found { IsFound Age.Blank (state S.Store conn.old) empty_rows }
-    requires lasts { Lasts (state S.Store conn.old) }
-    ensures held { OnOk result (IsHeld (state S.Store conn.new) empty_rows) }
-    ensures keeps { KeepsTold (state S.Store conn.old) (state S.Store conn.new) }
-    ensures lasts { OnOk result (Lasts (state S.Store conn.new)) }
-    ensures goes_on { GoesOn (state S.Store conn.old) (state S.Store conn.new) }
-    ensures unchanged { OnErr result (Stays (state S.Store conn.old) (state S.Store conn.new)) }
+    requires may { MayRenew S.Store Age.Blank empty_rows conn.old }
+    ensures leaves { RenewLeaves empty_rows (state S.Store conn.old) (state S.Store conn.new) result }
     ensures fails { IsErrOf result KeepFail.Failed → HasCleanDisk (state S.Store conn.new)
         → IsHalted (state S.Store conn.old) (state S.Store conn.new) ⊎ LacksRoomFirst (state S.Store conn.old).now }
 {
@@ -72,16 +57,9 @@ fn migrate<S: Alter>(
     conn: &mut Connection<S>,
     tables: &Tables,
 ) -> Result<(), KeepFail>
-    requires autocommit { conn.old.in_transaction ≡ false }
-    requires unlimited { conn.old.step_limit ≡ None }
-    requires found { IsFound Age.Old (state S.Store conn.old) (rows_of tables.now) }
+    requires may { MayRenew S.Store Age.Old (rows_of tables.now) conn.old }
     requires whole { AreTables (rows_of tables.now) }
-    requires lasts { Lasts (state S.Store conn.old) }
-    ensures held { OnOk result (IsHeld (state S.Store conn.new) (rows_of tables.now)) }
-    ensures keeps { KeepsTold (state S.Store conn.old) (state S.Store conn.new) }
-    ensures lasts { OnOk result (Lasts (state S.Store conn.new)) }
-    ensures goes_on { GoesOn (state S.Store conn.old) (state S.Store conn.new) }
-    ensures unchanged { OnErr result (Stays (state S.Store conn.old) (state S.Store conn.new)) }
+    ensures leaves { RenewLeaves (rows_of tables.now) (state S.Store conn.old) (state S.Store conn.new) result }
     ensures fails { IsErrOf result KeepFail.Failed → HasCleanDisk (state S.Store conn.new)
         → IsHalted (state S.Store conn.old) (state S.Store conn.new)
         ⊎ LacksRoomToMigrate (rows_of tables.now) (state S.Store conn.old).now }

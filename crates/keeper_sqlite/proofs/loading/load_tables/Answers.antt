@@ -35,11 +35,11 @@ returns-in_err-renew-clause-spares g c =
     (state g.S.Store c.renew.new.conn)
     (spares_then (state g.S.Store c.args.conn.now) (state g.S.Store c.ready_table.new.conn)
     (state g.S.Store c.read_found.new.conn) c.ready_table.ensures.spares c.read_found.ensures.unchanged)
-    c.in_err-renew.ensures.unchanged)
+    c.in_err-renew.ensures.leaves.unchanged)
 
 pub returns-in_err-renew-clause-fails : goal.returns-in_err-renew-clause-fails
 returns-in_err-renew-clause-fails g c failed clean =
-    let late = c.renew.ensures.keeps.clean clean in
+    let late = c.renew.ensures.leaves.keeps.clean clean in
     let early = c.read_found.ensures.keeps.clean late in
     let is_found = c.in_ok-alloc.ensures.found late in
     stopped_renewing (state g.S.Store c.args.conn.now) (state g.S.Store c.read_found.new.conn)

@@ -20,10 +20,7 @@ returns-in-Err-clause-leaves g c = rw (← c.self.view_is) (record {
   crash = λ known. c.commit_changes.ensures.crash;
   lasts = tt;
   early = λ none. absurd (let some = rw none at c.in-Some.is in cc);
+  fails = rw c.in-Some.is (λ failed clean.
+      let is : c.in-Err.fail ≡ Failed = let e = failed in cc in
+      c.in-Err.ensures.fails (ap Err is) clean);
 })
-
-pub returns-in-Err-clause-fails : goal.returns-in-Err-clause-fails
-returns-in-Err-clause-fails g c =
-    rw (← c.self.view_is) (rw c.in-Some.is (λ failed clean.
-    let is : c.in-Err.fail ≡ Failed = let e = failed in cc in
-    c.in-Err.ensures.fails (ap Err is) clean))

@@ -1,6 +1,6 @@
 use Rattle.sqlite.specs.Held.{state}
 use Rattle.keeper_sqlite.proofs.Tells.{refused_told}
-use Rattle.keeper_sqlite.proofs.tables.SqlTablesKeeper.commit.Goals as goal
+use Rattle.keeper_sqlite.proofs.tables.ConnectionKeeperFromTheStartKeeper.commit.Goals as goal
 use Rattle.sqlite_trees.proofs.Doubt.{no_doubt}
 
 pub returns-clause-unchanged : goal.returns-clause-unchanged
@@ -15,4 +15,4 @@ returns-clause-leaves g c = rw (← c.self.view_is) (rw c.count.ensures.same c.c
 pub returns-clause-fails : goal.returns-clause-fails
 returns-clause-fails g c =
     let clean = no_doubt _ (g.met.S.NeverUnclean.never_unclean c.commit-answer.new.self.connection.store) in
-    rw (← c.self.view_is) (rw c.count.ensures.same (λ failed. c.commit-answer.ensures.fails failed clean))
+    rw (← c.self.view_is) (rw c.count.ensures.same (λ failed. c.commit-answer.ensures.leaves.fails failed clean))

@@ -2,7 +2,7 @@ use Rattle.desk_words.specs.Tables.{rows_of}
 use Rattle.sqlite.specs.Held.{state}
 use Rattle.sqlite_trees.proofs.Doubt.{no_doubt}
 use Rattle.keeper_sqlite.proofs.Tells.{loaded_again, loaded_kept, unloaded_told}
-use Rattle.keeper_sqlite.proofs.tables.SqlTablesKeeper.load.Goals as goal
+use Rattle.keeper_sqlite.proofs.tables.ConnectionKeeperFromTheStartKeeper.load.Goals as goal
 
 pub returns-clause-loaded : goal.returns-clause-loaded
 returns-clause-loaded g c =
