@@ -64,11 +64,6 @@ and_then-refused (awaits question more) next refusal (answer, is, comes) =
     (answer, is, and_then-refused (more answer) next refusal comes)
 and_then-refused nothing next refusal comes = absurd comes
 
--- what comes of the second after the value that the first tells comes of both
-pub and_then-found : {A B : Type 0} (outcome : Outcome A) (next : A → Outcome B) (value : A) (last : Outcome B)
-    → outcome ≡ told (Ok value) → next value ≡ last → and_then outcome next ≡ last
-and_then-found outcome next value last is rest = rw is rest
-
 -- where the second tells the value that it is given, the first is all
 pub and_then-told : {A : Type 0} (outcome : Outcome A) → and_then outcome (λ value. told (Ok value)) ≡ outcome
 and_then-told (told (Ok value)) = refl

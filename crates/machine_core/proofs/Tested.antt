@@ -1,10 +1,10 @@
 -- What a test says, where it finds a value and where it refuses.
 use Rattle.std.proofs.Common.{◌≡◌, ◌⊎◌, ◌∙◌, ℕ, suc, ◌+◌, ◌≤◌, ◌<◌, refl, sym, ap, subst, List, [], ◌∷◌, ◌++◌, length}
 use Rattle.std.proofs.Common.{Contains, inl, inr, Option, Some, None, Bool, true, false, arith}
-use Rattle.std.specs.Prelude.{All, Result, Ok, Err, nat_le}
+use Rattle.std.specs.Prelude.{Result, Ok, Err, nat_le}
 use Rattle.std.proofs.lemmas.Bool.Decides.{nat_tests}
 use Rattle.std.proofs.lemmas.List.{length-append}
-use Rattle.std.proofs.lemmas.List.Elements.{All-cons, All-nil, Contains-append_right, Contains-push_cases}
+use Rattle.std.proofs.lemmas.List.Elements.{Contains-append_right, Contains-push_cases}
 use Rattle.desk_words.specs.declared.limit.Which.{Which}
 use Rattle.desk_words.specs.declared.refusal.Refusal.{Refusal}
 use Rattle.desk_words.specs.declared.refusal.Refusal.TheVariants.{Limit}
@@ -82,18 +82,6 @@ pub within-err : (which : Which) (count : ℕ) (other : Refusal) → Gives (with
 within-err which count other gives =
     let fails = unless-err (nat_le count (limit_of which)) (Limit which (limit_of which)) other gives in
     (grind (arith, nat_tests, fails.0), fails.1)
-
--- where a list passes, what holds of each that is found holds of all
-pub each-all : {A B : Type 0} (P : B → Type 0) (find : A → Checked B) (items : List A) (found : List B)
-    → ((item : A) (value : B) → Gives (find item) (Ok value) → P value) → Gives (each find items) (Ok found)
-    → All P found
-each-all P find [] found holds gives = subst (All P) (sym (done-value [] found gives)) (All-nil P)
-each-all P find (first ∷ others) found holds gives =
-    let (here, is_here, left) =
-    Gives-bind_ok (find first) (λ one. each find others >>= (λ more. done (one ∷ more))) found gives in
-    let (more, are_more, is) = Gives-bind_ok (each find others) (λ more. done (here ∷ more)) found left in
-    subst (All P) (sym (done-value (here ∷ more) found is))
-    (All-cons P here more (holds first here is_here) (each-all P find others more holds are_more))
 
 -- as many are found as there are items
 pub each-length : {A B : Type 0} (find : A → Checked B) (items : List A) (found : List B)

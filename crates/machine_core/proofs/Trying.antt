@@ -1,10 +1,10 @@
 -- What comes of tests is told as it is, also where it is a refusal.
-use Rattle.std.proofs.Common.{◌≡◌, ap}
+use Rattle.std.proofs.Common.{ap}
 use Rattle.std.specs.Prelude.{Result, Ok, Err}
 use Rattle.desk_words.specs.declared.refusal.Refusal.{Refusal}
 use Rattle.machine_core.specs.Checked.{ComesTo, Gives, Outcome, awaits, nothing, told}
 use Rattle.machine_core.specs.DeskLook.Check.{result_of}
-use Rattle.machine_core.proofs.Chains.{done-not_refused, done-value}
+use Rattle.machine_core.proofs.Chains.{done-not_refused}
 
 -- what they come to is found
 pub tried-gives : {A : Type 0} (outcome : Outcome A) (result : Result A Refusal) → ComesTo outcome result
@@ -12,13 +12,6 @@ pub tried-gives : {A : Type 0} (outcome : Outcome A) (result : Result A Refusal)
 tried-gives (told one) result comes = ap Ok comes
 tried-gives (awaits question more) result (answer, is, comes) = (answer, is, tried-gives (more answer) result comes)
 tried-gives nothing result comes = absurd comes
-
--- what is found they came to
-pub tried-came : {A : Type 0} (outcome : Outcome A) (result : Result A Refusal)
-    → Gives (result_of outcome) (Ok result) → ComesTo outcome result
-tried-came (told one) result gives = done-value one result gives
-tried-came (awaits question more) result (answer, is, comes) = (answer, is, tried-came (more answer) result comes)
-tried-came nothing result gives = absurd gives
 
 -- and nothing is refused
 pub tried-not_refused : {A : Type 0} (outcome : Outcome A) (refusal : Refusal)

@@ -10,7 +10,6 @@ use Rattle.desk_base.specs.Words.{is_name}
 use Rattle.schema_core.proofs.Sound.{IsSchema-from_bytes}
 use Rattle.desk_words.specs.declared.change.Change.TheVariants as change
 use Rattle.desk_words.specs.declared.limit.Which.TheVariants as which
-use Rattle.desk_words.specs.declared.refusal.Refusal.TheVariants.{BadName}
 use Rattle.desk_words.specs.declared.rows.act.Act.TheVariants as act
 use Rattle.desk_words.specs.declared.rows.clerk.ClerkRow.{ClerkRow}
 use Rattle.desk_words.specs.declared.rows.master.MasterRow.{MasterRow}
@@ -35,7 +34,6 @@ use Rattle.machine_core.specs.declared.making.Making.{Making}
 use Rattle.machine_core.specs.Own.{Own, own_of}
 use Rattle.machine_core.specs.Tests as tests
 use Rattle.machine_core.proofs.Masters.{not-any}
-use Rattle.machine_core.proofs.Tested.{unless-ok}
 use Rattle.machine_laws.proofs.Callers.{IsDone, names_of}
 use Rattle.machine_laws.proofs.Lists.{Begins, Begins-same, list_at-push, nothing-following, pushed}
 use Rattle.machine_laws.proofs.Valid.{AreValid-new, AreValid-published, with_new, AreGoodAfter, with_published}
@@ -73,10 +71,6 @@ pub place_of-within : {T : Type 0} (name_of : T → List ℕ) (version_of : T �
     (version place : ℕ) (past : T) → place_of name_of version_of rows name version ≡ Some place → place < length rows
 place_of-within name_of version_of rows name version place past is =
     (position-Some (λ row. bytes_eq (name_of row) name && (version_of row == version)) rows place past is).0
-
--- a name that was tested is a name
-pub name-ok : (text : List ℕ) (passed : Unit {0}) → Gives (tests.proper_name text) (Ok passed) → IsTrue (is_name text)
-name-ok text passed gives = unless-ok (is_name text) (BadName text) passed gives
 
 -- nothing stands after the rows of a table that stays
 pub stays : {T : Type 0} (Q : ℕ → T → Type 0) (rows : List T) (place : ℕ) (row : T) → length rows ≤ place

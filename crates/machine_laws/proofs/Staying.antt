@@ -130,21 +130,6 @@ chain-done {A} checked make value = made (run checked)
     made (awaits question more) is = absurd (cc)
     made nothing is = absurd (cc)
 
--- a caller who is found has a row; a clerk's is after the steward's
-pub record IsCallerAt (rows : Rows) (caller : Caller) (place : ℕ) : Type 0 where
-  pub found : IsFound (place_of rows caller) place
-  pub within : place < length rows.clerks
-
-pub caller-at : (rows : Rows) (caller : Caller) (place : ℕ) → AreTables rows → IsFound (place_of rows caller) place
-    → IsCallerAt rows caller place
-caller-at rows steward place tables is =
-    let first : place ≡ 0 = cc in
-    record { found = is; within = omega (arith, first, tables.steward) }
-caller-at rows (clerk name) place tables is = record {
-  found = is;
-  within = (clerk_of-ok rows.clerks name place (subst (λ one. ComesTo one (Ok place)) (sym is) refl)).within;
-}
-
 -- places stay where clerks come after
 pub place_of-begins : (rows other : Rows) (caller : Caller) (place : ℕ)
     → Begins (names_of rows.clerks) (names_of other.clerks) → IsFound (place_of rows caller) place

@@ -1,5 +1,5 @@
 //! What sessions came to, kept so that nothing is decided twice.
-ghost use Rattle.std.specs.Prelude.{◌≡◌, ◌+◌, ◌≤◌, ◌^◌, ◌↔◌, ℕ, IfOk, IfSome, IsTrue, count_by, length};
+ghost use Rattle.std.specs.Prelude.{◌≡◌, ◌+◌, ◌-◌, ◌≤◌, ◌^◌, ◌↔◌, ℕ, IfOk, IfSome, IsTrue, count_by, length, min};
 ghost use Rattle.desk_base.specs.declared.limits.TheConstants.{MAX_ATTRIBUTES};
 ghost use Rattle.desk_words.specs.Tables.{Published};
 ghost use Rattle.machine_core.specs.Look.Report.{is_confirmed_cell, is_fixed_cell, is_uncovered_cell};
@@ -118,8 +118,11 @@ pub struct SessionAt {
 }
 
 impl SessionAt {
-    /// The place so many sessions after this one.
-    pub fn after(self, count: u32) -> SessionAt {
+    /// The place so many sessions after this one, or the last place that there can be.
+    pub fn after(self, count: u32) -> SessionAt
+        ensures clerk { result.clerk ≡ self.clerk }
+        ensures place { result.place ≡ min (self.place + count) (2 ^ 32 - 1) }
+    {
         SessionAt {
             clerk: self.clerk,
             place: self.place.saturating_add(count),

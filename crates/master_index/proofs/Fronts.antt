@@ -10,18 +10,24 @@ use Rattle.std.specs.Ordering.{nat_cmp, ordering_then, is_ne}
 use Rattle.std.specs.declared.cmp.Ordering.{Ordering}
 use Rattle.std.specs.declared.cmp.Ordering.TheVariants.{Less, Equal, Greater}
 use Rattle.std.proofs.Math.ListN.{get_or-eq_default, get_or-map}
-use Rattle.std.proofs.Math.Nat.{mul-le-mul_right, pow-suc}
+use Rattle.std.specs.List.Sorted.{IsNonDecreasing}
+use Rattle.std.proofs.Math.Nat.{eq-or-lt_of_le, mul-le-mul_right, pow-suc}
 use Rattle.std.proofs.lemmas.Bool.Decides.{nat_tests}
 use Rattle.std.proofs.lemmas.List.{get_or-append_right, get_or-drop, get_or-replicate, get_or-take, get_or_append_left}
 use Rattle.std.proofs.lemmas.List.{get_or_default, length-take}
 use Rattle.std.proofs.lemmas.List.Elements.{All-map, recursion_from_All}
+use Rattle.std.proofs.lemmas.List.Sorted.{IsNonDecreasingBy-from_default}
+use Rattle.fix_model.specs.declared.book.Hit.{Hit}
 use Rattle.fix_model.specs.declared.kit.Kit.{Kit}
 use Rattle.fix_model.specs.declared.rule.Rule.{Rule}
 use Rattle.fix_model.specs.Alike.{compared}
 use Rattle.fix_model.specs.Comparison.{key_order, row_key}
 use Rattle.fix_model.specs.Rules.{is_folded, master_of, master_text}
-use Rattle.master_index.specs.Fronts.{front, IsFront, IsKeyFront}
-use Rattle.master_index.proofs.Halving.{below_or, turned_less}
+use Rattle.master_index.specs.EqualRange.{IsEqualRange}
+use Rattle.master_index.specs.Fronts.{front, AreFronts, IsFront, IsKeyFront}
+use Rattle.master_index.specs.Sorted.{AreEntries}
+use Rattle.master_index.proofs.Grouping.{nothing}
+use Rattle.master_index.proofs.Halving.{IsNarrowed, below_or, turned_less}
 
 -- ---- the front of eight bytes
 
@@ -175,6 +181,39 @@ key_order-fronts one other number against is has apart = elim (below_or number a
       sym (nat_cmp_is number against Greater more)
       ∙ sym (turned_less other one (key_order-less other one against number has is more))
 ]
+
+-- where keys ascend, their fronts do not fall, and a range of equal fronts has all that can be a key with this front
+module _ (key : ℕ → List (List ℕ)) (text : ℕ → List ℕ) (IsListed : ℕ → Type 0) (count : ℕ) (entries : List Hit)
+    (are : AreEntries key text IsListed count entries) (fronts : List ℕ) (has : AreFronts key entries fronts) where
+  pub IsNonDecreasing-fronts : IsNonDecreasing fronts
+  IsNonDecreasing-fronts = IsNonDecreasingBy-from_default (λ front. front) fronts 0 (λ one later up_to within.
+      elim (below_or (get_or fronts later 0) (get_or fronts one 0)) [
+        | inl falls ↦
+            let inside : later < length entries = omega (arith, within, has.whole) in
+            let turned = key_order-less (key (get_or entries later nothing).first)
+            (key (get_or entries one nothing).first) (get_or fronts later 0) (get_or fronts one 0)
+            (has.each later nothing inside) (has.each one nothing (omega (arith, up_to, inside))) falls in
+            elim (eq-or-lt_of_le up_to) [
+              | inl same ↦ absurd (omega (arith, ap (λ place. get_or fronts place 0) same, falls))
+              | inr before ↦
+                  let less = turned_less (key (get_or entries one nothing).first)
+                  (key (get_or entries later nothing).first) (are.ascending one later nothing before inside) in
+                  absurd (let e = sym less ∙ turned in cc)
+            ]
+        | inr rises ↦ rises
+      ])
+
+  pub IsNarrowed-fronts : (sought : List (List ℕ)) (front low high : ℕ) → IsKeyFront sought front
+      → IsEqualRange fronts front low high → IsNarrowed key entries sought low high
+  IsNarrowed-fronts sought front low high is range = record {
+    low_high = range.low_high;
+    within = omega (arith, range.within, has.whole);
+    below = λ k d h. key_order-less (key (get_or entries k d).first) sought (get_or fronts k 0) front
+        (has.each k d (omega (arith, h, range.low_high, range.within, has.whole))) is (range.below k h);
+    above = λ k d h g. turned_less sought (key (get_or entries k d).first)
+        (key_order-less sought (key (get_or entries k d).first) front (get_or fronts k 0) is (has.each k d g)
+        (range.above k h (omega (arith, g, has.whole))));
+  }
 
 -- so the order of their fronts decides, whatever comes after it
 pub ordering_then-fronts : (one other : List (List ℕ)) (number against : ℕ) (order rest : Ordering)

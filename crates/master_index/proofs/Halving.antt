@@ -47,16 +47,6 @@ below_or one other = elim (cases_Bool (leb other one)) [
   | inr below ↦ inl (leb-false other one below)
 ]
 
--- at the beginning nothing is known
-pub IsNarrowed-whole : (key : ℕ → List (List ℕ)) (entries : List Hit) (sought : List (List ℕ))
-    → IsNarrowed key entries sought 0 (length entries)
-IsNarrowed-whole key entries sought = record {
-  low_high = omega arith;
-  within = omega arith;
-  below = λ k d h. absurd (omega arith);
-  above = λ k d h g. absurd (omega arith);
-}
-
 module _ (key : ℕ → List (List ℕ)) (text : ℕ → List ℕ) (IsListed : ℕ → Type 0) (count : ℕ) (entries : List Hit)
     (are : AreEntries key text IsListed count entries) (sought : List (List ℕ)) where
   -- the key of the entry at a place

@@ -1,4 +1,5 @@
 pub mod Ascending
+pub mod Cutting
 pub mod Found
 pub mod Fronts
 pub mod Grouping

@@ -1,5 +1,6 @@
 pub mod Counts
 pub mod Earliest
+pub mod EqualRange
 pub mod Fronts
 pub mod Held
 pub mod Index

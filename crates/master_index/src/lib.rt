@@ -7,6 +7,7 @@
 
 mod earliest;
 mod entries;
+mod equal_range;
 mod error;
 mod front;
 mod index;

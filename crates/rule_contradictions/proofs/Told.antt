@@ -32,13 +32,6 @@ pub record AreToldBefore (entries : List Hit) (count : ℕ) (found : List Contra
   pub apart : AllPairs (λ one other. one.row ≢ other.row) found
   pub each : (it : Contradiction) → Contains found it ↔ IsToldBefore entries count it
 
--- no entry tells nothing
-pub AreToldBefore-nil : (entries : List Hit) → AreToldBefore entries 0 []
-AreToldBefore-nil entries = record {
-  apart = λ i j d before within. absurd (omega (arith, within));
-  each = λ it. (λ there. absurd (omega (arith, there.1)), λ told. absurd (omega (arith, told.1)));
-}
-
 module _ (entries : List Hit) (count : ℕ) (found : List Contradiction) (are : AreToldBefore entries count found) where
   -- an entry without another row tells nothing
   pub AreToldBefore-passed : (get_or entries count nothing).other ≡ None → AreToldBefore entries (count + 1) found
