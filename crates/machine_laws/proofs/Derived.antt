@@ -1,6 +1,6 @@
 -- Derived rows, as they are told and as they become a region.
-use Rattle.std.proofs.Common.{◌≡◌, ◌≢◌, ◌∙◌, ℕ, ◌-◌, List, [], ◌∷◌, ◌++◌, length, map, drop, take, Some, inl, inr}
-use Rattle.std.proofs.Common.{refl, sym, ap, subst, append_assoc, arith}
+use Rattle.std.proofs.Common.{◌≡◌, ◌≢◌, ◌∙◌, ℕ, ◌-◌, List, [], ◌∷◌, ◌++◌, length, map, drop, take, Some, inl, inr, refl}
+use Rattle.std.proofs.Common.{sym, ap, subst, append_assoc, arith}
 use Rattle.std.specs.Prelude.{IfSome, Ok, option_map}
 use Rattle.std.specs.Str.{bytes_eq}
 use Rattle.std.proofs.lemmas.List.{append-nil, length-map, length-take, map_push}
@@ -38,7 +38,7 @@ use Rattle.machine_laws.proofs.DerivedRegions.{derived_region-found}
 use Rattle.machine_laws.proofs.DerivingWhy.{pair-words}
 use Rattle.machine_laws.proofs.Lists.{find-Some}
 use Rattle.machine_laws.proofs.Told.{step-told}
-use Rattle.machine_core.proofs.Walks.{Met-Gives, Gives-Met}
+use Rattle.machine_core.proofs.Walks.{Met, Met-Gives, Gives-Met}
 use Rattle.desk_words.specs.declared.command.Command.{Command}
 use Rattle.machine_laws.proofs.Writes.{steward-cases}
 
@@ -48,14 +48,12 @@ same-sheet one other is = cc
 
 -- what is found of each item has the name of the item
 named-following : {A B : Type 0} (find_it : List B → A → Checked B) (name : A → List ℕ) (name_of : B → List ℕ)
-    → ((before : List B) (item : A) (found : B) → Gives (find_it before item) (Ok found) → name_of found ≡ name item)
-    → (items : List A) (before found : List B) → Gives (each_following before find_it items) (Ok found)
+    → ((before : List B) (item : A) (found : B) → Met (find_it before item) (Ok found) → name_of found ≡ name item)
+    → (items : List A) (before found : List B) → Met (each_following before find_it items) (Ok found)
     → map name_of found ≡ map name_of before ++ map name items
-named-following find_it name name_of named [] before found gives =
-    ap (map name_of) (done-value before found gives) ∙ sym (append-nil (map name_of before))
-named-following find_it name name_of named (item ∷ items) before found gives =
-    let (here, is_here, rest) =
-    Gives-bind_ok (find_it before item) (λ one. each_following (before ++ one ∷ []) find_it items) found gives in
+named-following find_it name name_of named [] before found is =
+    ap (map name_of) is ∙ sym (append-nil (map name_of before))
+named-following find_it name name_of named (item ∷ items) before found (here, is_here, rest) =
     named-following find_it name name_of named items (before ++ here ∷ []) found rest
     ∙ ap (λ list. list ++ map name items) (map_push name_of before here)
     ∙ append_assoc (map name_of before) (name_of here ∷ []) (map name items)
@@ -69,14 +67,13 @@ places-named : (words names : List (List ℕ)) (pairs : List (List ℕ × List �
 places-named words names pairs found gives =
     let first : ℕ × ℕ → ℕ = λ place. place.0 in
     let second : ℕ × ℕ → ℕ = λ place. place.1 in
-    let (places, are, is) = Met-Gives (places_of words names pairs) (Ok found) gives in
-    let given = Gives-Met (each_following [] (another_pair words names) pairs) (Ok places) are in (
+    let (places, are, is) = Met-Gives (places_of words names pairs) (Ok found) gives in (
       ap (λ (one : List ℕ × List ℕ). map (name_at words) one.0) is ∙ map-map (name_at words) first places
           ∙ named-following (another_pair words names) (λ pair. pair.0) (λ place. name_at words place.0)
-          (λ before pair place one. sym (pair-words words names before pair place one).0) pairs [] places given,
+          (λ before pair place one. sym (pair-words words names before pair place one).0) pairs [] places are,
       ap (λ (one : List ℕ × List ℕ). map (name_at names) one.1) is ∙ map-map (name_at names) second places
           ∙ named-following (another_pair words names) (λ pair. pair.1) (λ place. name_at names place.1)
-          (λ before pair place one. sym (pair-words words names before pair place one).1) pairs [] places given,
+          (λ before pair place one. sym (pair-words words names before pair place one).1) pairs [] places are,
     )
 
 -- what a derivation is asked of

@@ -1,6 +1,6 @@
 -- Each look at the desk comes to a result over valid tables, and each refusal of it has its cause.
-use Rattle.std.proofs.Common.{◌≡◌, ◌∙◌, ℕ, ◌<◌, List, [], ◌∷◌, length, map, Some, None, inl, inr, refl, ap, subst}
-use Rattle.std.specs.Prelude.{All, Err, Ok, Option, flat_map, position, slice_get}
+use Rattle.std.proofs.Common.{◌≡◌, ◌∙◌, ℕ, ◌<◌, List, [], ◌∷◌, length, Some, None, inl, inr, refl, ap, subst}
+use Rattle.std.specs.Prelude.{All, Ok, Option, flat_map, position, slice_get}
 use Rattle.std.specs.Str.{bytes_eq}
 use Rattle.std.proofs.lemmas.List.{get_or_default}
 use Rattle.desk_words.specs.declared.change.Change.{Change}
@@ -17,27 +17,19 @@ use Rattle.desk_words.specs.declared.refusal.Refusal.{Refusal}
 use Rattle.desk_words.specs.declared.refusal.Refusal.TheVariants.{NoSuch}
 use Rattle.desk_words.specs.declared.reply.Reply.{Reply}
 use Rattle.desk_words.specs.declared.reply.Reply.TheVariants as reply
-use Rattle.desk_words.specs.declared.rows.session.SessionRow.{SessionRow}
-use Rattle.desk_words.specs.Tables.{Published as PublishedOf, Rows, published_of, tables_of}
+use Rattle.desk_words.specs.Tables.{Rows, published_of, tables_of}
 use Rattle.desk_valid.specs.Bindings.{bound_at}
-use Rattle.desk_valid.specs.Readings.{all_of, master_at, rules_at}
 use Rattle.desk_valid.specs.Valid.{AreValid}
 use Rattle.machine_core.specs.Causes.{Cause}
 use Rattle.fix_model.specs.Regions.{row_state}
 use Rattle.fix_engine.proofs.Lists.{Contains-first}
-use Rattle.machine_core.specs.Checked.{Checked, Gives, answer_for, certainly, done, run, some_or}
-use Rattle.machine_core.specs.Deriving.{derivation_of, derived_rows, derived_sheet}
+use Rattle.machine_core.specs.Checked.{Checked, Gives, done, run, contradicts, decides}
 use Rattle.machine_core.specs.DeskLook.{desk_reply}
 use Rattle.machine_core.specs.DeskLook.Bodies.{body_at, body_of}
-use Rattle.machine_core.specs.DeskLook.Check.{check_reply, fits_of, tried}
-use Rattle.machine_core.specs.DeskLook.Contradictions.{contradictions_shown}
-use Rattle.machine_core.specs.DeskLook.Dump.{dump}
-use Rattle.machine_core.specs.DeskLook.Edition.{edition_sheet, edition_shown, makings_at, sheet_at}
-use Rattle.machine_core.specs.DeskLook.Published.{catalogue, catalogue_of}
-use Rattle.machine_core.specs.DeskLook.Region.{region_shown, row_answers}
-use Rattle.machine_core.specs.DeskLook.Row.{row_shown}
+use Rattle.machine_core.specs.DeskLook.Check.{check_reply, fits_of}
+use Rattle.machine_core.specs.DeskLook.Edition.{edition_sheet, sheet_at}
+use Rattle.machine_core.specs.DeskLook.Published.{catalogue_of}
 use Rattle.machine_core.specs.Finding.{edition_named, master_named, numbered, place_of, rulebook_named, schema_named}
-use Rattle.machine_core.specs.Look.Report.{report_of}
 use Rattle.machine_core.specs.Look.Suggest.{regions_of}
 use Rattle.machine_core.specs.Machine.{IsStep, answered, machine}
 use Rattle.machine_core.specs.Own.{own_of}
@@ -45,8 +37,7 @@ use Rattle.machine_core.specs.Sessions.{IsSessionOf}
 use Rattle.machine_core.specs.Steward.AddRegion.{region_count}
 use Rattle.machine_core.proofs.Chains.{Gives-bind, Gives-found, Gives-unique}
 use Rattle.machine_core.proofs.Editions.{makings-stand, sheet-found}
-use Rattle.machine_core.proofs.Tested.{certainly-ok, certainly-why, chain-why, done-why, each-why, some_or-ok}
-use Rattle.machine_core.proofs.Tested.{some_or-why}
+use Rattle.machine_core.proofs.Tested.{certainly-ok, some_or-ok}
 use Rattle.machine_core.proofs.Trying.{tried-not_refused}
 use Rattle.machine_laws.proofs.Tried.{outcome-tried}
 use Rattle.machine_laws.proofs.DeedOutcomes.{named-within}
@@ -60,7 +51,10 @@ use Rattle.machine_laws.proofs.Outcomes.{outcome-done, outcome-some_or}
 use Rattle.machine_laws.proofs.OwnOutcomes.{outcome-bound, outcome-report, sessions-of}
 use Rattle.machine_laws.proofs.Totals.{all-flat}
 use Rattle.machine_laws.proofs.Valid.{own-rows}
-use Rattle.machine_laws.proofs.Why.{none-equal}
+use Rattle.machine_laws.proofs.Why.{version-why}
+use Rattle.machine_laws.proofs.Twice.{none-equal}
+use Rattle.machine_laws.proofs.Refusals.{HasCauses, causes-asked, causes-bind, causes-certainly, causes-done}
+use Rattle.machine_laws.proofs.Refusals.{causes-each, causes-some_or, never_refused}
 
 -- a place that is found is one of the rows
 placed-within : {T : Type 0} (name_of : T → List ℕ) (version_of : T → ℕ) (rows : List T) (name : List ℕ)
@@ -141,30 +135,6 @@ module _ (rows : Rows) (valid : AreValid rows) where
       outcome-told (check_reply (published_of rows) proposal) (outcome-tried rows valid proposal)
   outcome-desk Dump = outcome-told reply.Dump (outcome-done (tables_of rows))
 
--- what an edition was made of is never refused
-sheet_at-why : (P : Refusal → Type 0) (published : PublishedOf) (place : ℕ) (refusal : Refusal)
-    → Gives (sheet_at published place) (Err refusal) → P refusal
-sheet_at-why P published place = chain-why P (makings_at published place) _
-    (chain-why P (certainly (slice_get published.editions place)) _ (certainly-why P
-    (slice_get published.editions place))
-    (λ edition found.
-    chain-why P (certainly (slice_get published.rulebooks edition.rulebook)) _
-    (certainly-why P (slice_get published.rulebooks edition.rulebook)) (λ rulebook stands.
-    chain-why P (certainly (slice_get published.schemas rulebook.schema)) _
-    (certainly-why P (slice_get published.schemas rulebook.schema)) (λ schema there.
-    chain-why P (certainly (all_of (map (slice_get published.masters) edition.masters))) _
-    (certainly-why P (all_of (map (slice_get published.masters) edition.masters))) (λ masters all. done-why P _)))))
-    (λ makings made. chain-why P (certainly (rules_at published makings.edition.rulebook)) _
-    (certainly-why P (rules_at published makings.edition.rulebook)) (λ rules read. done-why P _))
-
--- a body is refused where no row of its kind was found
-body_at-why : {T : Type 0} (P : Refusal → Type 0) (body_in : T → List ℕ) (kind : Kind) (rows : List T)
-    (found : Option ℕ) → (found ≡ None → P (NoSuch kind)) → (refusal : Refusal)
-    → Gives (body_at body_in kind rows found) (Err refusal) → P refusal
-body_at-why P body_in kind rows found why = chain-why P (some_or found (NoSuch kind)) _
-    (some_or-why P found (NoSuch kind) why) (λ place is.
-    chain-why P (certainly (slice_get rows place)) _ (certainly-why P (slice_get rows place)) (λ row ok. done-why P _))
-
 -- a look at the desk is answered by the reply that it gives
 pub desk-answered : (rows : Rows) (what : DeskLookOf) (answer given : Reply) (changes : List Change)
     → Gives (desk_reply rows what) (Ok given) → IsStep rows (Desk what) answer changes → answer ≡ given
@@ -175,111 +145,74 @@ desk-answered rows what answer given changes gives step =
     let same = Gives-unique (machine rows (Desk what)) step.outcome (Ok (given, [])) step.gives made in
     ap (λ (both : Reply × List Change). both.0) (step.answers ∙ ap answered same)
 
+-- a body is refused where no row of its kind was found
+body_at-why : {T : Type 0} (P : Refusal → Type 0) (body_in : T → List ℕ) (kind : Kind) (rows : List T)
+    (found : Option ℕ) → (found ≡ None → P (NoSuch kind)) → HasCauses P (body_at body_in kind rows found)
+body_at-why P body_in kind rows found none =
+    causes-bind (causes-some_or none) (λ place is. causes-bind causes-certainly (λ row stands. causes-done))
+
 -- a look at the desk is refused for a cause
-pub desk-why : (rows : Rows) (what : DeskLookOf) (refusal : Refusal) → Gives (desk_reply rows what) (Err refusal)
-    → Cause rows (Desk what) refusal
-desk-why rows Report =
-    let all : List SessionRow = flat_map (λ sessions. sessions) rows.sessions in
-    told-why (Cause rows (Desk Report)) (report_of (published_of rows) None all) reply.Report
-    (report-why (Cause rows (Desk Report)) (published_of rows) None all)
+pub desk-why : (rows : Rows) (what : DeskLookOf) → HasCauses (Cause rows (Desk what)) (desk_reply rows what)
+desk-why rows Report = told-why (report-why (Cause rows (Desk Report)) (published_of rows) None
+    (flat_map (λ sessions. sessions) rows.sessions))
 desk-why rows (Derive edition version master pairs) =
     let command : Command = Desk (Derive edition version master pairs) in
-    let P : Refusal → Type 0 = Cause rows command in
-    told-why P (derived_sheet (published_of rows) edition version master pairs) reply.Derived
-    (chain-why P (derivation_of (published_of rows) edition version master pairs) _
-    (derivation-why rows command edition version master pairs refl refl refl refl) (λ derivation found.
-    chain-why P (derived_rows (published_of rows) derivation) _ (derived_rows-why P (published_of rows) derivation)
-    (λ all ok. done-why P _)))
-desk-why rows Published =
-    let P : Refusal → Type 0 = Cause rows (Desk Published) in
-    told-why P (catalogue rows) reply.Catalogue (done-why P (catalogue_of rows))
+    told-why (causes-bind (derivation-why rows command edition version master pairs refl refl refl refl)
+    (λ derivation found. causes-bind (derived_rows-why (Cause rows command) (published_of rows) derivation)
+    (λ _ _. causes-done)))
+desk-why rows Published = told-why causes-done
 desk-why rows (Edition edition version) =
-    let P : Refusal → Type 0 = Cause rows (Desk (Edition edition version)) in
-    told-why P (edition_shown (published_of rows) edition version) reply.Edition
-    (chain-why P (some_or (edition_named rows.editions edition version) (NoSuch kind.Edition)) _
-    (some_or-why P (edition_named rows.editions edition version) (NoSuch kind.Edition)
-    (λ none. inr (inl ((edition, version), refl, none)))) (λ place found. sheet_at-why P (published_of rows) place))
+    told-why (causes-bind (version-why rows (Desk (Edition edition version)) edition version refl)
+    (λ place found. search never_refused depth 9))
 desk-why rows (Row master version number) =
-    let P : Refusal → Type 0 = Cause rows (Desk (Row master version number)) in
-    told-why P (row_shown (published_of rows) master version number) reply.MasterRow
-    (chain-why P (some_or (master_named rows.masters master version) (NoSuch kind.Master)) _
-    (some_or-why P (master_named rows.masters master version) (NoSuch kind.Master)
-    (λ none. inl ((master, version), Contains-first (master, version) [], none))) (λ place found.
-    chain-why P (certainly (master_at (published_of rows) place)) _
-    (certainly-why P (master_at (published_of rows) place)) (λ sheet reads.
-    chain-why P (some_or (numbered sheet.1.grid.rows number) (NoSuch kind.Row)) _
-    (some_or-why P (numbered sheet.1.grid.rows number) (NoSuch kind.Row) (λ none. (
+    told-why (causes-bind (causes-some_or (λ none.
+    inl ((master, version), Contains-first (master, version) [], none))) (λ place found.
+    causes-bind causes-certainly (λ sheet reads. causes-bind (causes-some_or (λ none. (
       (master, version),
       place,
       sheet,
       number,
       Contains-first (master, version) [],
-      some_or-ok (master_named rows.masters master version) (NoSuch kind.Master) place found,
-      certainly-ok (master_at (published_of rows) place) sheet reads,
+      found,
+      reads,
       refl,
       none,
-    ))) (λ cells ok. done-why P _))))
+    ))) (λ _ _. causes-done))))
 desk-why rows (Region edition version number) =
-    let P : Refusal → Type 0 = Cause rows (Desk (Region edition version number)) in
-    told-why P (region_shown (published_of rows) edition version number) reply.Region
-    (chain-why P (some_or (edition_named rows.editions edition version) (NoSuch kind.Edition)) _
-    (some_or-why P (edition_named rows.editions edition version) (NoSuch kind.Edition)
-    (λ none. inr (inl ((edition, version), refl, none)))) (λ place found.
-    chain-why P (some_or (numbered (regions_of rows.regions place) number) (NoSuch kind.Region)) _
-    (some_or-why P (numbered (regions_of rows.regions place) number) (NoSuch kind.Region) (λ none. (
+    told-why (causes-bind (version-why rows (Desk (Region edition version number)) edition version refl)
+    (λ place found. causes-bind (causes-some_or (λ none. (
       (edition, version),
       place,
       number,
       refl,
-      some_or-ok (edition_named rows.editions edition version) (NoSuch kind.Edition) place found,
+      found,
       refl,
       none,
-    ))) (λ region there. chain-why P (certainly (bound_at (published_of rows) place)) _
-    (certainly-why P (bound_at (published_of rows) place)) (λ bound binds.
-    chain-why P (row_answers bound.kit region) _ (each-why P
-    (λ texts. answer_for bound.kit (row_state bound.kit.width region.attrs texts)) region.rows
-    (λ texts listed refusal gives. done-why P gives.0 refusal gives.2)) (λ answers ok. done-why P _)))))
+    ))) (λ region there. causes-bind causes-certainly (λ bound binds.
+    causes-bind (causes-each region.rows (λ texts listed.
+    causes-asked (decides bound.kit (row_state bound.kit.width region.attrs texts)))) (λ _ _. causes-done)))))
 desk-why rows (Body publication.Schema name version) =
-    let P : Refusal → Type 0 = Cause rows (Desk (Body publication.Schema name version)) in
-    told-why P (body_of (published_of rows) publication.Schema name version) (reply.Body publication.Schema)
-    (body_at-why P (λ row. row.body) kind.Schema rows.schemas (schema_named rows.schemas name version)
-    (λ none. ((name, version), refl, none)))
+    told-why (body_at-why (Cause rows (Desk (Body publication.Schema name version))) (λ row. row.body) kind.Schema
+    rows.schemas (schema_named rows.schemas name version) (λ none. ((name, version), refl, none)))
 desk-why rows (Body publication.Master name version) =
-    let P : Refusal → Type 0 = Cause rows (Desk (Body publication.Master name version)) in
-    told-why P (body_of (published_of rows) publication.Master name version) (reply.Body publication.Master)
-    (body_at-why P (λ row. row.body) kind.Master rows.masters (master_named rows.masters name version)
+    told-why (body_at-why (Cause rows (Desk (Body publication.Master name version))) (λ row. row.body) kind.Master
+    rows.masters (master_named rows.masters name version)
     (λ none. inl ((name, version), Contains-first (name, version) [], none)))
 desk-why rows (Body publication.Rulebook name version) =
-    let P : Refusal → Type 0 = Cause rows (Desk (Body publication.Rulebook name version)) in
-    told-why P (body_of (published_of rows) publication.Rulebook name version) (reply.Body publication.Rulebook)
-    (body_at-why P (λ row. row.body) kind.Rulebook rows.rulebooks (rulebook_named rows.rulebooks name version)
-    (λ none. ((name, version), refl, none)))
+    told-why (body_at-why (Cause rows (Desk (Body publication.Rulebook name version))) (λ row. row.body) kind.Rulebook
+    rows.rulebooks (rulebook_named rows.rulebooks name version) (λ none. ((name, version), refl, none)))
 desk-why rows (Contradictions edition version name) =
-    let P : Refusal → Type 0 = Cause rows (Desk (Contradictions edition version name)) in
-    told-why P (contradictions_shown (published_of rows) edition version name) reply.Contradictions
-    (chain-why P (some_or (edition_named rows.editions edition version) (NoSuch kind.Edition)) _
-    (some_or-why P (edition_named rows.editions edition version) (NoSuch kind.Edition)
-    (λ none. inr (inl ((edition, version), refl, none)))) (λ place found.
-    chain-why P (certainly (bound_at (published_of rows) place)) _
-    (certainly-why P (bound_at (published_of rows) place)) (λ bound binds.
-    chain-why P (some_or (position (bytes_eq name) bound.names.rules) (NoSuch kind.Rule)) _
-    (some_or-why P (position (bytes_eq name) bound.names.rules) (NoSuch kind.Rule) (λ none. (
+    told-why (causes-bind (version-why rows (Desk (Contradictions edition version name)) edition version refl)
+    (λ place found. causes-bind causes-certainly (λ bound binds. causes-bind (causes-some_or (λ none. (
       place,
       bound,
       name,
-      inr (inl (
-        (edition, version),
-        refl,
-        some_or-ok (edition_named rows.editions edition version) (NoSuch kind.Edition) place found,
-      )),
-      certainly-ok (bound_at (published_of rows) place) bound binds,
+      inr (inl ((edition, version), refl, found)),
+      binds,
       refl,
       none-equal name bound.names.rules none,
-    ))) (λ rule named refusal gives. done-why P _ refusal gives.2))))
-desk-why rows (Check proposal) =
-    told-why (Cause rows (Desk (Check proposal))) (tried (published_of rows) proposal)
-    (check_reply (published_of rows) proposal) (λ refusal gives. absurd
-    (tried-not_refused (run (fits_of (published_of rows) proposal)) refusal gives))
-desk-why rows Dump =
-    let P : Refusal → Type 0 = Cause rows (Desk Dump) in
-    told-why P (dump rows) reply.Dump (done-why P (tables_of rows))
+    ))) (λ rule named. causes-bind (causes-asked (contradicts bound.kit rule)) (λ _ _. causes-done)))))
+desk-why rows (Check proposal) = told-why (record {
+  why = λ refusal gives. absurd (tried-not_refused (run (fits_of (published_of rows) proposal)) refusal gives);
+})
+desk-why rows Dump = told-why causes-done

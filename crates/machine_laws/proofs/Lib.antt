@@ -23,6 +23,8 @@ pub mod Listed
 pub mod Isolating
 pub mod Stewards
 pub mod Apart
+pub mod Refusals
+pub mod Twice
 pub mod Why
 pub mod Wrong
 pub mod Told

@@ -1,7 +1,6 @@
 -- An explanation comes to a result over valid tables, its refusals have their causes, and it tells the reason.
-use Rattle.std.proofs.Common.{◌≡◌, ◌∙◌, ℕ, List, Some, sym, ap, subst, Bool, arith, false, inl, inr, refl, true}
-use Rattle.std.specs.Prelude.{Err, Ok, is_some, position}
-use Rattle.std.specs.Str.{bytes_eq}
+use Rattle.std.proofs.Common.{◌≡◌, ◌∙◌, ℕ, List, Some, sym, ap, subst, Bool, arith, inl, inr, refl}
+use Rattle.std.specs.Prelude.{Ok, is_some}
 use Rattle.desk_words.specs.declared.change.Change.{Change}
 use Rattle.desk_words.specs.declared.command.Command.TheVariants.{Look}
 use Rattle.desk_words.specs.declared.command.Command.{Command}
@@ -9,8 +8,7 @@ use Rattle.desk_words.specs.declared.look.Look.TheVariants.{Explain}
 use Rattle.desk_words.specs.declared.reply.Explained.{Explained}
 use Rattle.desk_words.specs.declared.reply.Reply.TheVariants as reply
 use Rattle.desk_words.specs.declared.rows.session.SessionRow.{SessionRow}
-use Rattle.desk_words.specs.declared.refusal.Refusal.{Refusal}
-use Rattle.desk_words.specs.declared.refusal.Refusal.TheVariants.{NoSuch, NotFixed, UnknownAttr}
+use Rattle.desk_words.specs.declared.refusal.Refusal.TheVariants.{NoSuch, NotFixed}
 use Rattle.desk_words.specs.Tables.{Published, Rows, published_of}
 use Rattle.desk_words.specs.declared.refusal.Kind.TheVariants as kind
 use Rattle.desk_valid.specs.declared.bound.Bound.{Bound}
@@ -19,79 +17,54 @@ use Rattle.desk_valid.specs.Valid.{AreValid}
 use Rattle.fix_model.specs.declared.state.State.{State}
 use Rattle.fix_model.specs.Run.{end_of}
 use Rattle.fix_model.specs.States.{cell_at, fixed_by}
-use Rattle.machine_core.specs.Answers.{bound_for, state_of}
-use Rattle.machine_core.specs.Checked.{Answer, Checked, ◌>>◌, Gives, IsFound, answer_for}
-use Rattle.machine_core.specs.Clerk.Commit.{not_in_conflict}
+use Rattle.machine_core.specs.Answers.{state_of}
+use Rattle.machine_core.specs.Checked.{Gives, IsFound, decides, explains}
 use Rattle.machine_core.specs.Finding.{session_at}
-use Rattle.machine_core.specs.Look.Explain.{explain, explained_on, explanation_of, fixed_at}
+use Rattle.machine_core.specs.Look.Explain.{explain, explained_on}
 use Rattle.machine_core.specs.Look.{look_reply}
 use Rattle.machine_core.specs.Machine.{IsStep, clerk_of}
 use Rattle.machine_core.specs.Own.{Own, own_of}
 use Rattle.machine_core.specs.OwnRows.{AreOwnRows}
-use Rattle.machine_core.specs.Causes.{AsksWith, Cause, Explains, Names}
-use Rattle.machine_core.specs.Tests.{attribute_of, session_of}
+use Rattle.machine_core.specs.Causes.{AsksWith, Cause, Explains}
 use Rattle.machine_core.proofs.Walks.{Gives-Met, Met-Gives}
-use Rattle.machine_core.proofs.Tested.{certainly-ok, certainly-why, chain-why, done-why, some_or-ok, some_or-why}
-use Rattle.machine_core.proofs.Tested.{unless-ok, unless-why}
+use Rattle.machine_core.proofs.Tested.{unless-ok}
 use Rattle.machine_laws.specs.Explanations.{TellsReason}
 use Rattle.machine_laws.proofs.Told.{look-told}
-use Rattle.machine_laws.proofs.Why.{answer-why, attribute-why, conflict-why, no-conflict, session-words, word-at}
+use Rattle.machine_laws.proofs.Why.{conflict-why, no-conflict, session-named, session-why, session-words, word-why}
+use Rattle.machine_laws.proofs.Twice.{word-at}
+use Rattle.machine_laws.proofs.Refusals.{HasCauses, causes-asked, causes-bind, causes-certainly, causes-done}
+use Rattle.machine_laws.proofs.Refusals.{causes-unless, not-both}
 use Rattle.machine_laws.proofs.Outcomes.{HasOutcome, outcome-bind, outcome-done, outcome-some_or, outcome-unless}
-use Rattle.machine_laws.proofs.Explanations.{answer-given}
 use Rattle.machine_laws.proofs.OwnOutcomes.{outcome-bound, session-answered, session-explained}
 use Rattle.machine_laws.proofs.DeedOutcomes.{found-of, outcome-attribute, outcome-not_in_conflict}
 
 -- an attribute of which it is asked why it is fixed
 pub explain-why : (rows : Rows) (name : List ℕ) (number : ℕ) (word : List ℕ) (own : Own)
-    → AsksWith rows (Look name (Explain number word)) own → (refusal : Refusal)
-    → Gives (explain (published_of rows) own number word) (Err refusal)
-    → Cause rows (Look name (Explain number word)) refusal
+    → AsksWith rows (Look name (Explain number word)) own
+    → HasCauses (Cause rows (Look name (Explain number word))) (explain (published_of rows) own number word)
 explain-why rows name number word own asks =
     let command : Command = Look name (Explain number word) in
-    let P : Refusal → Type 0 = Cause rows command in
-    chain-why P (session_of own.sessions number) _ (some_or-why P (session_at own.sessions number) (NoSuch kind.Session)
-    (λ none. (own, number, asks, refl, none))) (λ session is.
-    let named : Names rows command session = record {
-      own = own;
-      asks = asks;
-      number = number;
-      names = refl;
-      stands = some_or-ok (session_at own.sessions number) (NoSuch kind.Session) session is;
-    } in
-    chain-why P (bound_for (published_of rows) session) _
-    (certainly-why P (bound_at (published_of rows) session.edition))
-    (λ bound gives_bound.
-    let binds = certainly-ok (bound_at (published_of rows) session.edition) bound gives_bound in
+    causes-bind (session-why rows command own number asks refl) (λ session stands.
+    causes-bind causes-certainly (λ bound binds.
+    let named = session-named rows command own number asks refl session stands in
     let words = session-words rows command session bound named binds in
-    let end_it : Answer → State = λ answer. end_of bound.kit (state_of session) answer.first in
-    let explaining : ℕ → Answer → Checked Explained = λ place answer. not_in_conflict answer.verdict
-    >> (fixed_at (end_it answer) place word >> explanation_of bound (state_of session) answer.first place) in
-    chain-why P (attribute_of bound.names.attributes word) _ (attribute-why P bound.names.attributes word (λ unknown.
-    (bound.names.attributes, words, (0, omega arith, refl), unknown)))
-    (λ place there. chain-why P (answer_for bound.kit (state_of session)) _
-    (answer-why P bound.kit (state_of session)) (λ answer given.
-    let explains : Explains rows command word session bound answer = record {
-      asks = refl;
-      names = named;
-      binds = binds;
-      answers = answer-given bound.kit (state_of session) answer given;
-    } in
-    chain-why P (not_in_conflict answer.verdict) _
-    (conflict-why P answer.verdict (λ conflict. (session, bound, answer, conflict, inr (inl (word, explains)))))
-    (λ fix fix_ok. chain-why P (fixed_at (end_it answer) place word) _
-    (unless-why P (is_some (fixed_by (cell_at (end_it answer) place))) (NotFixed word) (λ fails. (
+    causes-bind (word-why rows command bound.names.attributes word words (0, omega arith, refl)) (λ place there.
+    causes-bind (causes-asked (decides bound.kit (state_of session))) (λ answer answers.
+    let asks_it : Explains rows command word session bound answer =
+    record { asks = refl; names = named; binds = binds; answers = answers } in
+    causes-bind (conflict-why (Cause rows command) answer.verdict (λ conflict.
+    (session, bound, answer, conflict, inr (inl (word, asks_it))))) (λ fix is_fix.
+    causes-bind (causes-unless (λ fails. (
       session,
       bound,
       answer,
       place,
-      explains,
-      no-conflict answer.verdict fix fix_ok,
-      some_or-ok (position (bytes_eq word) bound.names.attributes) (UnknownAttr word) place there,
-      λ fixed. differ fixed fails,
-    ))) (λ passed ok refusal gives. done-why P _ refusal gives.2))))))
-  where
-    differ : {told : Bool} → told ≡ true → told ≡ false → ⊥
-    differ holds fails = (let both : true ≡ false = sym holds ∙ fails in cc)
+      asks_it,
+      no-conflict answer.verdict fix is_fix,
+      there,
+      λ fixed. not-both fixed fails,
+    ))) (λ _ _. causes-bind (causes-asked (explains bound.kit (state_of session) answer.first place))
+    (λ _ _. causes-done)))))))
 
 module _ (rows : Rows) (valid : AreValid rows) (own : Own)
     (are : AreOwnRows (published_of rows) own.sessions own.records own.batches) where
@@ -133,7 +106,7 @@ module _ (rows : Rows) (name : List ℕ) (number : ℕ) (word : List ℕ) where
         named = there;
         answer = answer;
         answers = answers;
-        is_fix = no-conflict answer.verdict fix (Gives-Met (not_in_conflict answer.verdict) (Ok fix) is_fix);
+        is_fix = no-conflict answer.verdict fix is_fix;
         reason = explanation.steps;
         is_reason = told_so.reason;
         uses = explanation.uses;
@@ -150,9 +123,9 @@ module _ (rows : Rows) (name : List ℕ) (number : ℕ) (word : List ℕ) where
       let published : Published = published_of rows in
       let is = look-told rows name (Explain number word) (reply.Explained told) changes (λ refusal same. cc) step in
       let own : Own = own_of rows is.place in
-      let (found, (session, stands, (bound, binds, explains)), told_so) =
+      let (found, (session, stands, (bound, binds, reasoned)), told_so) =
       Met-Gives (look_reply published own (Explain number word)) (Ok (reply.Explained told)) is.gives in
       let same : found ≡ told = cc in
       TellsReason-on is.place session bound told is.found stands binds
       (subst (λ one. Gives (explained_on bound session word) (Ok one)) same
-      (Gives-Met (explained_on bound session word) (Ok found) explains))
+      (Gives-Met (explained_on bound session word) (Ok found) reasoned))

@@ -1,7 +1,7 @@
 -- Each refusal of the machine has its cause.
 use Rattle.std.proofs.Common.{◌≡◌, ◌≢◌, ◌∙◌, ℕ, ◌+◌, ◌-◌, ◌<◌, Bool, true, false, List, [], length, get_or, drop, take}
-use Rattle.std.proofs.Common.{nat_le, Option, Some, None, inl, inr, refl, sym, ap, subst, arith}
-use Rattle.std.specs.Prelude.{◌==◌, All, Result, Ok, Err, ⊤, if◌then◌else◌, option_map, position, slice_get}
+use Rattle.std.proofs.Common.{Option, Some, None, inl, inr, refl, sym, ap, subst, arith}
+use Rattle.std.specs.Prelude.{◌==◌, Result, Ok, Err, ⊤, if◌then◌else◌, option_map, position, slice_get}
 use Rattle.std.specs.Str.{bytes_eq}
 use Rattle.std.proofs.lemmas.Bool.Decides.{nat_tests}
 use Rattle.std.proofs.lemmas.Slice.Eq.{bytes_eq-Decides}
@@ -10,10 +10,7 @@ use Rattle.desk_words.specs.declared.clerk_work.ClerkWork.{ClerkWork}
 use Rattle.desk_words.specs.declared.command.Command.{Command}
 use Rattle.desk_words.specs.declared.command.Command.TheVariants.{Steward, Clerk, Look, Desk}
 use Rattle.desk_words.specs.declared.command.Ticket.{Ticket}
-use Rattle.desk_words.specs.declared.look.Look.{Look as LookOf}
-use Rattle.desk_words.specs.declared.refusal.Kind.TheVariants as kind
 use Rattle.desk_words.specs.declared.refusal.Refusal.{Refusal}
-use Rattle.desk_words.specs.declared.refusal.Refusal.TheVariants.{Gap, NoClerk, NoSuch, Reused, Stale}
 use Rattle.desk_words.specs.declared.reply.Reply.{Reply}
 use Rattle.desk_words.specs.declared.reply.Reply.TheVariants as reply
 use Rattle.desk_words.specs.declared.rows.act.Act.{Act}
@@ -23,29 +20,24 @@ use Rattle.desk_words.specs.declared.rows.session.SessionRow.{SessionRow}
 use Rattle.desk_words.specs.declared.steward_work.StewardWork.{StewardWork}
 use Rattle.desk_words.specs.Changes.{changed}
 use Rattle.desk_words.specs.Tables.{Published, Rows, new_clerk, published_of}
-use Rattle.desk_valid.specs.Bindings.{bound_at}
 use Rattle.desk_valid.specs.Rows.Clerk.{HasTarget}
 use Rattle.desk_valid.specs.Valid.{AreValid}
 use Rattle.fix_model.specs.Regions.{row_state}
 use Rattle.machine_core.specs.Causes.{Cause, WritesWith}
-use Rattle.machine_core.specs.Checked.{Answer, Checked, ◌>>=◌, answer_for, certainly, done, each, unless, Gives}
+use Rattle.machine_core.specs.Checked.{Checked, ◌>>=◌, done, Gives, decides}
 use Rattle.machine_core.specs.DeskLook.{desk_reply}
 use Rattle.machine_core.specs.Finding.{session_at}
 use Rattle.machine_core.specs.Kept.{kept_made, kept_reply}
-use Rattle.machine_core.specs.Look.Report.{assessment_of}
 use Rattle.machine_core.specs.Look.View.{view_at}
 use Rattle.machine_core.specs.Look.{look_reply}
-use Rattle.machine_core.specs.Machine.{IsStep, answered, clerk_of, clerk_write, clerk_write_at, deed_of, machine}
-use Rattle.machine_core.specs.Machine.{making_of, steward_write}
+use Rattle.machine_core.specs.Machine.{IsStep, answered, clerk_of, clerk_write_at, deed_of, machine, steward_write}
 use Rattle.machine_core.specs.Own.{Own, after, own_of}
-use Rattle.machine_core.specs.Tests.{session_of}
 use Rattle.machine_core.specs.declared.ticket.Use.{Use}
 use Rattle.machine_core.specs.declared.ticket.Use.TheVariants.{Fresh, Repeated}
 use Rattle.machine_core.specs.Ticket.{use_of, use_at}
 use Rattle.machine_core.proofs.Chains.{Gives-bind_ok, done-value}
 use Rattle.machine_core.proofs.DeskLooks.{desk-found}
 use Rattle.machine_core.proofs.Looks.{look-found}
-use Rattle.machine_core.proofs.Tested.{certainly-why, chain-why, done-why, each-why, some_or-why, unless-why}
 use Rattle.machine_core.specs.OwnRows.{HasOwnTarget}
 use Rattle.machine_laws.proofs.Accepted.{deed-sound}
 use Rattle.machine_laws.proofs.DeskLooks.{desk-why}
@@ -54,8 +46,13 @@ use Rattle.machine_laws.proofs.Looks.{assessment-why, look-why}
 use Rattle.machine_laws.proofs.Names.{none-passes}
 use Rattle.machine_laws.proofs.StewardWhy.{making-why}
 use Rattle.machine_laws.proofs.Unchanged.{kept-not_refused}
-use Rattle.machine_laws.proofs.Why.{answer-why, deed-why, view-why}
-use Rattle.machine_laws.proofs.Writes.{clerk-written, clerk_of-ok, steward-written}
+use Rattle.machine_laws.proofs.Why.{deed-why, view-why}
+use Rattle.machine_laws.proofs.Refusals.{HasCauses, causes-asked, causes-bind, causes-certainly, causes-done}
+use Rattle.machine_laws.proofs.Refusals.{causes-each, causes-never, causes-some_or, causes-unless, never_refused}
+use Rattle.machine_laws.proofs.Refusals.{not-both}
+use Rattle.machine_core.specs.Named.{clerk_in}
+use Rattle.machine_core.proofs.Walks.{Gives-Met}
+use Rattle.machine_laws.proofs.Writes.{IsPlaceOf, clerk-written, clerk_of-ok, steward-written}
 
 -- a session whose place is within the list is there
 session-there : (sessions : List SessionRow) (place : ℕ) → place < length sessions → session_at sessions (place + 1) ≢
@@ -110,99 +107,78 @@ session-target rows place act.Region target has = tt
 session-target rows place act.Committed target has = tt
 session-target rows place act.Batched target has = tt
 
--- a session that is there is shown
-view_at-why : (P : Refusal → Type 0) (published : Published) (own : Own) (target : ℕ) → target < length own.sessions
-    → (refusal : Refusal) → Gives (view_at published own (target + 1)) (Err refusal) → P refusal
-view_at-why P published own target within = chain-why P (session_of own.sessions (target + 1)) _
-    (some_or-why P (session_at own.sessions (target + 1)) (NoSuch kind.Session)
-    (λ none. absurd (session-there own.sessions
-    target within none))) (λ session is. view-why P published (target + 1) session)
-
 -- a kept reply is given
 pub kept-why : (P : Refusal → Type 0) (published : Published) (own : Own) (what : Act) (target : ℕ)
-    → HasSession own what target → (refusal : Refusal) → Gives (kept_reply published own what target) (Err refusal)
-    → P refusal
-kept-why P published own act.Opened target has = chain-why P (view_at published own (target + 1)) _
-    (view_at-why P published own target has) (λ view ok. done-why P _)
-kept-why P published own act.Changed target has = chain-why P (view_at published own (target + 1)) _
-    (view_at-why P published own target has) (λ view ok. done-why P _)
-kept-why P published own act.Committed target has = chain-why P (certainly (slice_get own.records target)) _
-    (certainly-why P (slice_get own.records target)) (λ row ok. done-why P _)
-kept-why P published own act.Batched target has = chain-why P (certainly (slice_get own.batches target)) _
-    (certainly-why P (slice_get own.batches target)) (λ row is.
-    let ones : List SessionRow = take row.count (drop (row.first - 1) own.sessions) in
-    chain-why P (each (assessment_of published) ones) _ (each-why P (assessment_of published) ones
-    (λ session there. assessment-why P published session)) (λ all ok. done-why P _))
-kept-why P published own act.Nothing target has = λ refusal gives. absurd gives
-kept-why P published own act.Clerk target has = λ refusal gives. absurd gives
-kept-why P published own act.Schema target has = λ refusal gives. absurd gives
-kept-why P published own act.Master target has = λ refusal gives. absurd gives
-kept-why P published own act.Rulebook target has = λ refusal gives. absurd gives
-kept-why P published own act.Edition target has = λ refusal gives. absurd gives
-kept-why P published own act.Region target has = λ refusal gives. absurd gives
+    → HasSession own what target → HasCauses P (kept_reply published own what target)
+kept-why P published own what target = by what
+  where
+    -- a session that is there is shown
+    shown-why : target < length own.sessions → HasCauses P (view_at published own (target + 1))
+    shown-why within = causes-bind (causes-some_or (λ none. absurd (session-there own.sessions target within none)))
+        (λ session stands. view-why P published (target + 1) session)
+
+    by : (what : Act) → HasSession own what target → HasCauses P (kept_reply published own what target)
+    by act.Opened has = causes-bind (shown-why has) (λ _ _. causes-done)
+    by act.Changed has = causes-bind (shown-why has) (λ _ _. causes-done)
+    by act.Committed has = search never_refused
+    by act.Batched has = causes-bind causes-certainly (λ row stands.
+        causes-bind (causes-each (take row.count (drop (row.first - 1) own.sessions)) (λ session there.
+        assessment-why P published session)) (λ _ _. causes-done))
+    by act.Nothing has = causes-never
+    by act.Clerk has = causes-never
+    by act.Schema has = causes-never
+    by act.Master has = causes-never
+    by act.Rulebook has = causes-never
+    by act.Edition has = causes-never
+    by act.Region has = causes-never
 
 -- and what the steward made is told
-made-why : (P : Refusal → Type 0) (rows : Rows) (what : Act) (target : ℕ) (refusal : Refusal)
-    → Gives (kept_made rows what target) (Err refusal) → P refusal
-made-why P rows act.Clerk target = chain-why P (certainly (slice_get rows.clerks target)) _
-    (certainly-why P (slice_get rows.clerks target)) (λ row ok. done-why P _)
-made-why P rows act.Schema target = chain-why P (certainly (slice_get rows.schemas target)) _
-    (certainly-why P (slice_get rows.schemas target)) (λ row ok. done-why P _)
-made-why P rows act.Master target = chain-why P (certainly (slice_get rows.masters target)) _
-    (certainly-why P (slice_get rows.masters target)) (λ row ok. done-why P _)
-made-why P rows act.Rulebook target = chain-why P (certainly (slice_get rows.rulebooks target)) _
-    (certainly-why P (slice_get rows.rulebooks target)) (λ row ok. done-why P _)
-made-why P rows act.Edition target = chain-why P (certainly (slice_get rows.editions target)) _
-    (certainly-why P (slice_get rows.editions target)) (λ row ok. done-why P _)
-made-why P rows act.Region target = chain-why P (certainly (slice_get rows.regions target)) _
-    (certainly-why P (slice_get rows.regions target)) (λ row is.
-    chain-why P (certainly (bound_at (published_of rows) row.edition)) _
-    (certainly-why P (bound_at (published_of rows) row.edition)) (λ bound binds.
-    let asking : List (List ℕ) → Checked Answer = λ texts.
-    answer_for bound.kit (row_state bound.kit.width row.region.attrs texts) in
-    chain-why P (each asking row.region.rows) _
-    (each-why P asking row.region.rows (λ texts there. answer-why P bound.kit
-    (row_state bound.kit.width row.region.attrs texts))) (λ answers ok. done-why P _)))
-made-why P rows act.Nothing target = λ refusal gives. absurd gives
-made-why P rows act.Opened target = λ refusal gives. absurd gives
-made-why P rows act.Changed target = λ refusal gives. absurd gives
-made-why P rows act.Committed target = λ refusal gives. absurd gives
-made-why P rows act.Batched target = λ refusal gives. absurd gives
+made-why : (P : Refusal → Type 0) (rows : Rows) (what : Act) (target : ℕ) → HasCauses P (kept_made rows what target)
+made-why P rows act.Clerk target = search never_refused
+made-why P rows act.Schema target = search never_refused
+made-why P rows act.Master target = search never_refused
+made-why P rows act.Rulebook target = search never_refused
+made-why P rows act.Edition target = search never_refused
+made-why P rows act.Region target = causes-bind causes-certainly (λ row stands.
+    causes-bind causes-certainly (λ bound binds.
+    causes-bind (causes-each row.region.rows (λ texts there.
+    causes-asked (decides bound.kit (row_state bound.kit.width row.region.attrs texts)))) (λ _ _. causes-done)))
+made-why P rows act.Nothing target = causes-never
+made-why P rows act.Opened target = causes-never
+made-why P rows act.Changed target = causes-never
+made-why P rows act.Committed target = causes-never
+made-why P rows act.Batched target = causes-never
 
 -- a number is refused
-number-why : (P : Refusal → Type 0) (row : ClerkRow) (ticket : Ticket) → (ticket.number < row.last → P (Stale row.last))
-    → (row.last + 1 < ticket.number → P (Gap row.last))
-    → (ticket.number ≡ row.last → row.digest.bytes ≢ ticket.digest.bytes → P (Reused row.last)) → (refusal : Refusal)
-    → Gives (use_of row ticket) (Err refusal) → P refusal
-number-why P row ticket stale gap reused =
-    chain-why P (unless (nat_le row.last ticket.number) (Stale row.last)) _
-    (unless-why P (nat_le row.last ticket.number) (Stale row.last) (λ fails.
-    stale (grind (arith, nat_tests, fails)))) (λ _ _.
-    chain-why P (unless (nat_le ticket.number (row.last + 1)) (Gap row.last)) _
-    (unless-why P (nat_le ticket.number (row.last + 1)) (Gap row.last) (λ fails.
-    gap (grind (arith, nat_tests, fails)))) (λ _ _.
+number-why : (rows : Rows) (command : Command) (row : ClerkRow) (ticket : Ticket) → WritesWith rows command row ticket
+    → HasCauses (Cause rows command) (use_of row ticket)
+number-why rows command row ticket writes =
+    causes-bind (causes-unless (λ fails. (row, ticket, writes, refl, grind (arith, nat_tests, fails)))) (λ _ _.
+    causes-bind (causes-unless (λ fails. (row, ticket, writes, refl, grind (arith, nat_tests, fails)))) (λ _ _.
     last_or_next (ticket.number == row.last) refl))
   where
-    differ : {passes : Bool} → passes ≡ true → passes ≡ false → ⊥
-    differ holds fails = (let both : true ≡ false = sym holds ∙ fails in cc)
-
-    last_or_next : (same : Bool) → (ticket.number == row.last) ≡ same → (refusal : Refusal)
-        → Gives (use_at same row ticket) (Err refusal) → P refusal
-    last_or_next true is =
-        chain-why P (unless (bytes_eq row.digest.bytes ticket.digest.bytes) (Reused row.last)) _
-        (unless-why P (bytes_eq row.digest.bytes ticket.digest.bytes) (Reused row.last) (λ fails.
-        reused (grind (arith, nat_tests, is)) (λ same. differ ((bytes_eq-Decides row.digest.bytes
-        ticket.digest.bytes).1 same) fails))) (λ passed ok. done-why P Repeated)
-    last_or_next false is = done-why P Fresh
+    last_or_next : (same : Bool) → (ticket.number == row.last) ≡ same
+        → HasCauses (Cause rows command) (use_at same row ticket)
+    last_or_next true is = causes-bind (causes-unless (λ fails. (
+      row,
+      ticket,
+      writes,
+      refl,
+      grind (arith, nat_tests, is),
+      λ same. not-both ((bytes_eq-Decides row.digest.bytes ticket.digest.bytes).1 same) fails,
+    ))) (λ _ _. causes-done)
+    last_or_next false is = causes-done
 
 -- no clerk has the name
-clerk-why : (P : Refusal → Type 0) (clerks : List ClerkRow) (name : List ℕ)
-    → (All (λ row. row.name ≢ name) (drop 1 clerks) → P NoClerk) → (refusal : Refusal)
-    → Gives (clerk_of clerks name) (Err refusal) → P refusal
-clerk-why P clerks name why = some_or-why P (option_map (λ place. place + 1) (position test (drop 1 clerks))) NoClerk
-    (λ none. why (λ index past inside same. none-passes test (drop 1 clerks)
-    (no-place (position test (drop 1 clerks)) none) index past inside
-    ((bytes_eq-Decides (get_or (drop 1 clerks) index past).name name).1 same)))
+clerk-why : (rows : Rows) (command : Command) (name : List ℕ) → clerk_in command ≡ Some name
+    → HasCauses (Cause rows command) (clerk_of rows.clerks name)
+clerk-why rows command name asks = causes-some_or (λ none. (
+  name,
+  asks,
+  λ index past inside same. none-passes test (drop 1 rows.clerks)
+      (no-place (position test (drop 1 rows.clerks)) none) index past inside
+      ((bytes_eq-Decides (get_or (drop 1 rows.clerks) index past).name name).1 same),
+))
   where
     test : ClerkRow → Bool
     test row = bytes_eq row.name name
@@ -213,34 +189,13 @@ clerk-why P clerks name why = some_or-why P (option_map (λ place. place + 1) (p
 
 module _ (rows : Rows) (valid : AreValid rows) where
   -- a clerk's write
-  write-why : (name : List ℕ) (ticket : Ticket) (work : ClerkWork) (refusal : Refusal)
-      → Gives (machine rows (Clerk name ticket work)) (Err refusal) → Cause rows (Clerk name ticket work) refusal
+  write-why : (name : List ℕ) (ticket : Ticket) (work : ClerkWork)
+      → HasCauses (Cause rows (Clerk name ticket work)) (machine rows (Clerk name ticket work))
   write-why name ticket work =
-      let command : Command = Clerk name ticket work in
-      let P : Refusal → Type 0 = Cause rows command in
-      chain-why P (clerk_of rows.clerks name) _ (clerk-why P rows.clerks name (λ none. (name, refl, none))) (λ place is.
-      let own : Own = own_of rows place in
-      let there = clerk_of-ok rows.clerks name place is in
-      let writes : WritesWith rows command own.row ticket = (place, there.found, refl, refl) in
-      let at_turn : (turn : Use) (refusal : Refusal) → Gives (clerk_write_at (published_of rows) own work turn)
-      (Err refusal)
-      → P refusal = λ turn. elim turn as (λ one. (refusal : Refusal)
-      → Gives (clerk_write_at (published_of rows) own work one) (Err refusal) → P refusal) [
-        | Repeated ↦ chain-why P (kept_reply (published_of rows) own own.row.act own.row.target) _
-            (kept-why P (published_of rows) own own.row.act own.row.target (own-target place there.within))
-            (λ answer ok. done-why P _)
-        | Fresh ↦ chain-why P (deed_of (published_of rows) own work) _
-            (deed-why rows name place there.found ticket work) (λ deed does.
-            let sound = deed-sound rows place work deed valid there.within does in
-            chain-why P (kept_reply (published_of rows) (after own deed) deed.act deed.target) _
-            (kept-why P (published_of rows) (after own deed) deed.act deed.target (session-own (after own deed) deed.act
-            deed.target sound.target)) (λ answer ok. done-why P _))
-      ] in
-      chain-why P (clerk_write (published_of rows) own ticket work) _ (chain-why P (use_of own.row ticket) _
-      (number-why P own.row ticket (λ less. (own.row, ticket, writes, refl, less))
-      (λ more. (own.row, ticket, writes, refl, more))
-      (λ same other. (own.row, ticket, writes, refl, same, other))) (λ turn ok. at_turn turn))
-      (λ both ok. done-why P _))
+      causes-bind (clerk-why rows (Clerk name ticket work) name refl) (λ place is.
+      let there = clerk_of-ok rows.clerks name place (Gives-Met (clerk_of rows.clerks name) (Ok place) is) in
+      causes-bind (causes-bind (number-why rows (Clerk name ticket work) (own_of rows place).row ticket
+      (place, there.found, refl, refl)) (λ turn _. at_turn place there turn)) (λ _ _. causes-done))
     where
       own-target : (place : ℕ) → place < length rows.clerks → HasSession (own_of rows place) (own_of rows place).row.act
           (own_of rows place).row.target
@@ -251,51 +206,44 @@ module _ (rows : Rows) (valid : AreValid rows) where
           (subst (λ (one : ClerkRow). HasTarget rows place one.act one.target) (sym is)
           (valid.clerks place row.0 row.1).target)
 
-  -- a write of the steward
-  steward-why : (ticket : Ticket) (work : StewardWork) (refusal : Refusal)
-      → Gives (machine rows (Steward ticket work)) (Err refusal) → Cause rows (Steward ticket work) refusal
-  steward-why ticket work =
-      let command : Command = Steward ticket work in
-      let P : Refusal → Type 0 = Cause rows command in
-      let row : ClerkRow = (own_of rows 0).row in
-      let at_turn : (turn : Use) (refusal : Refusal) → Gives (steward_write rows ticket work turn) (Err refusal)
-      → P refusal =
-      λ turn. elim turn as (λ one. (refusal : Refusal) → Gives (steward_write rows ticket work one) (Err refusal)
-      → P refusal) [
-        | Repeated ↦ chain-why P (kept_made rows row.act row.target) _ (made-why P rows row.act row.target)
-            (λ made ok. done-why P _)
-        | Fresh ↦ chain-why P (making_of rows work) _ (making-why rows ticket work) (λ making ok.
-            chain-why P (kept_made (changed rows making.change) making.act making.target) _
-            (made-why P (changed rows making.change) making.act making.target) (λ made made_ok. done-why P _))
-      ] in
-      chain-why P (use_of row ticket) _ (number-why P row ticket (λ less. (row, ticket, (refl, refl), refl, less))
-      (λ more. (row, ticket, (refl, refl), refl, more)) (λ same other. (row, ticket, (refl, refl), refl, same, other)))
-      (λ turn ok. at_turn turn)
+      at_turn : (place : ℕ) → IsPlaceOf rows.clerks name place → (turn : Use)
+          → HasCauses (Cause rows (Clerk name ticket work)) (clerk_write_at (published_of rows) (own_of rows place) work turn)
+      at_turn place there Repeated = causes-bind (kept-why (Cause rows (Clerk name ticket work)) (published_of rows)
+          (own_of rows place) (own_of rows place).row.act (own_of rows place).row.target
+          (own-target place there.within)) (λ _ _. causes-done)
+      at_turn place there Fresh = causes-bind (deed-why rows name place there.found ticket work) (λ deed does.
+          let sound = deed-sound rows place work deed valid there.within
+          (Gives-Met (deed_of (published_of rows) (own_of rows place) work) (Ok deed) does) in
+          causes-bind (kept-why (Cause rows (Clerk name ticket work)) (published_of rows)
+          (after (own_of rows place) deed) deed.act deed.target
+          (session-own (after (own_of rows place) deed) deed.act deed.target sound.target)) (λ _ _. causes-done))
 
-  -- a look
-  looked-why : (name : List ℕ) (what : LookOf) (refusal : Refusal) → Gives (machine rows (Look name what)) (Err refusal)
-      → Cause rows (Look name what) refusal
-  looked-why name what =
-      let P : Refusal → Type 0 = Cause rows (Look name what) in
-      chain-why P (clerk_of rows.clerks name) _ (clerk-why P rows.clerks name (λ none. (name, refl, none))) (λ place is.
-      chain-why P (look_reply (published_of rows) (own_of rows place) what) _
-      (look-why rows name (own_of rows place) what (record {
+  -- a write of the steward
+  steward-why : (ticket : Ticket) (work : StewardWork)
+      → HasCauses (Cause rows (Steward ticket work)) (machine rows (Steward ticket work))
+  steward-why ticket work =
+      causes-bind (number-why rows (Steward ticket work) (own_of rows 0).row ticket (refl, refl)) (λ turn _. at_turn turn)
+    where
+      at_turn : (turn : Use) → HasCauses (Cause rows (Steward ticket work)) (steward_write rows ticket work turn)
+      at_turn Repeated = causes-bind (made-why (Cause rows (Steward ticket work)) rows (own_of rows 0).row.act
+          (own_of rows 0).row.target) (λ _ _. causes-done)
+      at_turn Fresh = causes-bind (making-why rows ticket work) (λ making _.
+          causes-bind (made-why (Cause rows (Steward ticket work)) (changed rows making.change) making.act making.target)
+          (λ _ _. causes-done))
+
+  -- each request
+  pub refusal-why : (command : Command) → HasCauses (Cause rows command) (machine rows command)
+  refusal-why (Steward ticket work) = steward-why ticket work
+  refusal-why (Clerk name ticket work) = write-why name ticket work
+  refusal-why (Look name what) = causes-bind (clerk-why rows (Look name what) name refl) (λ place is.
+      causes-bind (look-why rows name (own_of rows place) what (record {
         name = name;
         asks = refl;
         place = place;
-        found = (clerk_of-ok rows.clerks name place is).found;
+        found = (clerk_of-ok rows.clerks name place (Gives-Met (clerk_of rows.clerks name) (Ok place) is)).found;
         is_own = refl;
-      })) (λ answer ok. done-why P _))
-
-  -- each request
-  pub refusal-why : (command : Command) (refusal : Refusal) → Gives (machine rows command) (Err refusal)
-      → Cause rows command refusal
-  refusal-why (Steward ticket work) = steward-why ticket work
-  refusal-why (Clerk name ticket work) = write-why name ticket work
-  refusal-why (Look name what) = looked-why name what
-  refusal-why (Desk what) =
-      let P : Refusal → Type 0 = Cause rows (Desk what) in
-      chain-why P (desk_reply rows what) _ (desk-why rows what) (λ answer ok. done-why P _)
+      })) (λ _ _. causes-done))
+  refusal-why (Desk what) = causes-bind (desk-why rows what) (λ _ _. causes-done)
 
 made-not_refused : (rows : Rows) (command : Command) (made : Reply × List Change) (refusal : Refusal)
     → Gives (machine rows command) (Ok made) → made.0 ≡ reply.Refused refusal → ⊥
@@ -343,4 +291,4 @@ step-why rows command refusal changes valid step =
     whole (Ok made) gives is = absurd (made-not_refused rows command made refusal gives (sym is))
     whole (Err other) gives is =
         let same : other ≡ refusal = cc in
-        subst (Cause rows command) same (refusal-why rows valid command other gives)
+        subst (Cause rows command) same ((refusal-why rows valid command).why other gives)

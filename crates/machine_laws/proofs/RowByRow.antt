@@ -32,12 +32,10 @@ use Rattle.desk_valid.specs.declared.bound.Bound.{Bound}
 use Rattle.desk_valid.specs.Bindings.{bound_at}
 use Rattle.desk_valid.specs.Tallies.{active_count, bytes_in, is_active, record_bytes, text_bytes, typed_bytes}
 use Rattle.desk_valid.specs.Valid.{AreValid}
-use Rattle.machine_core.specs.Checked.{Checked, done, ◌>>=◌, ◌>>◌, each, each_following, some_or, unless}
-use Rattle.machine_core.specs.Checked.{IsFound, ComesTo, and_then, run, Outcome, told}
-use Rattle.machine_core.specs.Checked.{Gives}
+use Rattle.machine_core.specs.Checked.{Checked, done, ◌>>=◌, ◌>>◌, each, each_following, some_or, unless, IsFound}
+use Rattle.machine_core.specs.Checked.{ComesTo, and_then, run, Outcome, told, Gives}
 use Rattle.machine_core.specs.declared.column.Column.{Column}
-use Rattle.machine_core.specs.Clerk.Batch.{another_column, is_confirmed, is_starred, row_session}
-use Rattle.machine_core.specs.Clerk.Batch.{word_of}
+use Rattle.machine_core.specs.Clerk.Batch.{another_column, is_confirmed, is_starred, row_session, word_of}
 use Rattle.machine_core.specs.Clerk.Enter.{enter, new_session}
 use Rattle.machine_core.specs.Finding.{newest_edition}
 use Rattle.machine_core.specs.Kept.{kept_reply}
@@ -49,7 +47,6 @@ use Rattle.machine_core.specs.Tests.{attribute_of, typed_cell}
 use Rattle.machine_core.specs.Ticket.{use_of}
 use Rattle.machine_core.specs.declared.ticket.Use.TheVariants.{Fresh}
 use Rattle.machine_core.proofs.Chains.{Gives-bind_ok, done-value}
-use Rattle.machine_core.proofs.Tested.{chain-why, done-why}
 use Rattle.machine_laws.specs.Callers.{clerk, own_by, place_of}
 use Rattle.machine_laws.specs.Events.{AreAnswered, Event, tables_after}
 use Rattle.machine_laws.specs.OneByOne.{EnterAll, IsOneByOne, cells_of, is_vouched, single, vouched}
@@ -59,6 +56,7 @@ use Rattle.machine_laws.proofs.Deeds.{own_after, put-end}
 use Rattle.machine_laws.proofs.Entering.{put_all-placed}
 use Rattle.machine_laws.proofs.Isolating.{own_by-new, published-new, write-cases}
 use Rattle.machine_laws.proofs.Refusing.{kept-why, session-own}
+use Rattle.machine_laws.proofs.Refusals.{HasCauses, causes-bind, causes-done}
 use Rattle.machine_laws.proofs.Staying.{chain-done}
 use Rattle.machine_laws.proofs.Writes.{IsNew, IsPlaceOf, clerk_of-ok}
 use Rattle.machine_core.proofs.Commands.{batch_sessions, enter_batch-ok}
@@ -212,13 +210,12 @@ fresh-new rows name ticket work answer changes place deed valid is_place used do
     whole : (outcome : Result (Reply × List Change) Refusal) → Gives ((kept >>= some) >>= last) outcome
         → (answer, changes) ≡ answered outcome → IsNew rows name ticket work answer changes
     whole (Err refusal) gives answers =
-        let P : Refusal → Type 0 = λ _. ⊥ in
         let sound = deed-sound rows place work deed valid is_place.within
         (subst (λ one. ComesTo one (Ok deed)) (sym does) refl) in
-        absurd (chain-why P (kept >>= some) _ (chain-why P kept _ (kept-why P (published_of rows) (after own deed)
-        deed.act deed.target (session-own (after own deed) deed.act deed.target sound.target))
-        (λ told ok. done-why P _))
-        (λ both ok. done-why P _) refusal gives)
+        let never : HasCauses (λ _. ⊥) ((kept >>= some) >>= last) =
+        causes-bind (causes-bind (kept-why (λ _. ⊥) (published_of rows) (after own deed) deed.act deed.target
+        (session-own (after own deed) deed.act deed.target sound.target)) (λ _ _. causes-done)) (λ _ _. causes-done) in
+        absurd (never.why refusal gives)
     whole (Ok made) gives answers =
         let both = Gives-bind_ok (kept >>= some) last made gives in
         let told = Gives-bind_ok kept some both.0 both.1 in
