@@ -30,7 +30,7 @@ use Rattle.machine_core.specs.Own.{Own, after, changes_of, own_of}
 use Rattle.machine_core.specs.declared.deed.Deed.{Deed}
 use Rattle.machine_core.specs.Ticket.{IsNumbered, ticketed}
 use Rattle.machine_core.specs.OwnRows.{AreOwnRows, HasOwnTarget, IsSoundDeed}
-use Rattle.machine_laws.proofs.Callers.{AreNoFewer, HasTarget-more, IsClerkRow-ticketed, IsDone, names_of}
+use Rattle.machine_laws.proofs.Callers.{AreNoFewer, HasTarget-more, IsClerkRow-ticketed, IsDone, IsDone-clerk, names_of}
 use Rattle.machine_laws.proofs.Carries.{IsSoundDeed-carry}
 use Rattle.machine_laws.proofs.Changing.{IsGoodOwn, IsSoundDeed-abandon, IsSoundDeed-commit, IsSoundDeed-confirm}
 use Rattle.machine_laws.proofs.Changing.{IsSoundDeed-withdraw}
@@ -100,30 +100,18 @@ IsDone-own rows place own row act.Master target following sessions records batch
 IsDone-own rows place own row act.Rulebook target following sessions records batches has = absurd has
 IsDone-own rows place own row act.Edition target following sessions records batches has = absurd has
 IsDone-own rows place own row act.Region target following sessions records batches has = absurd has
-IsDone-own rows place own row act.Opened target following sessions records batches has = record {
-  some = λ same. cc;
-  steward = λ first. absurd (omega (arith, first, following));
-  clerk = λ there. tt;
-  stands = subst (λ list. target < length list) (sym (list_at-set_same rows.sessions place own.sessions sessions)) has;
-}
-IsDone-own rows place own row act.Changed target following sessions records batches has = record {
-  some = λ same. cc;
-  steward = λ first. absurd (omega (arith, first, following));
-  clerk = λ there. tt;
-  stands = subst (λ list. target < length list) (sym (list_at-set_same rows.sessions place own.sessions sessions)) has;
-}
-IsDone-own rows place own row act.Committed target following sessions records batches has = record {
-  some = λ same. cc;
-  steward = λ first. absurd (omega (arith, first, following));
-  clerk = λ there. tt;
-  stands = subst (λ list. target < length list) (sym (list_at-set_same rows.records place own.records records)) has;
-}
-IsDone-own rows place own row act.Batched target following sessions records batches has = record {
-  some = λ same. cc;
-  steward = λ first. absurd (omega (arith, first, following));
-  clerk = λ there. tt;
-  stands = subst (λ list. target < length list) (sym (list_at-set_same rows.batches place own.batches batches)) has;
-}
+IsDone-own rows place own row act.Opened target following sessions records batches has =
+    IsDone-clerk (with_own rows place (record own { row = row })) place act.Opened target following (λ same. cc) tt
+    (subst (λ list. target < length list) (sym (list_at-set_same rows.sessions place own.sessions sessions)) has)
+IsDone-own rows place own row act.Changed target following sessions records batches has =
+    IsDone-clerk (with_own rows place (record own { row = row })) place act.Changed target following (λ same. cc) tt
+    (subst (λ list. target < length list) (sym (list_at-set_same rows.sessions place own.sessions sessions)) has)
+IsDone-own rows place own row act.Committed target following sessions records batches has =
+    IsDone-clerk (with_own rows place (record own { row = row })) place act.Committed target following (λ same. cc) tt
+    (subst (λ list. target < length list) (sym (list_at-set_same rows.records place own.records records)) has)
+IsDone-own rows place own row act.Batched target following sessions records batches has =
+    IsDone-clerk (with_own rows place (record own { row = row })) place act.Batched target following (λ same. cc) tt
+    (subst (λ list. target < length list) (sym (list_at-set_same rows.batches place own.batches batches)) has)
 
 -- what a caller did is done, and the row is that of the new request
 module _ (rows : Rows) (valid : AreValid rows) (place : ℕ) (within : place < length rows.clerks) (ticket : Ticket)

@@ -81,6 +81,26 @@ pub record IsDone (rows : Rows) (place : ℕ) (act : Act) (target : ℕ) : Type 
   pub clerk : 0 < place → IsClerksAct act
   pub stands : HasTarget rows place act target
 
+-- what the steward did is done where its target stands
+pub IsDone-steward : (rows : Rows) (act : Act) (target : ℕ) → act ≢ Nothing → IsStewardsAct act
+    → HasTarget rows 0 act target → IsDone rows 0 act target
+IsDone-steward rows act target some is stands = record {
+  some = some;
+  steward = λ first. is;
+  clerk = λ following. absurd (omega (arith, following));
+  stands = stands;
+}
+
+-- and so is what a clerk did
+pub IsDone-clerk : (rows : Rows) (place : ℕ) (act : Act) (target : ℕ) → 0 < place → act ≢ Nothing → IsClerksAct act
+    → HasTarget rows place act target → IsDone rows place act target
+IsDone-clerk rows place act target following some is stands = record {
+  some = some;
+  steward = λ first. absurd (omega (arith, first, following));
+  clerk = λ there. is;
+  stands = stands;
+}
+
 -- the row of a caller whose request was accepted is good
 pub IsClerkRow-ticketed : (rows other : Rows) (place : ℕ) (old row : ClerkRow) → IsClerkRow rows place old
     → take place (names_of other.clerks) ≡ take place (names_of rows.clerks) → row.name ≡ old.name

@@ -160,23 +160,37 @@ changes-parts place row ticket deed = simp append_assoc
 
 module _ (rows : Rows) (tables : AreTables rows) (place : ℕ) (within : place < length rows.clerks) (ticket : Ticket)
     (deed : Deed) where
+  -- the caller's row after it, and the tables once the sessions are put, then the record, then the batch
+  abbrev row_after : ClerkRow
+  row_after = ticketed (own_of rows place).row ticket deed.act deed.target
+
+  abbrev after_sessions : Rows
+  after_sessions = with_sessions rows place (put_all (list_at rows.sessions place) deed.sessions)
+
+  abbrev after_record : Rows
+  after_record = with_records after_sessions place (list_at rows.records place ++ option_to_list deed.record_row)
+
+  abbrev after_batch : Rows
+  after_batch = with_batches after_record place (list_at rows.batches place ++ option_to_list deed.batch)
+
+  -- the changes that are left then
+  abbrev last : List Change
+  last = change.Clerk place row_after ∷ []
+
+  abbrev later : List Change
+  later = map (λ one. change.Batch place one) (option_to_list deed.batch) ++ last
+
   -- the changes of a deed put the caller's rows, and nothing else
   pub changed-deed : changed_all rows (changes_of place (own_of rows place).row ticket deed)
       ≡ with_own rows place (own_after (own_of rows place) ticket deed)
   changed-deed =
-      let row : ClerkRow = ticketed (own_of rows place).row ticket deed.act deed.target in
-      let sessions : Rows = with_sessions rows place (put_all (list_at rows.sessions place) deed.sessions) in
-      let records : Rows = with_records sessions place (list_at rows.records place ++ option_to_list deed.record_row) in
-      let batches : Rows = with_batches records place (list_at rows.batches place ++ option_to_list deed.batch) in
-      let last : List Change = change.Clerk place row ∷ [] in
-      let later : List Change = map (λ one. change.Batch place one) (option_to_list deed.batch) ++ last in
       ap (changed_all rows) (changes-parts place (own_of rows place).row ticket deed)
       ∙ changed-sessions rows place deed.sessions
       (map (λ one. change.Record place one) (option_to_list deed.record_row) ++ later)
       (omega (arith, tables.sessions.each))
-      ∙ changed-record sessions place deed.record_row later
-      ∙ changed-batch records place deed.batch last
-      ∙ changed-caller batches place row within
+      ∙ changed-record after_sessions place deed.record_row later
+      ∙ changed-batch after_record place deed.batch last
+      ∙ changed-caller after_batch place row_after within
 
   -- and fit where the sessions that are put do, and the other lists stay short
   pub fit-deed : PutsFit (list_at rows.sessions place) deed.sessions
@@ -184,16 +198,10 @@ module _ (rows : Rows) (tables : AreTables rows) (place : ℕ) (within : place <
       → IsShort (list_at rows.batches place ++ option_to_list deed.batch)
       → FitAll rows (changes_of place (own_of rows place).row ticket deed)
   fit-deed fits short_records short_batches =
-      let row : ClerkRow = ticketed (own_of rows place).row ticket deed.act deed.target in
-      let sessions : Rows = with_sessions rows place (put_all (list_at rows.sessions place) deed.sessions) in
-      let records : Rows = with_records sessions place (list_at rows.records place ++ option_to_list deed.record_row) in
-      let batches : Rows = with_batches records place (list_at rows.batches place ++ option_to_list deed.batch) in
-      let last : List Change = change.Clerk place row ∷ [] in
-      let later : List Change = map (λ one. change.Batch place one) (option_to_list deed.batch) ++ last in
-      let fit_last : FitAll batches last = ((omega arith, omega (arith, tables.clerks)), tt) in
+      let fit_last : FitAll after_batch last = ((omega arith, omega (arith, tables.clerks)), tt) in
       subst (FitAll rows) (sym (changes-parts place (own_of rows place).row ticket deed))
       (fit-sessions rows place deed.sessions (map (λ one. change.Record place one) (option_to_list deed.record_row)
       ++ later)
       within (omega (arith, tables.sessions.each)) fits
-      (fit-record sessions place deed.record_row later within short_records
-      (fit-batch records place deed.batch last within short_batches fit_last)))
+      (fit-record after_sessions place deed.record_row later within short_records
+      (fit-batch after_record place deed.batch last within short_batches fit_last)))

@@ -4,9 +4,7 @@ use Rattle.std.proofs.Common.{arith}
 use Rattle.std.specs.Prelude.{All, IfSome, Ok}
 use Rattle.std.proofs.lemmas.List.{length-map, length-take, take_at}
 use Rattle.std.proofs.lemmas.List.Elements.{All-drop, All-map, All-take, All-weaker}
-use Rattle.desk_words.specs.declared.change.Change.TheVariants as change
 use Rattle.desk_words.specs.declared.limit.Which.TheVariants as which
-use Rattle.desk_words.specs.declared.rows.act.Act.TheVariants as act
 use Rattle.desk_words.specs.declared.rows.region.RegionRow.{RegionRow}
 use Rattle.desk_words.specs.declared.steward_work.StewardWork.TheVariants.{AddDerived}
 use Rattle.desk_words.specs.Tables.{Published, Rows, published_of}
@@ -20,8 +18,8 @@ use Rattle.machine_core.specs.Steward.AddDerived.{derived_region, region_from}
 use Rattle.machine_core.specs.Steward.AddRegion.{region_count}
 use Rattle.machine_core.proofs.Deriving.{derivation-made, derived_rows-full}
 use Rattle.machine_core.proofs.Widths.{edition-stands, width-bound}
-use Rattle.machine_laws.proofs.Makings.{IsSoundMaking}
-use Rattle.machine_laws.proofs.Regions.{IsSoundMaking-region, regions-few}
+use Rattle.machine_laws.proofs.Makings.{IsSoundMaking, region_making}
+use Rattle.machine_laws.proofs.Regions.{IsSoundMaking-region}
 use Rattle.machine_core.proofs.Walks.{Met-Gives, Gives-Met}
 use Rattle.machine_core.proofs.Commands.{few-stand}
 
@@ -54,7 +52,7 @@ derived_region-found published name version master pairs from row gives =
 module _ (rows : Rows) (valid : AreValid rows) where
   IsSoundMaking-derived : (name : List ℕ) (version : ℕ) (master : List ℕ) (pairs : List (List ℕ × List ℕ)) (from : ℕ)
       (row : RegionRow) → IsRegionOfDerived (published_of rows) name version master pairs from row
-      → IsSoundMaking rows (record { change = change.Region row; act = act.Region; target = length rows.regions })
+      → IsSoundMaking rows (region_making (published_of rows) row)
   IsSoundMaking-derived name version master pairs from row is =
       let published : Published = published_of rows in
       let derivation : Derivation = is.derivation in
@@ -66,9 +64,8 @@ module _ (rows : Rows) (valid : AreValid rows) where
       let part : List (ℕ × List (List ℕ)) = take 200 (drop (from - 1) is.rows) in
       let Full : ℕ × List (List ℕ) → Type 0 = λ one. length one.1 ≡ length derivation.columns in
       let texts_of : ℕ × List (List ℕ) → List (List ℕ) = λ one. one.1 in
-      subst (λ one. IsSoundMaking rows (record
-      { change = change.Region one; act = act.Region; target = length rows.regions })) (sym is.is)
-      (IsSoundMaking-region rows valid made (omega (arith, regions-few rows valid)) (record {
+      subst (λ one. IsSoundMaking rows (region_making published one)) (sym is.is)
+      (IsSoundMaking-region rows valid made (record {
         edition = edition-stands published derivation.edition of_it.bound of_it.binds;
         few = subst (λ before. region_count before derivation.edition < 8)
             (sym (take_at rows.regions (made ∷ []) (length rows.regions) refl)) (omega (arith, is.few));

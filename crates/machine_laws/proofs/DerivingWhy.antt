@@ -1,7 +1,7 @@
 -- Why a derivation is refused.
-use Rattle.std.proofs.Common.{◌≡◌, ◌≢◌, ◌∙◌, ℕ, Bool, false, List, [], get_or, map, Some, inl, inr, refl, sym, ap}
-use Rattle.std.proofs.Common.{subst}
-use Rattle.std.specs.Prelude.{◌==◌, All, Contains, Ok, find, not}
+use Rattle.std.proofs.Common.{◌≡◌, ◌≢◌, ◌∙◌, ℕ, Bool, false, List, [], get_or, map, Some, inl, inr, refl, sym, ap, zero}
+use Rattle.std.proofs.Common.{suc, ◌∷◌, arith}
+use Rattle.std.specs.Prelude.{◌==◌, All, Contains, Ok, find}
 use Rattle.std.specs.Str.{bytes_eq}
 use Rattle.std.proofs.lemmas.List.Elements.{All-weaker}
 use Rattle.std.proofs.lemmas.Slice.Eq.{bytes_eq-Decides}
@@ -13,18 +13,29 @@ use Rattle.desk_words.specs.declared.rows.edition.EditionRow.{EditionRow}
 use Rattle.desk_words.specs.Tables.{Published, Rows, published_of}
 use Rattle.master_rows.specs.declared.master.Master.{Master}
 use Rattle.machine_core.specs.Causes.{AreWords, AsksMaster, Cause, IsAbout, StandsTwice}
-use Rattle.machine_core.specs.Checked.{Checked, unless, IsFound, told, derives}
+use Rattle.machine_core.specs.Checked.{Checked, IsFound, told, derives}
 use Rattle.machine_core.specs.declared.derivation.Derivation.{Derivation}
 use Rattle.machine_core.specs.Deriving.{another_pair, derivation_of, derived_rows, master_of, places_of}
 use Rattle.machine_core.specs.Named.{attributes_in, columns_in, master_in, version_in}
 use Rattle.machine_core.specs.Steward.AddEdition.{master_name}
 use Rattle.machine_core.specs.Views.{edition_at}
-use Rattle.machine_laws.proofs.Lists.{find-None, list_any-image}
+use Rattle.machine_laws.proofs.Lists.{find-None}
 use Rattle.machine_laws.proofs.Why.{edition-words, version-why}
-use Rattle.machine_laws.proofs.Refusals.{HasCauses, IsComeTo, causes-asked, causes-bind, causes-certainly, causes-done}
-use Rattle.machine_laws.proofs.Refusals.{causes-following, causes-some_or, not-both}
-use Rattle.machine_laws.proofs.Twice.{another, another-word, free-why, named-there, none-equal}
+use Rattle.machine_laws.proofs.Refusals.{HasCauses, causes-asked, causes-bind, causes-certainly, causes-done}
+use Rattle.machine_laws.proofs.Refusals.{causes-following, causes-some_or, causes-unless, not-both}
+use Rattle.machine_laws.proofs.Twice.{another, another-word, placed-twice, any-taken, named-there, none-equal}
 use Rattle.machine_core.proofs.Walks.{Met}
+use Rattle.std.proofs.lemmas.Bool.Decides.{nat_tests}
+use Rattle.machine_core.proofs.Tested.{IsRefusedAt}
+
+-- an image is the image of an item
+image-of : {A B : Type 0} (image : A → B) (items : List A) (found : B) → Contains (map image items) found
+    → (item : A) × Contains items item × (image item ≡ found)
+image-of image [] found there = absurd (omega (arith, there.1))
+image-of image (item ∷ items) found (zero, within, is) = (item, (0, omega arith, refl), is)
+image-of image (item ∷ items) found (suc place, within, is) =
+    let (one, (index, inside, there), same) = image-of image items found (place, omega (arith, within), is) in
+    (one, (suc index, omega (arith, inside), there), same)
 
 -- the places of a pair are those of its words
 pub pair-words : (words names : List (List ℕ)) (before : List (ℕ × ℕ)) (pair : List ℕ × List ℕ) (found : ℕ × ℕ)
@@ -39,9 +50,9 @@ pair-words words names before pair found (attribute, is_attribute, (column, is_c
 
 module _ (rows : Rows) (command : Command) (pairs : List (List ℕ × List ℕ)) (words columns : List (List ℕ)) where
   -- a word of a pair that is none of those, or that stands twice
-  half-why : (find : List (ℕ × ℕ) → List ℕ × List ℕ → Checked (ℕ × ℕ)) (come : IsComeTo find pairs)
-      (name : List ℕ × List ℕ → List ℕ) (names : List (List ℕ)) → names ≡ map name pairs → (place : ℕ × ℕ → ℕ)
-      (among : List (List ℕ)) (missing : Refusal)
+  half-why : {refusal : Refusal} (find : List (ℕ × ℕ) → List ℕ × List ℕ → Checked (ℕ × ℕ))
+      (come : IsRefusedAt find [] pairs refusal) (name : List ℕ × List ℕ → List ℕ) (names : List (List ℕ))
+      → names ≡ map name pairs → (place : ℕ × ℕ → ℕ) (among : List (List ℕ)) (missing : Refusal)
       → ((before : List (ℕ × ℕ)) (other : List ℕ × List ℕ) (one : ℕ × ℕ) → Met (find before other) (Ok one)
       → name other ≡ get_or among (place one) [])
       → (All (λ one. one ≢ name come.item) among → Cause rows command missing)
@@ -49,10 +60,11 @@ module _ (rows : Rows) (command : Command) (pairs : List (List ℕ × List ℕ))
       → HasCauses (Cause rows command) (another among (map place come.sofar) (name come.item) missing)
   half-why find come name names are place among missing placed unknown twice =
       causes-bind (causes-some_or (λ none. unknown (none-equal (name come.item) among none))) (λ at there.
-      causes-bind (subst
-      (λ told. HasCauses (Cause rows command) (unless (not told) (Twice (name come.item))))
-      (sym (list_any-image (λ earlier. earlier == at) place come.sofar))
-      (free-why find pairs come name names are (Cause rows command) among place placed at there twice))
+      causes-bind (causes-unless (λ some.
+      let (taken, listed, holds) = any-taken (λ earlier. earlier == at) (map place come.sofar) some in
+      let (one, among_them, same) = image-of place come.sofar taken listed in
+      let last : taken ≡ at = grind (arith, nat_tests, holds) in
+      twice (placed-twice find pairs come name names are among place placed at there one among_them (same ∙ last))))
       (λ _ _. causes-done))
 
   -- an attribute or a column of a pair is not there, or stands twice
@@ -62,7 +74,7 @@ module _ (rows : Rows) (command : Command) (pairs : List (List ℕ × List ℕ))
       → Cause rows command (NoColumn word)) → HasCauses (Cause rows command) (places_of words columns pairs)
   pairs-why are attributes_are columns_are missing =
       let find : List (ℕ × ℕ) → List ℕ × List ℕ → Checked (ℕ × ℕ) = another_pair words columns in
-      causes-bind (causes-following (λ come.
+      causes-bind (causes-following (λ refusal come.
       let attribute_in : List ℕ × List ℕ → List ℕ = λ pair. pair.0 in
       let column_in : List ℕ × List ℕ → List ℕ = λ pair. pair.1 in
       causes-bind (half-why find come attribute_in (attributes_in command) attributes_are (λ one. one.0) words

@@ -1,61 +1,33 @@
 -- A new edition is good where it is put.
-use Rattle.std.proofs.Common.{◌≡◌, ◌∙◌, ℕ, ◌+◌, ◌<◌, ◌≤◌, List, [], ◌∷◌, ◌++◌, length, map, Option, Some, None, refl}
-use Rattle.std.proofs.Common.{sym, ap, subst, arith}
+use Rattle.std.proofs.Common.{◌≡◌, ◌∙◌, ℕ, ◌+◌, ◌<◌, List, [], ◌∷◌, length, map, Option, Some, None, refl, sym, ap}
+use Rattle.std.proofs.Common.{subst, arith}
 use Rattle.std.specs.Prelude.{All, IfSome, Ok, option_map}
 use Rattle.std.proofs.lemmas.Bool.Decides.{nat_tests}
 use Rattle.std.proofs.lemmas.List.{length-append}
 use Rattle.std.proofs.lemmas.List.Elements.{All-nil}
 use Rattle.std.proofs.lemmas.Option.{option_and_then_some, same_Some}
-use Rattle.desk_words.specs.declared.change.Change.TheVariants as change
 use Rattle.desk_words.specs.declared.limit.Which.TheVariants as which
-use Rattle.desk_words.specs.declared.rows.act.Act.TheVariants as act
 use Rattle.desk_words.specs.declared.rows.edition.EditionRow.{EditionRow}
 use Rattle.desk_words.specs.declared.steward_work.StewardWork.TheVariants.{AddEdition}
 use Rattle.desk_words.specs.Tables.{Published, Rows, published_of}
 use Rattle.desk_valid.specs.Bindings.{parts_of}
 use Rattle.desk_valid.specs.Readings.{all_of, master_at, rules_at}
-use Rattle.desk_valid.specs.Rows.Edition.{IsBinding, IsEditionRow}
+use Rattle.desk_valid.specs.Rows.Edition.{IsBinding}
 use Rattle.desk_valid.specs.Valid.{AreValid}
 use Rattle.desk_valid.proofs.Named.{option_map-Some}
-use Rattle.machine_core.specs.Checked.{each_following}
-use Rattle.machine_core.specs.Checked.{Gives}
+use Rattle.machine_core.specs.Checked.{each_following, Gives}
 use Rattle.machine_core.specs.Machine.{making_of}
 use Rattle.machine_core.specs.declared.making.Making.{Making}
-use Rattle.machine_core.specs.Steward.AddEdition.{AreOthers, another_master, bindable, in_order}
-use Rattle.machine_core.specs.Steward.AddEdition.{next_edition}
+use Rattle.machine_core.specs.Steward.AddEdition.{AreOthers, another_master, bindable, in_order, next_edition}
 use Rattle.machine_core.proofs.InOrder.{AreFolded-in_order}
 use Rattle.machine_core.proofs.Masters.{another-master}
 use Rattle.machine_core.proofs.Tested.{each_following-all, each_following-length}
-use Rattle.machine_laws.proofs.Lists.{pushed}
-use Rattle.machine_laws.proofs.Makings.{IsSoundMaking, IsVersion-next, place_of-within, stays}
-use Rattle.machine_laws.proofs.Makings.{IsSoundMaking-published}
+use Rattle.machine_laws.proofs.Makings.{IsSoundMaking, IsVersion-next, place_of-within, IsSoundMaking-published}
+use Rattle.machine_laws.proofs.Makings.{edition_making}
 use Rattle.machine_core.proofs.Walks.{Met-Gives, Gives-Met}
 use Rattle.machine_core.proofs.Commands.{few-stand}
 
 module _ (rows : Rows) (valid : AreValid rows) where
-  -- a new edition
-  IsSoundMaking-edition : (row : EditionRow) → length rows.editions + 1 ≤ 64
-      → IsEditionRow (record (published_of rows) { editions = rows.editions ++ row ∷ [] }) (length rows.editions) row
-      → IsSoundMaking rows (record { change = change.Edition row; act = act.Edition; target = length rows.editions })
-  IsSoundMaking-edition row few good =
-      let published : Published = record (published_of rows) { editions = rows.editions ++ row ∷ [] } in
-      IsSoundMaking-published rows valid
-      (record { change = change.Edition row; act = act.Edition; target = length rows.editions })
-      (omega arith, omega (arith, few)) refl
-      (record {
-        schemas = stays _ rows.schemas;
-        masters = stays _ rows.masters;
-        rulebooks = stays _ rows.rulebooks;
-        editions = pushed (IsEditionRow published) rows.editions row good;
-        regions = stays _ rows.regions;
-      })
-      (record {
-        some = λ same. cc;
-        steward = λ first. tt;
-        clerk = λ following. absurd (omega (arith, following));
-        stands = omega (arith, length-append rows.editions (row ∷ []));
-      })
-
   -- what it binds to is bounded
   binds-narrowly : (row : EditionRow) (passed : Unit {0}) → Gives (bindable (published_of rows) row) (Ok passed)
       → IfSome (parts_of (published_of rows) row) (λ parts. All (λ attribute. attribute < length
@@ -105,6 +77,7 @@ module _ (rows : Rows) (valid : AreValid rows) where
       joined None one other both = tt
       joined (Some value) one other both = both value one other
 
+  -- a new edition
   pub IsSoundMaking-add_edition : (name : List ℕ) (rulebook : List ℕ × ℕ) (masters : List (List ℕ × ℕ))
       (folded : List (List ℕ)) (making : Making) → Gives (making_of rows (AddEdition name rulebook masters folded))
       (Ok making)
@@ -114,8 +87,6 @@ module _ (rows : Rows) (valid : AreValid rows) where
       let (row, (_, named, (book, stands, (rules, found, (attributes, folds_are, rest)))), is) =
       Met-Gives (making_of rows (AddEdition name rulebook masters folded)) (Ok making) gives in
       let (_, few_masters, (places, are_places, (_, few, (bindable_so, binds, is_row)))) = rest in
-      let made_of : EditionRow → Making = λ one.
-      record { change = change.Edition one; act = act.Edition; target = length rows.editions } in
       let words : List (List ℕ) = rules.schema.attributes in
       let made : EditionRow = next_edition rows.editions name book places (in_order attributes (length words)) in
       let given = Gives-Met (each_following [] (another_master rows.masters) masters) (Ok places) are_places in
@@ -130,8 +101,9 @@ module _ (rows : Rows) (valid : AreValid rows) where
       let width : option_map (λ one. length one.schema.attributes) (rules_at published book) ≡ Some (length words) =
       ap (option_map (λ one. length one.schema.attributes)) found in
       let folds = AreFolded-in_order rules.schema attributes in
-      subst (IsSoundMaking rows) (sym (is ∙ ap made_of is_row))
-      (IsSoundMaking-edition made few_it (record {
+      subst (IsSoundMaking rows) (sym (is ∙ ap (edition_making published) is_row))
+      (IsSoundMaking-published rows valid (edition_making published made) (omega arith, omega (arith, few_it)) refl
+      (record {
         few = omega (arith, few_it);
         version = IsVersion-next (λ one. one.name) rows.editions made name named;
         rulebook = place_of-within (λ one. one.name) (λ one. one.version) rows.rulebooks rulebook.0 rulebook.1 book
@@ -146,4 +118,4 @@ module _ (rows : Rows) (valid : AreValid rows) where
         folded = folds.ascending;
         binds = binds-within made (length words) folds.within (parts-width made (length words) width)
             (binds-narrowly made bindable_so (Gives-Met (bindable published made) (Ok bindable_so) binds));
-      }))
+      }) (λ same. cc) tt (omega (arith, length-append rows.editions (made ∷ []))))

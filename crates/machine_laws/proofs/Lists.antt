@@ -1,8 +1,7 @@
 -- Lists of rows: what stands at a place, what each row is, and lists that begin alike.
 use Rattle.std.proofs.Common.{◌≡◌, ◌≢◌, ◌∙◌, ℕ, zero, suc, ◌<◌, ◌≤◌, Bool, true, false, cond, List, [], ◌∷◌, ◌++◌}
 use Rattle.std.proofs.Common.{length, get_or, map, set, take, Some, None, inl, inr, refl, sym, ap, subst, arith}
-use Rattle.std.specs.Prelude.{◌||◌, All, Contains, find, slice_get}
-use Rattle.std.specs.List.{list_any}
+use Rattle.std.specs.Prelude.{All, Contains, find, slice_get}
 use Rattle.std.proofs.lemmas.Bool.{cases_Bool, cases_eq, cases_lt}
 use Rattle.std.proofs.lemmas.List.{append-nil, get_or-set_other, get_or-set_same, get_or_at, get_or_past}
 use Rattle.std.proofs.lemmas.List.{get_or_append_left, length-append, length-set, take-append-le}
@@ -143,12 +142,6 @@ find-Some test (item ∷ items) found is = elim (cases_Bool (test item)) [
       let rest = find-Some test items found (sym (ap (λ told. cond told (Some item) (find test items)) fails) ∙ is) in
       ((suc rest.0.0, omega (arith, rest.0.1), rest.0.2), rest.1)
 ]
-
--- a test of images is one of what they are of
-pub list_any-image : {A B : Type 0} (test : B → Bool) (image : A → B) (items : List A)
-    → list_any test (map image items) ≡ list_any (λ one. test (image one)) items
-list_any-image test image [] = refl
-list_any-image test image (item ∷ items) = ap (λ rest. test (image item) || rest) (list_any-image test image items)
 
 -- where nothing is found, none passes
 pub find-None : {T : Type 0} (test : T → Bool) (items : List T) → find test items ≡ None

@@ -20,7 +20,7 @@ use Rattle.desk_words.specs.Changes.{Fits, changed}
 use Rattle.desk_words.specs.Tables.{AreTables, Published, Rows, new_clerk, published_of}
 use Rattle.desk_words.proofs.Changes.{AreTables-changed, put-end, with_clerk-end}
 use Rattle.desk_valid.specs.Readings.{read, rules_over}
-use Rattle.desk_valid.specs.Rows.Clerk.{IsClerkRow}
+use Rattle.desk_valid.specs.Rows.Clerk.{IsClerkRow, HasTarget, IsStewardsAct}
 use Rattle.desk_valid.specs.Rows.Master.{IsMasterRow}
 use Rattle.desk_valid.specs.Rows.Rulebook.{IsRulebookRow}
 use Rattle.desk_valid.specs.Rows.Schema.{IsSchemaRow}
@@ -32,11 +32,16 @@ use Rattle.machine_core.specs.Limits.{within}
 use Rattle.machine_core.specs.Machine.{making_of}
 use Rattle.machine_core.specs.declared.making.Making.{Making}
 use Rattle.machine_core.specs.Own.{Own, own_of}
-use Rattle.machine_core.specs.Tests as tests
 use Rattle.machine_core.proofs.Masters.{not-any}
-use Rattle.machine_laws.proofs.Callers.{IsDone, names_of}
+use Rattle.machine_laws.proofs.Callers.{IsDone, IsDone-steward, names_of}
+use Rattle.desk_words.specs.declared.change.Change.{Change}
+use Rattle.desk_words.specs.declared.rows.edition.EditionRow.{EditionRow}
+use Rattle.desk_words.specs.declared.rows.region.RegionRow.{RegionRow}
+use Rattle.desk_valid.specs.Rows.Edition.{IsEditionRow}
+use Rattle.desk_valid.specs.Rows.Region.{IsRegionRow}
 use Rattle.machine_laws.proofs.Lists.{Begins, Begins-same, list_at-push, nothing-following, pushed}
-use Rattle.machine_laws.proofs.Valid.{AreValid-new, AreValid-published, with_new, AreGoodAfter, with_published}
+use Rattle.machine_laws.proofs.Valid.{AreValid-new, AreValid-published, with_new, AreGoodAfter, IsGoodFrom}
+use Rattle.machine_laws.proofs.Valid.{with_published}
 use Rattle.machine_core.proofs.Walks.{Met-Gives}
 use Rattle.machine_core.proofs.Commands.{few-stand}
 use Rattle.machine_laws.proofs.More.{AreMore-changed}
@@ -109,136 +114,143 @@ own-last rows name place tables last =
     )) in
     λ i. record { row = caller i; sessions = sessions i; records = records i; batches = batches i }
 
+-- what is made of each kind of row that is published after the others
+abbrev pub schema_making : Published → SchemaRow → Making
+schema_making published row =
+    record { change = change.Schema row; act = act.Schema; target = length published.schemas }
+
+abbrev pub master_making : Published → MasterRow → Making
+master_making published row =
+    record { change = change.Master row; act = act.Master; target = length published.masters }
+
+abbrev pub rulebook_making : Published → RulebookRow → Making
+rulebook_making published row =
+    record { change = change.Rulebook row; act = act.Rulebook; target = length published.rulebooks }
+
+abbrev pub edition_making : Published → EditionRow → Making
+edition_making published row =
+    record { change = change.Edition row; act = act.Edition; target = length published.editions }
+
+abbrev pub region_making : Published → RegionRow → Making
+region_making published row =
+    record { change = change.Region row; act = act.Region; target = length published.regions }
+
+-- the row that a change publishes is good there
+abbrev pub IsGoodNew : Rows → Change → Type 0
+IsGoodNew rows (change.Schema row) =
+    IsSchemaRow (published_of (changed rows (change.Schema row))) (length rows.schemas) row
+IsGoodNew rows (change.Master row) =
+    IsMasterRow (published_of (changed rows (change.Master row))) (length rows.masters) row
+IsGoodNew rows (change.Rulebook row) =
+    IsRulebookRow (published_of (changed rows (change.Rulebook row))) (length rows.rulebooks) row
+IsGoodNew rows (change.Edition row) =
+    IsEditionRow (published_of (changed rows (change.Edition row))) (length rows.editions) row
+IsGoodNew rows (change.Region row) =
+    IsRegionRow (published_of (changed rows (change.Region row))) (length rows.regions) row
+IsGoodNew rows (change.Clerk place row) = ⊥
+IsGoodNew rows (change.Session caller place row) = ⊥
+IsGoodNew rows (change.Record caller row) = ⊥
+IsGoodNew rows (change.Batch caller row) = ⊥
+
+are_good : (rows : Rows) (now : Published) → IsGoodFrom (IsSchemaRow now) rows.schemas now.schemas
+    → IsGoodFrom (IsMasterRow now) rows.masters now.masters
+    → IsGoodFrom (IsRulebookRow now) rows.rulebooks now.rulebooks
+    → IsGoodFrom (IsEditionRow now) rows.editions now.editions
+    → IsGoodFrom (IsRegionRow now) rows.regions now.regions → AreGoodAfter (published_of rows) now
+are_good rows now schemas masters rulebooks editions regions = record {
+  schemas = schemas;
+  masters = masters;
+  rulebooks = rulebooks;
+  editions = editions;
+  regions = regions;
+}
+
+-- so all that are published after those before are
+AreGoodAfter-changed : (rows : Rows) (one : Change) → IsGoodNew rows one
+    → AreGoodAfter (published_of rows) (published_of (changed rows one))
+AreGoodAfter-changed rows (change.Schema row) good = are_good rows (published_of (changed rows (change.Schema row)))
+    (pushed _ rows.schemas row good) (stays _ rows.masters) (stays _ rows.rulebooks) (stays _ rows.editions)
+    (stays _ rows.regions)
+AreGoodAfter-changed rows (change.Master row) good = are_good rows (published_of (changed rows (change.Master row)))
+    (stays _ rows.schemas) (pushed _ rows.masters row good) (stays _ rows.rulebooks) (stays _ rows.editions)
+    (stays _ rows.regions)
+AreGoodAfter-changed rows (change.Rulebook row) good = are_good rows
+    (published_of (changed rows (change.Rulebook row))) (stays _ rows.schemas) (stays _ rows.masters)
+    (pushed _ rows.rulebooks row good) (stays _ rows.editions) (stays _ rows.regions)
+AreGoodAfter-changed rows (change.Edition row) good = are_good rows (published_of (changed rows (change.Edition row)))
+    (stays _ rows.schemas) (stays _ rows.masters) (stays _ rows.rulebooks) (pushed _ rows.editions row good)
+    (stays _ rows.regions)
+AreGoodAfter-changed rows (change.Region row) good = are_good rows (published_of (changed rows (change.Region row)))
+    (stays _ rows.schemas) (stays _ rows.masters) (stays _ rows.rulebooks) (stays _ rows.editions)
+    (pushed _ rows.regions row good)
+AreGoodAfter-changed rows (change.Clerk place row) good = absurd good
+AreGoodAfter-changed rows (change.Session caller place row) good = absurd good
+AreGoodAfter-changed rows (change.Record caller row) good = absurd good
+AreGoodAfter-changed rows (change.Batch caller row) good = absurd good
+
 module _ (rows : Rows) (valid : AreValid rows) where
-  -- a change of what is published, in which new rows alone have to be good, is sound
+  -- a row that is published after the others, and good there, is soundly made
   pub IsSoundMaking-published : (making : Making) → (fits : Fits rows making.change)
       → let published : Published = published_of (changed rows making.change) in
-      changed rows making.change ≡ with_published rows published → AreGoodAfter (published_of rows) published
-      → IsDone (with_published rows published) 0 making.act making.target → IsSoundMaking rows making
-  IsSoundMaking-published making fits same good has_done = record {
+      changed rows making.change ≡ with_published rows published → IsGoodNew rows making.change
+      → making.act ≢ act.Nothing → IsStewardsAct making.act
+      → HasTarget (with_published rows published) 0 making.act making.target → IsSoundMaking rows making
+  IsSoundMaking-published making fits same good some is stands = record {
     fits = fits;
     valid = subst AreValid (sym same) (AreValid-published rows (published_of (changed rows making.change)) valid
-        (AreMore-changed rows making.change) good
+        (AreMore-changed rows making.change) (AreGoodAfter-changed rows making.change good)
         (subst AreTables same (AreTables-changed rows making.change fits valid.tables)));
     names = subst (λ (one : Rows). Begins (names_of rows.clerks) (names_of one.clerks)) (sym same)
         (Begins-same (names_of rows.clerks));
     own = λ place within. ap (λ (one : Rows). own_of one place) same;
     new = λ place following within.
         absurd (omega (arith, following, within, ap (λ (one : Rows). length one.clerks) same));
-    is_done = subst (λ one. IsDone one 0 making.act making.target) (sym same) has_done;
+    is_done = subst (λ one. IsDone one 0 making.act making.target) (sym same) (IsDone-steward
+        (with_published rows (published_of (changed rows making.change))) making.act making.target some is stands);
   }
 
 module _ (rows : Rows) (valid : AreValid rows) where
   -- a new schema
-  IsSoundMaking-schema : (row : SchemaRow) → length rows.schemas + 1 ≤ 128
-      → IsSchemaRow (record (published_of rows) { schemas = rows.schemas ++ row ∷ [] }) (length rows.schemas) row
-      → IsSoundMaking rows (record { change = change.Schema row; act = act.Schema; target = length rows.schemas })
-  IsSoundMaking-schema row few good =
-      let published : Published = record (published_of rows) { schemas = rows.schemas ++ row ∷ [] } in
-      IsSoundMaking-published rows valid
-      (record { change = change.Schema row; act = act.Schema; target = length rows.schemas })
-      (omega arith, omega (arith, few)) refl
-      (record {
-        schemas = pushed (IsSchemaRow published) rows.schemas row good;
-        masters = stays _ rows.masters;
-        rulebooks = stays _ rows.rulebooks;
-        editions = stays _ rows.editions;
-        regions = stays _ rows.regions;
-      })
-      (record {
-        some = λ same. cc;
-        steward = λ first. tt;
-        clerk = λ following. absurd (omega (arith, following));
-        stands = omega (arith, length-append rows.schemas (row ∷ []));
-      })
-
   pub IsSoundMaking-add_schema : (body : List ℕ) (making : Making) → Gives (making_of rows (AddSchema body)) (Ok making)
       → IsSoundMaking rows making
   IsSoundMaking-add_schema body making gives =
       let (row, (schema, reads, (_, few, is_row)), is) = Met-Gives (making_of rows (AddSchema body)) (Ok making) gives
       in
-      let made_of : SchemaRow → Making = λ one.
-      record { change = change.Schema one; act = act.Schema; target = length rows.schemas } in
       let new : SchemaRow =
       record { name = schema.name; version = next_version (λ one. one.name) rows.schemas schema.name; body = body } in
-      subst (IsSoundMaking rows) (sym (is ∙ ap made_of is_row))
-      (IsSoundMaking-schema new (few-stand which.Schemas (length rows.schemas + 1) few) (record {
+      let few_it = few-stand which.Schemas (length rows.schemas + 1) few in
+      subst (IsSoundMaking rows) (sym (is ∙ ap (schema_making (published_of rows)) is_row))
+      (IsSoundMaking-published rows valid (schema_making (published_of rows) new) (omega arith, omega (arith, few_it))
+      refl (record {
         schema = schema;
         reads = ap read reads;
         name = refl;
         version = IsVersion-next (λ one. one.name) rows.schemas new schema.name
             (IsSchema-from_bytes body schema reads).named;
-      }))
+      }) (λ same. cc) tt (omega (arith, length-append rows.schemas (new ∷ []))))
 
   -- a new master
-  IsSoundMaking-master : (row : MasterRow) → length rows.masters + 1 ≤ 128
-      → IsMasterRow (record (published_of rows) { masters = rows.masters ++ row ∷ [] }) (length rows.masters) row
-      → IsSoundMaking rows (record { change = change.Master row; act = act.Master; target = length rows.masters })
-  IsSoundMaking-master row few good =
-      let published : Published = record (published_of rows) { masters = rows.masters ++ row ∷ [] } in
-      IsSoundMaking-published rows valid
-      (record { change = change.Master row; act = act.Master; target = length rows.masters })
-      (omega arith, omega (arith, few)) refl
-      (record {
-        schemas = stays _ rows.schemas;
-        masters = pushed (IsMasterRow published) rows.masters row good;
-        rulebooks = stays _ rows.rulebooks;
-        editions = stays _ rows.editions;
-        regions = stays _ rows.regions;
-      })
-      (record {
-        some = λ same. cc;
-        steward = λ first. tt;
-        clerk = λ following. absurd (omega (arith, following));
-        stands = omega (arith, length-append rows.masters (row ∷ []));
-      })
-
   pub IsSoundMaking-add_master : (name body : List ℕ) (making : Making)
       → Gives (making_of rows (AddMaster name body)) (Ok making) → IsSoundMaking rows making
   IsSoundMaking-add_master name body making gives =
       let (row, (_, named, (master, reads, (_, few, (_, cells, is_row)))), is) =
       Met-Gives (making_of rows (AddMaster name body)) (Ok making) gives in
-      let made_of : MasterRow → Making = λ one.
-      record { change = change.Master one; act = act.Master; target = length rows.masters } in
       let new : MasterRow =
       record { name = name; version = next_version (λ one. one.name) rows.masters name; body = body } in
-      subst (IsSoundMaking rows) (sym (is ∙ ap made_of is_row))
-      (IsSoundMaking-master new (few-stand which.Masters (length rows.masters + 1) few) (record {
+      let few_it = few-stand which.Masters (length rows.masters + 1) few in
+      subst (IsSoundMaking rows) (sym (is ∙ ap (master_making (published_of rows)) is_row))
+      (IsSoundMaking-published rows valid (master_making (published_of rows) new) (omega arith, omega (arith, few_it))
+      refl (record {
         version = IsVersion-next (λ one. one.name) rows.masters new name named;
         reads = rw reads refl;
-      }))
+      }) (λ same. cc) tt (omega (arith, length-append rows.masters (new ∷ []))))
 
   -- a new rulebook
-  IsSoundMaking-rulebook : (row : RulebookRow) → length rows.rulebooks + 1 ≤ 128
-      → IsRulebookRow (record (published_of rows) { rulebooks = rows.rulebooks ++ row ∷ [] }) (length rows.rulebooks)
-      row
-      → IsSoundMaking rows (record { change = change.Rulebook row; act = act.Rulebook; target = length rows.rulebooks })
-  IsSoundMaking-rulebook row few good =
-      let published : Published = record (published_of rows) { rulebooks = rows.rulebooks ++ row ∷ [] } in
-      IsSoundMaking-published rows valid
-      (record { change = change.Rulebook row; act = act.Rulebook; target = length rows.rulebooks })
-      (omega arith, omega (arith, few)) refl
-      (record {
-        schemas = stays _ rows.schemas;
-        masters = stays _ rows.masters;
-        rulebooks = pushed (IsRulebookRow published) rows.rulebooks row good;
-        editions = stays _ rows.editions;
-        regions = stays _ rows.regions;
-      })
-      (record {
-        some = λ same. cc;
-        steward = λ first. tt;
-        clerk = λ following. absurd (omega (arith, following));
-        stands = omega (arith, length-append rows.rulebooks (row ∷ []));
-      })
-
   pub IsSoundMaking-add_rulebook : (name schema : List ℕ) (version : ℕ) (body : List ℕ) (making : Making)
       → Gives (making_of rows (AddRulebook name schema version body)) (Ok making) → IsSoundMaking rows making
   IsSoundMaking-add_rulebook name schema_name version body making gives =
       let (row, (_, named, (place, found, (schema, stands, (rulebook, reads, (_, few, is_row))))), is) =
       Met-Gives (making_of rows (AddRulebook name schema_name version body)) (Ok making) gives in
-      let made_of : RulebookRow → Making = λ one.
-      record { change = change.Rulebook one; act = act.Rulebook; target = length rows.rulebooks } in
       let new : RulebookRow = record {
         name = name;
         version = next_version (λ one. one.name) rows.rulebooks name;
@@ -246,13 +258,15 @@ module _ (rows : Rows) (valid : AreValid rows) where
         body = body;
       } in
       let reads_so : IsSome (rules_over body schema) = rw reads refl in
-      subst (IsSoundMaking rows) (sym (is ∙ ap made_of is_row))
-      (IsSoundMaking-rulebook new (few-stand which.Rulebooks (length rows.rulebooks + 1) few) (record {
+      let few_it = few-stand which.Rulebooks (length rows.rulebooks + 1) few in
+      subst (IsSoundMaking rows) (sym (is ∙ ap (rulebook_making (published_of rows)) is_row))
+      (IsSoundMaking-published rows valid (rulebook_making (published_of rows) new)
+      (omega arith, omega (arith, few_it)) refl (record {
         version = IsVersion-next (λ one. one.name) rows.rulebooks new name named;
         schema = place_of-within (λ one. one.name) (λ one. one.version) rows.schemas schema_name version place
             (record { name = []; version = 0; body = [] }) found;
         reads = subst (λ one. IfSome one (λ schema. IsSome (rules_over body schema))) (sym stands) reads_so;
-      }))
+      }) (λ same. cc) tt (omega (arith, length-append rows.rulebooks (new ∷ []))))
 
   -- a new clerk
   IsSoundMaking-clerk : (name : List ℕ) → length rows.clerks ≤ 32 → IsTrue (is_name name)
@@ -305,12 +319,8 @@ module _ (rows : Rows) (valid : AreValid rows) where
                 ap (λ (one : Rows). length one.clerks) same,
               )),
         );
-        is_done = subst (λ one. IsDone one 0 act.Clerk place) (sym same) (record {
-          some = λ same_act. cc;
-          steward = λ first. tt;
-          clerk = λ following. absurd (omega (arith, following));
-          stands = (valid.tables.steward, omega (arith, length-append rows.clerks (row ∷ [])));
-        });
+        is_done = subst (λ one. IsDone one 0 act.Clerk place) (sym same) (IsDone-steward other act.Clerk place
+            (λ same_act. cc) tt (valid.tables.steward, omega (arith, length-append rows.clerks (row ∷ []))));
       }
 
   pub IsSoundMaking-add_clerk : (name : List ℕ) (making : Making) → Gives (making_of rows (AddClerk name)) (Ok making)

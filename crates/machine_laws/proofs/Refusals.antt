@@ -1,8 +1,6 @@
 -- Tests of which each refusal has its cause: a chain of them does where its parts do.
-use Rattle.std.proofs.Common.{◌≡◌, ◌∙◌, ◌++◌, ℕ, Bool, true, false, List, [], ◌∷◌, Option, None, inl, inr, refl, sym}
-use Rattle.std.proofs.Common.{subst, arith}
+use Rattle.std.proofs.Common.{◌≡◌, ◌∙◌, ℕ, Bool, true, false, List, [], Option, None, inl, inr, sym}
 use Rattle.std.specs.Prelude.{◌<◌, Contains, Result, Ok, Err}
-use Rattle.std.proofs.lemmas.List.Elements.{Contains-append_right}
 use Rattle.desk_words.specs.declared.limit.Which.{Which}
 use Rattle.desk_words.specs.declared.refusal.Refusal.{Refusal}
 use Rattle.desk_words.specs.declared.refusal.Refusal.TheVariants.{Limit}
@@ -10,8 +8,8 @@ use Rattle.machine_core.specs.Checked.{Checked, Gives, Question, ◌>>=◌, aske
 use Rattle.machine_core.specs.Checked.{never, some_or, unless, value_or}
 use Rattle.machine_core.specs.Limits.{limit_of, within}
 use Rattle.machine_core.proofs.Chains.{Gives-bind_err, done-not_refused}
-use Rattle.machine_core.proofs.Tested.{certainly-err, each-why, each_following-refused, some_or-why, unless-why}
-use Rattle.machine_core.proofs.Tested.{value_or-why, within-why}
+use Rattle.machine_core.proofs.Tested.{certainly-err, IsRefusedAt, each-why, each_following-refused, some_or-why}
+use Rattle.machine_core.proofs.Tested.{unless-why, value_or-why, within-why}
 use Rattle.machine_core.proofs.Walks.{Met, Met-Gives}
 
 -- each refusal to which the tests come has its cause
@@ -77,33 +75,12 @@ pub ruleset never_refused = (causes-bind, causes-done, causes-asked, causes-cert
 pub not-both : {told : Bool} → told ≡ true → told ≡ false → ⊥
 not-both holds fails = (let both : true ≡ false = sym holds ∙ fails in cc)
 
--- an item of a list of tests after one another, with those before it, which passed
-pub record IsComeTo {A B : Type 0} (find : List B → A → Checked B) (items : List A) : Type 0 where
-  pub earlier : List A
-  pub item : A
-  pub later : List A
-  pub sofar : List B
-  pub same : items ≡ earlier ++ item ∷ later
-  pub passed : Gives (each_following [] find earlier) (Ok sofar)
-
--- it is one of them
-pub listed-there : {A B : Type 0} (find : List B → A → Checked B) (items : List A) (at : IsComeTo find items)
-    → Contains items at.item
-listed-there find items at = subst (λ list. Contains list at.item) (sym at.same)
-    (Contains-append_right at.earlier (at.item ∷ at.later) at.item (0, omega arith, refl))
-
--- such a list, where each item that is come to has them
+-- a list of tests after one another, where each item that is come to has them
 pub causes-following : {A B : Type 0} {P : Refusal → Type 0} {find : List B → A → Checked B} {items : List A}
-    → ((at : IsComeTo find items) → HasCauses P (find at.sofar at.item)) → HasCauses P (each_following [] find items)
+    → ((refusal : Refusal) (come : IsRefusedAt find [] items refusal) → HasCauses P (find come.sofar come.item))
+    → HasCauses P (each_following [] find items)
 causes-following {A} {B} {P} {find} {items} has = record {
   why = λ refusal gives.
-      let says = each_following-refused find items [] refusal gives in
-      (has (record {
-        earlier = says.earlier;
-        item = says.item;
-        later = says.later;
-        sofar = says.sofar;
-        same = says.same;
-        passed = says.passed;
-      })).why refusal says.refused_so;
+      let come = each_following-refused find items [] refusal gives in
+      (has refusal come).why refusal come.refused_so;
 }

@@ -1,6 +1,6 @@
 -- A new region is good where it is put.
-use Rattle.std.proofs.Common.{◌≡◌, ◌∙◌, ℕ, ◌+◌, ◌<◌, ◌≤◌, ◌*◌, ◌^◌, Bool, true, cond, List, [], ◌∷◌, ◌++◌, length}
-use Rattle.std.proofs.Common.{get_or, map, take, suc, refl, sym, ap, subst, arith}
+use Rattle.std.proofs.Common.{◌≡◌, ◌∙◌, ℕ, ◌+◌, ◌<◌, ◌≤◌, ◌*◌, Bool, true, cond, List, [], ◌∷◌, length, get_or, map}
+use Rattle.std.proofs.Common.{take, suc, refl, sym, ap, subst, arith}
 use Rattle.std.specs.Prelude.{◌==◌, All, IfSome, Ok, count_by, zip}
 use Rattle.std.specs.List.{range_with_len}
 use Rattle.std.proofs.lemmas.Bool.Decides.{nat_tests}
@@ -12,7 +12,6 @@ use Rattle.std.proofs.lemmas.Slice.Zip.{length-zip}
 use Rattle.desk_words.specs.declared.change.Change.TheVariants as change
 use Rattle.desk_words.specs.declared.limit.Which.TheVariants as which
 use Rattle.desk_words.specs.declared.refusal.Refusal.TheVariants.{RowWidth, UnknownAttr}
-use Rattle.desk_words.specs.declared.rows.act.Act.TheVariants as act
 use Rattle.desk_words.specs.declared.rows.region.RegionRow.{RegionRow}
 use Rattle.desk_words.specs.declared.steward_work.StewardWork.TheVariants.{AddRegion}
 use Rattle.desk_words.specs.Tables.{Published, Rows, published_of}
@@ -27,8 +26,8 @@ use Rattle.machine_core.specs.Tests.{another_attribute}
 use Rattle.machine_core.proofs.Chains.{Gives-bind_ok, done-value}
 use Rattle.machine_core.proofs.Distinct.{AreDistinct, another-place, no-places}
 use Rattle.machine_core.proofs.Tested.{each-length, each_following-all, each_following-length, unless-ok}
-use Rattle.machine_laws.proofs.Lists.{pushed, slice_get-read, slice_get-there}
-use Rattle.machine_laws.proofs.Makings.{IsSoundMaking, stays, IsSoundMaking-published}
+use Rattle.machine_laws.proofs.Lists.{slice_get-read, slice_get-there}
+use Rattle.machine_laws.proofs.Makings.{IsGoodNew, IsSoundMaking, IsSoundMaking-published, region_making}
 use Rattle.machine_laws.proofs.Sessions.{distinct-below}
 use Rattle.machine_core.proofs.Widths.{edition-stands, width-bound}
 use Rattle.machine_core.proofs.Walks.{Met-Gives, Gives-Met}
@@ -68,28 +67,6 @@ full_rows-ok attributes number (first ∷ others) found gives =
     )
 
 module _ (rows : Rows) (valid : AreValid rows) where
-  -- a new region
-  pub IsSoundMaking-region : (row : RegionRow) → length rows.regions + 1 < 2 ^ 31
-      → IsRegionRow (record (published_of rows) { regions = rows.regions ++ row ∷ [] }) (length rows.regions) row
-      → IsSoundMaking rows (record { change = change.Region row; act = act.Region; target = length rows.regions })
-  IsSoundMaking-region row few good =
-      let published : Published = record (published_of rows) { regions = rows.regions ++ row ∷ [] } in
-      IsSoundMaking-published rows valid
-      (record { change = change.Region row; act = act.Region; target = length rows.regions }) (omega arith, few) refl
-      (record {
-        schemas = stays _ rows.schemas;
-        masters = stays _ rows.masters;
-        rulebooks = stays _ rows.rulebooks;
-        editions = stays _ rows.editions;
-        regions = pushed (IsRegionRow published) rows.regions row good;
-      })
-      (record {
-        some = λ same. cc;
-        steward = λ first. tt;
-        clerk = λ following. absurd (omega (arith, following));
-        stands = omega (arith, length-append rows.regions (row ∷ []));
-      })
-
   -- a number for each region: eight for each edition
   abbrev no_region : RegionRow
   no_region = record { edition = 0; region = record { attrs = []; rows = [] } }
@@ -169,6 +146,13 @@ module _ (rows : Rows) (valid : AreValid rows) where
           let editions : edition_in i ≡ edition_in j = omega (arith, same, first.1, second.1) in
           omega (arith, same, editions, count-rises i j before within editions)
 
+  -- a new region
+  pub IsSoundMaking-region : (row : RegionRow) → IsGoodNew rows (change.Region row)
+      → IsSoundMaking rows (region_making (published_of rows) row)
+  IsSoundMaking-region row good = IsSoundMaking-published rows valid (region_making (published_of rows) row)
+      (omega arith, omega (arith, regions-few)) refl good (λ same. cc) tt
+      (omega (arith, length-append rows.regions (row ∷ [])))
+
   pub IsSoundMaking-add_region : (edition : List ℕ) (version : ℕ) (attributes : List (List ℕ))
       (texts : List (List (List ℕ))) (making : Making)
       → Gives (making_of rows (AddRegion edition version attributes texts)) (Ok making) → IsSoundMaking rows making
@@ -177,8 +161,6 @@ module _ (rows : Rows) (valid : AreValid rows) where
       let (row, (edition, named, (bound, binds, (places, are_places, (_, few_rows, rest)))), is) =
       Met-Gives (making_of rows (AddRegion name version attributes texts)) (Ok making) gives in
       let (full, are_full, (_, few, is_row)) = rest in
-      let made_of : RegionRow → Making = λ one.
-      record { change = change.Region one; act = act.Region; target = length rows.regions } in
       let words : List (List ℕ) = bound.names.attributes in
       let made : RegionRow = record { edition = edition; region = record { attrs = places; rows = full } } in
       let given = Gives-Met (each_following [] (another_attribute words) attributes) (Ok places) are_places in
@@ -189,8 +171,7 @@ module _ (rows : Rows) (valid : AreValid rows) where
       omega (arith, each_following-length (another_attribute words) attributes [] places given) in
       let whole = full_rows-ok attributes 1 texts full (Gives-Met (full_rows attributes 1 texts) (Ok full) are_full) in
       let few_it = few-stand which.Regions (region_count rows.regions edition + 1) few in
-      subst (IsSoundMaking rows) (sym (is ∙ ap made_of is_row))
-      (IsSoundMaking-region made (omega (arith, regions-few)) (record {
+      subst (IsSoundMaking rows) (sym (is ∙ ap (region_making published) is_row)) (IsSoundMaking-region made (record {
         edition = edition-stands published edition bound binds;
         few = subst (λ before. region_count before edition < 8)
             (sym (take_at rows.regions (made ∷ []) (length rows.regions) refl)) (omega (arith, few_it));

@@ -5,7 +5,6 @@ use Rattle.std.specs.Prelude.{◌==◌, Contains, IsSomeAnd, Ok, Err, option_and
 use Rattle.std.specs.Str.{bytes_eq}
 use Rattle.std.proofs.lemmas.Bool.Decides.{nat_tests}
 use Rattle.std.proofs.lemmas.List.{append-nil, append_assoc, length-append, map-id}
-use Rattle.std.proofs.lemmas.List.Elements.{Contains-append_right}
 use Rattle.std.proofs.lemmas.Slice.Eq.{bytes_eq-Decides}
 use Rattle.fix_model.specs.declared.kit.Kit.{Kit}
 use Rattle.fix_model.specs.Entries.{entries}
@@ -45,19 +44,12 @@ use Rattle.machine_laws.proofs.Derived.{IsAskedOf-found}
 use Rattle.machine_laws.proofs.DerivingWhy.{derivation-why, derived_rows-why}
 use Rattle.machine_laws.proofs.Why.{edition-words, limit-why, sheet-why, version-why, word-why}
 use Rattle.machine_laws.proofs.Refusals.{HasCauses, causes-bind, causes-certainly, causes-done, causes-each}
-use Rattle.machine_laws.proofs.Refusals.{causes-following, causes-some_or, causes-unless, causes-value_or, listed-there}
-use Rattle.machine_laws.proofs.Refusals.{not-both}
-use Rattle.machine_laws.proofs.Twice.{another-word, any-taken, free-why, named-there, named-twice}
+use Rattle.machine_laws.proofs.Refusals.{causes-following, causes-some_or, causes-unless, causes-value_or, not-both}
+use Rattle.machine_laws.proofs.Twice.{Contains-between, another-word, any-taken, free-why, named-there, named-twice}
 use Rattle.machine_core.proofs.Walks.{Met, Gives-Met}
 use Rattle.desk_valid.specs.declared.parts.Parts.{Parts}
 use Rattle.machine_core.specs.Named.{attributes_in, new_name_in}
 use Rattle.machine_laws.proofs.Wrong.{bind-why, rules-why, schema-why}
-
--- an item stands after those before it
-Contains-between : {A : Type 0} (items earlier later : List A) (item : A) → items ≡ earlier ++ item ∷ later
-    → Contains items item
-Contains-between items earlier later item is = subst (λ list. Contains list item) (sym is)
-    (Contains-append_right earlier (item ∷ later) item (0, omega arith, refl))
 
 -- the places of masters that are found
 masters-places : (published : Published) (masters : List (List ℕ × ℕ)) (before found : List ℕ)
@@ -98,11 +90,11 @@ module _ (rows : Rows) (ticket : Ticket) where
       let names : List (List ℕ) = attributes_in command in
       let find : List ℕ → List ℕ → Checked ℕ = another_attribute words in
       let word_of : List ℕ → List ℕ = λ word. word in
-      causes-following (λ come. causes-bind (word-why rows command words come.item are
+      causes-following (λ refusal come. causes-bind (word-why rows command words come.item are
       (named-there find names come word_of names (sym (map-id names)))) (λ at there.
-      causes-bind (free-why find names come word_of names (sym (map-id names)) (Cause rows command) words (λ one. one)
+      causes-bind (free-why find names come word_of names (sym (map-id names)) words (λ one. one)
       (λ before word one gave. another-word words before word (UnknownAttr word) one gave) at there
-      (λ twice. inl twice)) (λ _ _. causes-done)))
+      (Cause rows command) (λ twice. inl twice)) (λ _ _. causes-done)))
 
   add_clerk-why : (name : List ℕ) → HasCauses (CausesOf (AddClerk name)) (clerk_row rows.clerks name)
   add_clerk-why name =
@@ -149,8 +141,8 @@ module _ (rows : Rows) (ticket : Ticket) where
     masters-why : HasCauses (Cause rows adding) (each_following [] (another_master rows.masters) masters)
     masters-why =
         let find : List ℕ → List ℕ × ℕ → Checked ℕ = another_master rows.masters in
-        causes-following (λ come.
-        causes-bind (causes-some_or (λ none. inl (come.item, listed-there find masters come, none))) (λ at found.
+        causes-following (λ refusal come.
+        causes-bind (causes-some_or (λ none. inl (come.item, Contains-between masters come.earlier come.later come.item come.same, none))) (λ at found.
         causes-bind (causes-unless (λ some.
         let name_of : List ℕ × ℕ → List ℕ = λ master. master.0 in
         let taken : ℕ → Bool = λ earlier. bytes_eq (master_name rows.masters earlier) come.item.0 in

@@ -1,6 +1,6 @@
 -- The steward is answered alike where the same was published, under the same names.
 use Rattle.std.proofs.Common.{◌≡◌, ◌∙◌, ℕ, Bool, true, false, List, [], ◌∷◌, ◌++◌, length, map, set, refl, sym, ap, Ok}
-use Rattle.std.specs.Prelude.{◌==◌, if◌then◌else◌, not, slice_get}
+use Rattle.std.specs.Prelude.{◌||◌, ◌==◌, if◌then◌else◌, not, slice_get}
 use Rattle.std.specs.List.{list_any}
 use Rattle.std.specs.Str.{bytes_eq}
 use Rattle.std.proofs.lemmas.List.{length-map, map-append, map-set}
@@ -40,13 +40,19 @@ use Rattle.machine_core.specs.declared.ticket.Use.TheVariants.{Fresh, Repeated}
 use Rattle.machine_core.specs.Ticket.{use_of}
 use Rattle.machine_laws.proofs.Callers.{names_of}
 use Rattle.machine_laws.proofs.Kept.{made_clerk-names}
-use Rattle.machine_laws.proofs.Lists.{list_any-image}
+use Rattle.machine_laws.proofs.Makings.{edition_making, master_making, region_making, rulebook_making, schema_making}
 
 -- what the steward is answered by: what was published, the names, and the steward's row
 pub record AreAsToSteward (rows other : Rows) : Type 0 where
   pub published : published_of rows ≡ published_of other
   pub names : names_of rows.clerks ≡ names_of other.clerks
   pub row : (own_of rows 0).row ≡ (own_of other 0).row
+
+-- names are tested alike
+list_any-names : (clerks : List ClerkRow) (name : List ℕ)
+    → list_any (λ clerk. bytes_eq clerk.name name) clerks ≡ list_any (λ one. bytes_eq one name) (names_of clerks)
+list_any-names [] name = refl
+list_any-names (clerk ∷ clerks) name = ap (λ rest. bytes_eq clerk.name name || rest) (list_any-names clerks name)
 
 -- a new clerk is made of the names
 abbrev clerk_making : List (List ℕ) → List ℕ → Checked Making
@@ -58,7 +64,7 @@ clerk_making names name =
 clerk_making-names : (rows : Rows) (name : List ℕ) → run (making_of rows (AddClerk name))
     ≡ run (clerk_making (names_of rows.clerks) name)
 clerk_making-names rows name =
-    let any = sym (list_any-image (λ one. bytes_eq one name) (λ (row : ClerkRow). row.name) rows.clerks) in
+    let any = list_any-names rows.clerks name in
     let long = sym (length-map rows.clerks (λ (row : ClerkRow). row.name)) in
     λ i. run (tests.proper_name name >> (unless (not (any i)) (Taken name) >> (within which.Clerks (long i) >> done
     (new_clerk name))) >>= (λ row. done
@@ -70,44 +76,19 @@ making-alike : (rows other : Rows) (work : StewardWork) → AreAsToSteward rows 
 making-alike rows other (AddClerk name) alike =
     clerk_making-names rows name ∙ ap (λ names. run (clerk_making names name)) alike.names
     ∙ sym (clerk_making-names other name)
-making-alike rows other (AddSchema body) alike = ap
-    (λ (one : Published). run (schema_row one.schemas body >>= (λ row. done
-    (record { change = change.Schema row; act = act.Schema; target = length one.schemas })))) alike.published
-making-alike rows other (AddMaster name body) alike =
-    ap (λ (one : Published). run (master_row one.masters name body >>= (λ row.
-    done (record { change = change.Master row; act = act.Master; target = length one.masters })))) alike.published
-making-alike rows other (AddRulebook name schema version body) alike =
-    ap (λ (one : Published). run (rulebook_row one name schema
-    version body >>= (λ row. done (record {
-      change = change.Rulebook row;
-      act = act.Rulebook;
-      target = length
-          one.rulebooks;
-    })))) alike.published
-making-alike rows other (AddEdition name rulebook masters folded) alike = ap
-    (λ (one : Published). run (edition_row one name
-    rulebook masters folded >>= (λ row. done (record {
-      change = change.Edition row;
-      act = act.Edition;
-      target = length
-          one.editions;
-    })))) alike.published
-making-alike rows other (AddRegion edition version attributes texts) alike =
-    ap (λ (one : Published). run (region_row one edition
-    version attributes texts >>= (λ row. done (record {
-      change = change.Region row;
-      act = act.Region;
-      target = length
-          one.regions;
-    })))) alike.published
-making-alike rows other (AddDerived edition version master pairs from) alike =
-    ap (λ (one : Published). run (derived_region one
-    edition version master pairs from >>= (λ row. done (record {
-      change = change.Region row;
-      act = act.Region;
-      target = length
-          one.regions;
-    })))) alike.published
+making-alike rows other (AddSchema body) alike = ap (λ (one : Published). run (schema_row one.schemas body
+    >>= (λ row. done (schema_making one row)))) alike.published
+making-alike rows other (AddMaster name body) alike = ap (λ (one : Published). run (master_row one.masters name body
+    >>= (λ row. done (master_making one row)))) alike.published
+making-alike rows other (AddRulebook name schema version body) alike = ap (λ (one : Published).
+    run (rulebook_row one name schema version body >>= (λ row. done (rulebook_making one row)))) alike.published
+making-alike rows other (AddEdition name rulebook masters folded) alike = ap (λ (one : Published).
+    run (edition_row one name rulebook masters folded >>= (λ row. done (edition_making one row)))) alike.published
+making-alike rows other (AddRegion edition version attributes texts) alike = ap (λ (one : Published).
+    run (region_row one edition version attributes texts >>= (λ row. done (region_making one row)))) alike.published
+making-alike rows other (AddDerived edition version master pairs from) alike = ap (λ (one : Published).
+    run (derived_region one edition version master pairs from >>= (λ row. done (region_making one row))))
+    alike.published
 
 -- and so is the kept reply
 kept-alike : (rows other : Rows) (what : Act) (target : ℕ) → published_of rows ≡ published_of other

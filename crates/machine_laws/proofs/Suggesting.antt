@@ -1,6 +1,6 @@
 -- Every state of a valid kit has a suggestion, whatever the regions are.
-use Rattle.std.proofs.Common.{◌≡◌, ◌⊎◌, ◌≤◌, ◌+◌, ◌-◌, ℕ, zero, suc, List, [], ◌∷◌, ◌++◌, length, map, inl}
-use Rattle.std.proofs.Common.{inr, refl, ap, arith}
+use Rattle.std.proofs.Common.{◌≡◌, ◌⊎◌, ◌≤◌, ◌+◌, ◌-◌, ℕ, zero, suc, List, [], ◌∷◌, ◌++◌, length, map, inl, inr, refl}
+use Rattle.std.proofs.Common.{ap, arith}
 use Rattle.std.specs.Prelude.{◌↔◌, Contains}
 use Rattle.fix_model.specs.declared.kit.Kit.{Kit}
 use Rattle.fix_model.specs.declared.region.Region.{Region}
@@ -35,28 +35,30 @@ module _ (Holds : ℕ × ℕ → Type 0) (decide : (pair : ℕ × ℕ) → Decid
   abbrev Within : ℕ → ℕ → ℕ × ℕ → Type 0
   Within place row pair = Holds pair × ((pair.0 ≤ place) ⊎ ((pair.0 ≡ place + 1) × (pair.1 ≤ row)))
 
+  -- what stands among so many stands among more
+  wider : (place row : ℕ) (pair : ℕ × ℕ) → Within place row pair → Within place (suc row) pair
+  wider place row pair (holds, inl before) = (holds, inl before)
+  wider place row pair (holds, inr here) = (holds, inr (here.0, omega (arith, here.1)))
+
+  -- and it is no other than the last of them, or stands among the others
+  last-or-before : (place row : ℕ) (pair : ℕ × ℕ) → Within place (suc row) pair
+      → Within place row pair ⊎ (pair ≡ (place + 1, row + 1))
+  last-or-before place row pair (holds, inl before) = inl (holds, inl before)
+  last-or-before place row pair (holds, inr here) = elim (decide_less pair.1 (row + 1)) [
+    | inl less ↦ inl (holds, inr (here.0, omega (arith, less)))
+    | inr not_less ↦
+        let second : pair.1 ≡ row + 1 = omega (arith, here.1, not_less) in
+        let first : pair.0 ≡ place + 1 = here.0 in
+        inr (λ i. (first i, second i))
+  ]
+
   -- a pair that holds is one more
   row-push : (place row : ℕ) → Holds (place + 1, row + 1) → (pair : ℕ × ℕ)
       → Within place (suc row) pair ↔ (Within place row pair ⊎ (pair ≡ (place + 1, row + 1)))
   row-push place row holds pair = (
-    (λ within. elim within.1 [
-      | inl before ↦ inl (within.0, inl before)
-      | inr here ↦ elim (decide_less pair.1 (row + 1)) [
-        | inl less ↦ inl (within.0, inr (here.0, omega (arith, less)))
-        | inr not_less ↦
-            let second : pair.1 ≡ row + 1 = omega (arith, here.1, not_less) in
-            let first : pair.0 ≡ place + 1 = here.0 in
-            inr (λ i. (first i, second i))
-      ]
-    ]),
+    last-or-before place row pair,
     λ either. elim either [
-      | inl within ↦ (
-        within.0,
-        elim within.1 [
-          | inl before ↦ inl before
-          | inr here ↦ inr (here.0, omega (arith, here.1))
-        ],
-      )
+      | inl within ↦ wider place row pair within
       | inr is ↦ rw is (holds, inr (refl, omega arith))
     ],
   )
@@ -65,27 +67,11 @@ module _ (Holds : ℕ × ℕ → Type 0) (decide : (pair : ℕ × ℕ) → Decid
   row-skip : (place row : ℕ) → ¬ Holds (place + 1, row + 1) → (pair : ℕ × ℕ)
       → Within place row pair ↔ Within place (suc row) pair
   row-skip place row fails pair = (
-    (λ within. (
-      within.0,
-      elim within.1 [
-        | inl before ↦ inl before
-        | inr here ↦ inr (here.0, omega (arith, here.1))
-      ],
-    )),
-    λ within. (
-      within.0,
-      elim within.1 [
-        | inl before ↦ inl before
-        | inr here ↦ elim (decide_less pair.1 (row + 1)) [
-          | inl less ↦ inr (here.0, omega (arith, less))
-          | inr not_less ↦
-              let second : pair.1 ≡ row + 1 = omega (arith, here.1, not_less) in
-              let first : pair.0 ≡ place + 1 = here.0 in
-              let same : pair ≡ (place + 1, row + 1) = λ i. (first i, second i) in
-              absurd (fails (rw same at within.0))
-        ]
-      ],
-    ),
+    wider place row pair,
+    λ within. elim (last-or-before place row pair within) [
+      | inl before ↦ before
+      | inr same ↦ absurd (fails (rw same at within.0))
+    ],
   )
 
   -- one row after another
@@ -113,28 +99,21 @@ module _ (Holds : ℕ × ℕ → Type 0) (decide : (pair : ℕ × ℕ) → Decid
 
   -- after the last second one the next first one is come to
   whole-row : (place : ℕ) (pair : ℕ × ℕ) → Within place (rows place) pair ↔ Within (suc place) 0 pair
-  whole-row place pair = (
-    (λ within. (
-      within.0,
-      elim within.1 [
-        | inl before ↦ inl (omega (arith, before))
-        | inr here ↦ inl (omega (arith, here.0))
-      ],
-    )),
-    λ within. (
-      within.0,
-      elim within.1 [
-        | inr none ↦ absurd (omega (arith, none.1, (second_within pair within.0).0))
-        | inl before ↦ elim (decide_less place pair.0) [
-          | inr not_here ↦ inl (omega (arith, not_here))
-          | inl here ↦
-              let first : pair.0 ≡ place + 1 = omega (arith, here, before) in
-              let back : pair.0 - 1 ≡ place = omega (arith, first) in
-              inr (first, omega (arith, (second_within pair within.0).1, ap rows back))
-        ]
-      ],
-    ),
-  )
+  whole-row place pair = (to, from)
+    where
+      to : Within place (rows place) pair → Within (suc place) 0 pair
+      to (holds, inl before) = (holds, inl (omega (arith, before)))
+      to (holds, inr here) = (holds, inl (omega (arith, here.0)))
+
+      from : Within (suc place) 0 pair → Within place (rows place) pair
+      from (holds, inr none) = absurd (omega (arith, none.1, (second_within pair holds).0))
+      from (holds, inl before) = elim (decide_less place pair.0) [
+        | inr not_here ↦ (holds, inl (omega (arith, not_here)))
+        | inl here ↦
+            let first : pair.0 ≡ place + 1 = omega (arith, here, before) in
+            let back : pair.0 - 1 ≡ place = omega (arith, first) in
+            (holds, inr (first, omega (arith, (second_within pair holds).1, ap rows back)))
+      ]
 
   -- one first number after another
   listed-to : (place : ℕ) → (pairs : List (ℕ × ℕ)) × ListsExactly (Within place 0) pairs

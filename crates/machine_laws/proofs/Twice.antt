@@ -1,6 +1,6 @@
 -- Names that are tested after one another: where one is not there, and where one stands twice.
-use Rattle.std.proofs.Common.{◌≡◌, ◌≢◌, ◌∙◌, ℕ, Bool, true, false, List, [], ◌∷◌, get_or, map, Some, None, inl, inr}
-use Rattle.std.proofs.Common.{refl, sym, ap, subst, arith}
+use Rattle.std.proofs.Common.{◌≡◌, ◌≢◌, ◌∙◌, ◌++◌, ℕ, Bool, true, false, List, [], ◌∷◌, get_or, map, Some, None, inl}
+use Rattle.std.proofs.Common.{inr, refl, sym, ap, subst, arith}
 use Rattle.std.specs.Prelude.{◌==◌, All, Contains, Ok, not, position}
 use Rattle.std.specs.List.{list_any}
 use Rattle.std.specs.Str.{bytes_eq}
@@ -13,10 +13,11 @@ use Rattle.desk_words.specs.declared.refusal.Refusal.{Refusal}
 use Rattle.desk_words.specs.declared.refusal.Refusal.TheVariants.{Twice}
 use Rattle.machine_core.specs.Causes.{StandsTwice}
 use Rattle.machine_core.specs.Checked.{Checked, ◌>>=◌, ◌>>◌, done, some_or, unless}
-use Rattle.machine_core.proofs.Tested.{each_following-found}
+use Rattle.machine_core.proofs.Tested.{IsRefusedAt, each_following-found}
 use Rattle.machine_core.proofs.Walks.{Met, Met-Gives}
 use Rattle.machine_laws.proofs.Names.{none-passes}
-use Rattle.machine_laws.proofs.Refusals.{HasCauses, IsComeTo, causes-unless, listed-there}
+use Rattle.machine_laws.proofs.Refusals.{HasCauses, causes-unless}
+use Rattle.std.proofs.lemmas.List.Elements.{Contains-append_right}
 
 -- the image of an item is among the images
 pub Contains-image : {A B : Type 0} (image : A → B) (items : List A) (item : A) → Contains items item
@@ -52,12 +53,19 @@ any-taken taken items some =
     not-false true is = refl
     not-false false is = absurd (cc)
 
-module _ {A B : Type 0} (find : List B → A → Checked B) (items : List A) (come : IsComeTo find items)
-    (name : A → List ℕ) (names : List (List ℕ)) (are : names ≡ map name items) where
+-- an item stands after those before it
+pub Contains-between : {A : Type 0} (items earlier later : List A) (item : A) → items ≡ earlier ++ item ∷ later
+    → Contains items item
+Contains-between items earlier later item is = subst (λ list. Contains list item) (sym is)
+    (Contains-append_right earlier (item ∷ later) item (0, omega arith, refl))
+
+module _ {A B : Type 0} {refusal : Refusal} (find : List B → A → Checked B) (items : List A)
+    (come : IsRefusedAt find [] items refusal) (name : A → List ℕ) (names : List (List ℕ))
+    (are : names ≡ map name items) where
   -- an item that is come to is named
   pub named-there : Contains names (name come.item)
   named-there = subst (λ list. Contains list (name come.item)) (sym are)
-      (Contains-image name items come.item (listed-there find items come))
+      (Contains-image name items come.item (Contains-between items come.earlier come.later come.item come.same))
 
   -- and is named twice where one before it has the name
   pub named-twice : (one : B) → Contains come.sofar one
@@ -76,17 +84,19 @@ module _ {A B : Type 0} (find : List B → A → Checked B) (items : List A) (co
   ]
 
   -- as it is where one before it has the place of the name among words
-  pub free-why : (P : Refusal → Type 0) (words : List (List ℕ)) (place : B → ℕ)
-      → ((before : List B) (other : A) (one : B) → Met (find before other) (Ok one)
+  module _ (words : List (List ℕ)) (place : B → ℕ)
+      (placed : (before : List B) (other : A) (one : B) → Met (find before other) (Ok one)
       → name other ≡ get_or words (place one) [])
-      → (at : ℕ) → position (bytes_eq (name come.item)) words ≡ Some at
-      → (StandsTwice names (name come.item) → P (Twice (name come.item)))
-      → HasCauses P (unless (not (list_any (λ one. place one == at) come.sofar)) (Twice (name come.item)))
-  free-why P words place placed at there twice = causes-unless (λ some.
-      let (one, listed, holds) = any-taken (λ one. place one == at) come.sofar some in
-      let same : place one ≡ at = grind (arith, nat_tests, holds) in
-      twice (named-twice one listed (λ before other gave. placed before other one gave
-      ∙ ap (λ found. get_or words found []) same ∙ sym (word-at (name come.item) words at there))))
+      (at : ℕ) (there : position (bytes_eq (name come.item)) words ≡ Some at) where
+    pub placed-twice : (one : B) → Contains come.sofar one → place one ≡ at → StandsTwice names (name come.item)
+    placed-twice one listed same = named-twice one listed (λ before other gave. placed before other one gave
+        ∙ ap (λ found. get_or words found []) same ∙ sym (word-at (name come.item) words at there))
+
+    pub free-why : (P : Refusal → Type 0) → (StandsTwice names (name come.item) → P (Twice (name come.item)))
+        → HasCauses P (unless (not (list_any (λ one. place one == at) come.sofar)) (Twice (name come.item)))
+    free-why P twice = causes-unless (λ some.
+        let (one, listed, holds) = any-taken (λ one. place one == at) come.sofar some in
+        twice (placed-twice one listed (grind (arith, nat_tests, holds))))
 
 -- the place of a word that is none of those before it
 abbrev pub another : List (List ℕ) → List ℕ → List ℕ → Refusal → Checked ℕ

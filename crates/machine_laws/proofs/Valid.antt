@@ -6,12 +6,7 @@ use Rattle.std.proofs.lemmas.Bool.{cases_eq}
 use Rattle.std.proofs.lemmas.List.{length-append, length-map, length-set, take-append-le, map-append}
 use Rattle.desk_words.specs.declared.rows.batch.BatchRow.{BatchRow}
 use Rattle.desk_words.specs.declared.rows.clerk.ClerkRow.{ClerkRow}
-use Rattle.desk_words.specs.declared.rows.edition.EditionRow.{EditionRow}
-use Rattle.desk_words.specs.declared.rows.master.MasterRow.{MasterRow}
 use Rattle.desk_words.specs.declared.rows.record.RecordRow.{RecordRow}
-use Rattle.desk_words.specs.declared.rows.region.RegionRow.{RegionRow}
-use Rattle.desk_words.specs.declared.rows.rulebook.RulebookRow.{RulebookRow}
-use Rattle.desk_words.specs.declared.rows.schema.SchemaRow.{SchemaRow}
 use Rattle.desk_words.specs.declared.rows.session.SessionRow.{SessionRow}
 use Rattle.desk_words.specs.Tables.{AreTables, Published, Rows, list_at, published_of}
 use Rattle.desk_valid.specs.Rows.Clerk.{IsClerkRow}
@@ -20,7 +15,7 @@ use Rattle.desk_valid.specs.Rows.Master.{IsMasterRow}
 use Rattle.desk_valid.specs.Rows.Region.{IsRegionRow}
 use Rattle.desk_valid.specs.Rows.Rulebook.{IsRulebookRow}
 use Rattle.desk_valid.specs.Rows.Schema.{IsSchemaRow}
-use Rattle.desk_valid.specs.Valid.{AreValid}
+use Rattle.desk_valid.specs.Valid.{AreValid, EachAt}
 use Rattle.machine_core.specs.Own.{Own}
 use Rattle.machine_core.specs.OwnRows.{AreOwnRows}
 use Rattle.machine_laws.proofs.Callers.{AreNoFewer, IsClerkRow-more, names_of}
@@ -49,18 +44,18 @@ AreOwnRows-same published sessions other_sessions records other_records batches 
     (subst (λ list. AreOwnRows published sessions list other_batches) (sym same_records)
     (subst (λ list. AreOwnRows published sessions records list) (sym same_batches) are))
 
+-- the rows of a list after those of one before are good
+abbrev pub IsGoodFrom : {T : Type 0} → (ℕ → T → Type 0) → List T → List T → Type 0
+IsGoodFrom {T} Q before now =
+    (place : ℕ) (row : T) → length before ≤ place → slice_get now place ≡ Some row → Q place row
+
 -- the rows that are published after those before are good
 pub record AreGoodAfter (before now : Published) : Type 0 where
-  pub schemas : (place : ℕ) (row : SchemaRow) → length before.schemas ≤ place → slice_get now.schemas place ≡ Some row
-      → IsSchemaRow now place row
-  pub masters : (place : ℕ) (row : MasterRow) → length before.masters ≤ place → slice_get now.masters place ≡ Some row
-      → IsMasterRow now place row
-  pub rulebooks : (place : ℕ) (row : RulebookRow) → length before.rulebooks ≤ place
-      → slice_get now.rulebooks place ≡ Some row → IsRulebookRow now place row
-  pub editions : (place : ℕ) (row : EditionRow) → length before.editions ≤ place
-      → slice_get now.editions place ≡ Some row → IsEditionRow now place row
-  pub regions : (place : ℕ) (row : RegionRow) → length before.regions ≤ place → slice_get now.regions place ≡ Some row
-      → IsRegionRow now place row
+  pub schemas : IsGoodFrom (IsSchemaRow now) before.schemas now.schemas
+  pub masters : IsGoodFrom (IsMasterRow now) before.masters now.masters
+  pub rulebooks : IsGoodFrom (IsRulebookRow now) before.rulebooks now.rulebooks
+  pub editions : IsGoodFrom (IsEditionRow now) before.editions now.editions
+  pub regions : IsGoodFrom (IsRegionRow now) before.regions now.regions
 
 -- the tables with this published
 abbrev pub with_published : Rows → Published → Rows
@@ -114,14 +109,51 @@ AreValid-published rows published valid more good tables =
       batches = λ clerk. (own clerk).batches_valid;
     }
 
+module _ (rows : Rows) (clerks : List ClerkRow) (sessions : List (List SessionRow)) (records : List (List RecordRow))
+    (batches : List (List BatchRow)) where
+  -- the tables with these rows of clerks, and the same published
+  abbrev pub with_callers : Rows
+  with_callers = record rows { clerks = clerks; sessions = sessions; records = records; batches = batches }
+
+  AreNoFewer-callers : length rows.clerks ≤ length clerks
+      → ((clerk : ℕ) → length (list_at rows.sessions clerk) ≤ length (list_at sessions clerk))
+      → ((clerk : ℕ) → length (list_at rows.records clerk) ≤ length (list_at records clerk))
+      → ((clerk : ℕ) → length (list_at rows.batches clerk) ≤ length (list_at batches clerk))
+      → AreNoFewer rows with_callers
+  AreNoFewer-callers more_clerks more_sessions more_records more_batches = record {
+    clerks = more_clerks;
+    schemas = omega arith;
+    masters = omega arith;
+    rulebooks = omega arith;
+    editions = omega arith;
+    regions = omega arith;
+    sessions = more_sessions;
+    records = more_records;
+    batches = more_batches;
+  }
+
+  -- they are valid where the clerks' rows are good
+  AreValid-callers : AreValid rows → AreTables with_callers → EachAt clerks (IsClerkRow with_callers)
+      → ((clerk : ℕ)
+      → AreOwnRows (published_of rows) (list_at sessions clerk) (list_at records clerk) (list_at batches clerk))
+      → AreValid with_callers
+  AreValid-callers valid tables good own = record {
+    tables = tables;
+    clerks = good;
+    schemas = valid.schemas;
+    masters = valid.masters;
+    rulebooks = valid.rulebooks;
+    editions = valid.editions;
+    regions = valid.regions;
+    sessions = λ clerk. (own clerk).sessions_valid;
+    records = λ clerk. (own clerk).records_valid;
+    batches = λ clerk. (own clerk).batches_valid;
+  }
+
 -- the tables with these rows of the caller at a place
 abbrev pub with_own : Rows → ℕ → Own → Rows
-with_own rows place own = record rows {
-  clerks = set rows.clerks place own.row;
-  sessions = set rows.sessions place own.sessions;
-  records = set rows.records place own.records;
-  batches = set rows.batches place own.batches;
-}
+with_own rows place own = with_callers rows (set rows.clerks place own.row) (set rows.sessions place own.sessions)
+    (set rows.records place own.records) (set rows.batches place own.batches)
 
 module _ (rows : Rows) (valid : AreValid rows) (place : ℕ) (within : place < length rows.clerks) (own : Own) where
   -- one clerk's rows are those that are put, and the others' stay
@@ -160,19 +192,11 @@ module _ (rows : Rows) (valid : AreValid rows) (place : ℕ) (within : place < l
       let name_in : ClerkRow → List ℕ = λ clerk. clerk.name in
       let names : names_of other.clerks ≡ names_of rows.clerks =
       map-set_same name_in rows.clerks place own.row old stands name in
-      record {
-        tables = tables;
-        clerks = EachAt-set (IsClerkRow rows) (IsClerkRow other) rows.clerks place own.row valid.clerks
-            (λ caller one apart is. IsClerkRow-more rows other caller one fewer (ap (take caller) names) is) row;
-        schemas = valid.schemas;
-        masters = valid.masters;
-        rulebooks = valid.rulebooks;
-        editions = valid.editions;
-        regions = valid.regions;
-        sessions = λ clerk. (own-with good clerk).sessions_valid;
-        records = λ clerk. (own-with good clerk).records_valid;
-        batches = λ clerk. (own-with good clerk).batches_valid;
-      }
+      AreValid-callers rows (set rows.clerks place own.row) (set rows.sessions place own.sessions)
+      (set rows.records place own.records) (set rows.batches place own.batches) valid tables
+      (EachAt-set (IsClerkRow rows) (IsClerkRow other) rows.clerks place own.row valid.clerks
+      (λ caller one apart is. IsClerkRow-more rows other caller one fewer (ap (take caller) names) is) row)
+      (own-with good)
 
 -- a list is no shorter where the one that is put is not
 length-list_at : {T : Type 0} (lists : List (List T)) (place clerk : ℕ) (list : List T) → place < length lists
@@ -189,27 +213,17 @@ pub AreNoFewer-own : (rows : Rows) (place : ℕ) (own : Own) → AreTables rows 
     → length (list_at rows.sessions place) ≤ length own.sessions
     → length (list_at rows.records place) ≤ length own.records
     → length (list_at rows.batches place) ≤ length own.batches → AreNoFewer rows (with_own rows place own)
-AreNoFewer-own rows place own tables within sessions records batches = record {
-  clerks = omega (arith, length-set rows.clerks place own.row);
-  schemas = omega arith;
-  masters = omega arith;
-  rulebooks = omega arith;
-  editions = omega arith;
-  regions = omega arith;
-  sessions = λ clerk. length-list_at rows.sessions place clerk own.sessions (omega (arith, tables.sessions.each))
-      sessions;
-  records = λ clerk. length-list_at rows.records place clerk own.records (omega (arith, tables.records.each)) records;
-  batches = λ clerk. length-list_at rows.batches place clerk own.batches (omega (arith, tables.batches.each)) batches;
-}
+AreNoFewer-own rows place own tables within sessions records batches = AreNoFewer-callers rows
+    (set rows.clerks place own.row) (set rows.sessions place own.sessions) (set rows.records place own.records)
+    (set rows.batches place own.batches) (omega (arith, length-set rows.clerks place own.row))
+    (λ clerk. length-list_at rows.sessions place clerk own.sessions (omega (arith, tables.sessions.each)) sessions)
+    (λ clerk. length-list_at rows.records place clerk own.records (omega (arith, tables.records.each)) records)
+    (λ clerk. length-list_at rows.batches place clerk own.batches (omega (arith, tables.batches.each)) batches)
 
 -- the tables with a clerk more, who has done nothing yet
 abbrev pub with_new : Rows → ClerkRow → Rows
-with_new rows row = record rows {
-  clerks = rows.clerks ++ row ∷ [];
-  sessions = rows.sessions ++ [] ∷ [];
-  records = rows.records ++ [] ∷ [];
-  batches = rows.batches ++ [] ∷ [];
-}
+with_new rows row = with_callers rows (rows.clerks ++ row ∷ []) (rows.sessions ++ [] ∷ []) (rows.records ++ [] ∷ [])
+    (rows.batches ++ [] ∷ [])
 
 -- a new clerk whose row is good leaves valid tables
 pub AreValid-new : (rows : Rows) (row : ClerkRow) → AreValid rows → IsClerkRow (with_new rows row) (length rows.clerks)
@@ -218,17 +232,11 @@ pub AreValid-new : (rows : Rows) (row : ClerkRow) → AreValid rows → IsClerkR
 AreValid-new rows row valid good tables =
     let other : Rows = with_new rows row in
     let name_in : ClerkRow → List ℕ = λ clerk. clerk.name in
-    let fewer : AreNoFewer rows other = record {
-      clerks = omega (arith, length-append rows.clerks (row ∷ []));
-      schemas = omega arith;
-      masters = omega arith;
-      rulebooks = omega arith;
-      editions = omega arith;
-      regions = omega arith;
-      sessions = λ clerk. omega (arith, ap length (list_at-push rows.sessions clerk));
-      records = λ clerk. omega (arith, ap length (list_at-push rows.records clerk));
-      batches = λ clerk. omega (arith, ap length (list_at-push rows.batches clerk));
-    } in
+    let fewer : AreNoFewer rows other = AreNoFewer-callers rows other.clerks other.sessions other.records other.batches
+    (omega (arith, length-append rows.clerks (row ∷ [])))
+    (λ clerk. omega (arith, ap length (list_at-push rows.sessions clerk)))
+    (λ clerk. omega (arith, ap length (list_at-push rows.records clerk)))
+    (λ clerk. omega (arith, ap length (list_at-push rows.batches clerk))) in
     let names = λ (place : ℕ) (within : place < length rows.clerks).
     ap (take place) (map-append name_in rows.clerks (row ∷ [])) ∙ take-append-le place (names_of rows.clerks)
     (names_of (row ∷ [])) (omega (arith, length-map rows.clerks name_in)) in
@@ -238,17 +246,8 @@ AreValid-new rows row valid good tables =
     (list_at rows.batches clerk) (list_at other.batches clerk)
     (list_at-push rows.sessions clerk) (list_at-push rows.records clerk) (list_at-push rows.batches clerk)
     (own-rows rows valid clerk) in
-    record {
-      tables = tables;
-      clerks = EachAt-begins (IsClerkRow rows) (IsClerkRow other) rows.clerks other.clerks (Begins-push rows.clerks row)
-          valid.clerks (λ place one within is. IsClerkRow-more rows other place one fewer (names place within) is)
-          (pushed (IsClerkRow other) rows.clerks row good);
-      schemas = valid.schemas;
-      masters = valid.masters;
-      rulebooks = valid.rulebooks;
-      editions = valid.editions;
-      regions = valid.regions;
-      sessions = λ clerk. (own clerk).sessions_valid;
-      records = λ clerk. (own clerk).records_valid;
-      batches = λ clerk. (own clerk).batches_valid;
-    }
+    AreValid-callers rows other.clerks other.sessions other.records other.batches valid tables
+    (EachAt-begins (IsClerkRow rows) (IsClerkRow other) rows.clerks other.clerks (Begins-push rows.clerks row)
+    valid.clerks (λ place one within is. IsClerkRow-more rows other place one fewer (names place within) is)
+    (pushed (IsClerkRow other) rows.clerks row good))
+    own

@@ -332,13 +332,14 @@ module _ (rows : Rows) (name : List ℕ) (place : ℕ) (found : IsFound (clerk_o
     column-why edition body words columns are named =
         let command : Command = Clerk name ticket (Batch edition body) in
         let find : List Column → List ℕ → Checked Column = another_column words in
-        causes-following (λ come.
+        causes-following (λ refusal come.
         causes-bind (word-why rows command words (word_of come.item) are
         (named-there find columns come word_of (attributes_in command) named)) (λ at there.
-        causes-bind (free-why find columns come word_of (attributes_in command) named (Cause rows command) words
+        causes-bind (free-why find columns come word_of (attributes_in command) named words
         (λ (one : Column). one.attribute)
         (λ before column one (place, stands, (passed, free, is)). word-at (word_of column) words place stands
-        ∙ ap (λ (found : Column). get_or words found.attribute []) (sym is)) at there (λ twice. inl twice)) (λ _ _. causes-done)))
+        ∙ ap (λ (found : Column). get_or words found.attribute []) (sym is)) at there (Cause rows command)
+        (λ twice. inl twice)) (λ _ _. causes-done)))
 
     batch-why : (edition body : List ℕ)
         → HasCauses (CausesOf (Batch edition body)) (enter_batch (published_of rows) its edition body)
