@@ -4,12 +4,9 @@ use Rattle.std.proofs.Common.{ℕ, List, inr, refl}
 use Rattle.desk_words.specs.declared.command.Command.TheVariants.{Look}
 use Rattle.desk_words.specs.declared.command.Command.{Command}
 use Rattle.desk_words.specs.declared.look.Look.TheVariants.{Blocked, Choices}
-use Rattle.desk_words.specs.declared.refusal.Kind.TheVariants as kind
-use Rattle.desk_words.specs.declared.refusal.Refusal.TheVariants.{NoSuch}
 use Rattle.desk_words.specs.Tables.{Rows, published_of}
 use Rattle.desk_valid.specs.Valid.{AreValid}
 use Rattle.machine_core.specs.Answers.{state_of}
-use Rattle.machine_core.specs.Finding.{session_at}
 use Rattle.machine_core.specs.Look.Blocked.{blocked_at}
 use Rattle.machine_core.specs.Look.Choices.{choices_at}
 use Rattle.machine_core.specs.Own.{Own}
@@ -19,9 +16,9 @@ use Rattle.machine_laws.proofs.Why.{conflict-why, session-named, session-why}
 use Rattle.machine_laws.proofs.Refusals.{HasCauses, causes-asked, causes-bind, causes-certainly, causes-done}
 use Rattle.machine_core.specs.Checked.{blocks, decides}
 use Rattle.fix_model.specs.Run.{end_of}
-use Rattle.machine_laws.proofs.Outcomes.{HasOutcome, outcome-bind, outcome-done, outcome-some_or}
-use Rattle.machine_laws.proofs.OwnOutcomes.{outcome-bound, session-answered, session-blocked}
-use Rattle.machine_laws.proofs.DeedOutcomes.{found-of, outcome-not_in_conflict}
+use Rattle.machine_laws.proofs.Outcomes.{HasOutcome, outcome-bind, outcome-done}
+use Rattle.machine_laws.proofs.OwnOutcomes.{session-answered, session-blocked}
+use Rattle.machine_laws.proofs.DeedOutcomes.{outcome-found, outcome-not_in_conflict}
 
 -- a session of which it is asked what is blocked
 pub blocked_at-why : (rows : Rows) (name : List ℕ) (number : ℕ) (own : Own)
@@ -61,18 +58,12 @@ module _ (rows : Rows) (valid : AreValid rows) (own : Own)
     (are : AreOwnRows (published_of rows) own.sessions own.records own.batches) where
   -- over valid tables it is told what is blocked, or refused
   pub outcome-blocked : (number : ℕ) → HasOutcome (blocked_at (published_of rows) own number)
-  outcome-blocked number = outcome-bind
-      (outcome-some_or (session_at own.sessions number) (NoSuch kind.Session)) (λ session found.
-      let is = found-of rows valid own are number session found in
-      outcome-bind (outcome-bound rows valid session.edition is.edition) (λ bound binds.
-      outcome-bind (session-answered rows valid session bound is binds) (λ answer given.
+  outcome-blocked number = outcome-found rows valid own are number (λ session bound stands binds.
+      outcome-bind (session-answered rows valid session bound stands binds) (λ answer answers.
       outcome-bind (outcome-not_in_conflict answer.verdict) (λ _ _.
-      outcome-bind (session-blocked rows valid session bound answer given) (λ blocked told. outcome-done _)))))
+      outcome-bind (session-blocked rows valid session bound answer answers) (λ blocked told. outcome-done))))
 
   -- and what a session is about
   pub outcome-choices : (number : ℕ) → HasOutcome (choices_at (published_of rows) own number)
-  outcome-choices number = outcome-bind
-      (outcome-some_or (session_at own.sessions number) (NoSuch kind.Session)) (λ session found.
-      let is = found-of rows valid own are number session found in
-      outcome-bind (outcome-bound rows valid session.edition is.edition) (λ bound binds.
-      outcome-bind (session-answered rows valid session bound is binds) (λ answer given. outcome-done _)))
+  outcome-choices number = outcome-found rows valid own are number (λ session bound stands binds.
+      outcome-bind (session-answered rows valid session bound stands binds) (λ answer answers. outcome-done))

@@ -1,11 +1,11 @@
 -- A check tells what publishing the same next is answered.
-use Rattle.std.proofs.Common.{◌≡◌, ◌∙◌, ℕ, ◌+◌, List, [], length, map, refl, sym, ap, subst, inl, inr, Option, Some, None}
+use Rattle.std.proofs.Common.{◌≡◌, ◌∙◌, ℕ, ◌+◌, List, length, map, refl, sym, ap, subst, inl, inr, Option, Some, None}
 use Rattle.std.specs.Prelude.{Result, Ok, Err}
 use Rattle.desk_base.proofs.Lists.{slice_get-end}
 use Rattle.std.proofs.lemmas.Option.{same_Some}
 use Rattle.desk_words.specs.declared.change.Change.{Change}
 use Rattle.desk_words.specs.declared.change.Change.TheVariants as change
-use Rattle.desk_words.specs.declared.command.Command.TheVariants.{Desk, Steward}
+use Rattle.desk_words.specs.declared.command.Command.TheVariants.{Steward}
 use Rattle.desk_words.specs.declared.command.Ticket.{Ticket}
 use Rattle.desk_words.specs.declared.desk_look.DeskLook.TheVariants.{Check}
 use Rattle.desk_words.specs.declared.fits.Fits.{Fits}
@@ -25,7 +25,8 @@ use Rattle.desk_words.specs.declared.rows.master.MasterRow.{MasterRow}
 use Rattle.desk_words.specs.declared.rows.rulebook.RulebookRow.{RulebookRow}
 use Rattle.desk_words.specs.declared.rows.schema.SchemaRow.{SchemaRow}
 use Rattle.desk_words.specs.declared.steward_work.StewardWork.{StewardWork}
-use Rattle.desk_words.specs.declared.steward_work.StewardWork.TheVariants.{AddSchema, AddMaster, AddRulebook, AddEdition}
+use Rattle.desk_words.specs.declared.steward_work.StewardWork.TheVariants.{AddSchema, AddMaster, AddRulebook}
+use Rattle.desk_words.specs.declared.steward_work.StewardWork.TheVariants.{AddEdition}
 use Rattle.desk_words.specs.Changes.{changed}
 use Rattle.desk_words.specs.Proposals.{work_of}
 use Rattle.desk_words.specs.Tables.{Rows, published_of}
@@ -37,8 +38,8 @@ use Rattle.master_rows.specs.Outline.{outline_of, outline_read, read_outline}
 use Rattle.rule_text.specs.Reading.{read_rules}
 use Rattle.schema_core.specs.Reading.{schema_of}
 use Rattle.machine_core.specs.Checked.{Checked, Gives, certainly, done, run, value_or, ◌>>=◌}
-use Rattle.machine_core.specs.DeskLook.Check.{check_reply, edition_fits, entries_of, fits_of, master_fits, rulebook_fits}
-use Rattle.machine_core.specs.DeskLook.Check.{schema_fits, tried}
+use Rattle.machine_core.specs.DeskLook.Check.{check_reply, edition_fits, entries_of, fits_of, master_fits}
+use Rattle.machine_core.specs.DeskLook.Check.{rulebook_fits, schema_fits, tried}
 use Rattle.machine_core.specs.Faults.{bind_refusal, rules_refusal, schema_refusal, sheet_refusal}
 use Rattle.machine_core.specs.Kept.{kept_made}
 use Rattle.machine_core.specs.Machine.{IsStep, answered, machine, making_changes, making_of, steward_write}
@@ -216,7 +217,7 @@ module _ (rows : Rows) (digest : Digest) where
         | inl refused ↦ refused-next (AddRulebook name schema version body) refusal
             (Gives-bind_refused row_of (λ one. done (making one)) refusal refused)
         | inr (row, makes, reads) ↦
-            let has = rulebook-reads (published_of rows) name schema version body row makes in
+            let has = rulebook-reads (published_of rows) name schema version body row (Met-Gives row_of (Ok row) makes) in
             absurd (no-fault_in (schema_at (published_of rows) row.schema) (λ over. read_rules row.body over)
             rules_refusal
             (λ over rulebook. fits.Rulebook row.name row.version (map (λ line. line.name) rulebook.lines)) has.schema
@@ -254,7 +255,8 @@ module _ (rows : Rows) (digest : Digest) where
         | inl refused ↦ refused-next (AddEdition name rulebook masters folded) refusal
             (Gives-bind_refused row_of (λ one. done (making one)) refusal refused)
         | inr (row, makes, reads) ↦
-            let has = edition-binds (published_of rows) name rulebook masters folded row makes in
+            let has = edition-binds (published_of rows) name rulebook masters folded row
+            (Met-Gives row_of (Ok row) makes) in
             absurd (elim (Gives-bind_err (entries_of (published_of rows) row)
             (λ count. done (fits.Edition row.name row.version count)) refusal reads) [
               | inl refused ↦ no-fault_in (parts_of (published_of rows) row) (λ parts. binding parts row.folded)

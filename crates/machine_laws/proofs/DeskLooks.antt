@@ -1,7 +1,6 @@
 -- Each look at the desk comes to a result over valid tables, and each refusal of it has its cause.
-use Rattle.std.proofs.Common.{◌≡◌, ◌∙◌, ℕ, ◌<◌, List, [], ◌∷◌, length, Some, None, inl, inr, refl, ap, subst}
-use Rattle.std.specs.Prelude.{All, Ok, Option, flat_map, position, slice_get}
-use Rattle.std.specs.Str.{bytes_eq}
+use Rattle.std.proofs.Common.{◌≡◌, ◌∙◌, ℕ, ◌<◌, List, [], length, None, inl, inr, refl, ap, subst}
+use Rattle.std.specs.Prelude.{All, Ok, Option, flat_map}
 use Rattle.std.proofs.lemmas.List.{get_or_default}
 use Rattle.desk_words.specs.declared.change.Change.{Change}
 use Rattle.desk_words.specs.declared.command.Command.{Command}
@@ -16,9 +15,7 @@ use Rattle.desk_words.specs.declared.refusal.Kind.TheVariants as kind
 use Rattle.desk_words.specs.declared.refusal.Refusal.{Refusal}
 use Rattle.desk_words.specs.declared.refusal.Refusal.TheVariants.{NoSuch}
 use Rattle.desk_words.specs.declared.reply.Reply.{Reply}
-use Rattle.desk_words.specs.declared.reply.Reply.TheVariants as reply
-use Rattle.desk_words.specs.Tables.{Rows, published_of, tables_of}
-use Rattle.desk_valid.specs.Bindings.{bound_at}
+use Rattle.desk_words.specs.Tables.{Rows, published_of}
 use Rattle.desk_valid.specs.Valid.{AreValid}
 use Rattle.machine_core.specs.Causes.{Cause}
 use Rattle.fix_model.specs.Regions.{row_state}
@@ -26,26 +23,23 @@ use Rattle.fix_engine.proofs.Lists.{Contains-first}
 use Rattle.machine_core.specs.Checked.{Checked, Gives, done, run, contradicts, decides}
 use Rattle.machine_core.specs.DeskLook.{desk_reply}
 use Rattle.machine_core.specs.DeskLook.Bodies.{body_at, body_of}
-use Rattle.machine_core.specs.DeskLook.Check.{check_reply, fits_of}
+use Rattle.machine_core.specs.DeskLook.Check.{fits_of}
 use Rattle.machine_core.specs.DeskLook.Edition.{edition_sheet, sheet_at}
-use Rattle.machine_core.specs.DeskLook.Published.{catalogue_of}
-use Rattle.machine_core.specs.Finding.{edition_named, master_named, numbered, place_of, rulebook_named, schema_named}
-use Rattle.machine_core.specs.Look.Suggest.{regions_of}
+use Rattle.machine_core.specs.Finding.{master_named, place_of, rulebook_named, schema_named}
 use Rattle.machine_core.specs.Machine.{IsStep, answered, machine}
 use Rattle.machine_core.specs.Own.{own_of}
 use Rattle.machine_core.specs.Sessions.{IsSessionOf}
 use Rattle.machine_core.specs.Steward.AddRegion.{region_count}
 use Rattle.machine_core.proofs.Chains.{Gives-bind, Gives-found, Gives-unique}
 use Rattle.machine_core.proofs.Editions.{makings-stand, sheet-found}
-use Rattle.machine_core.proofs.Tested.{certainly-ok, some_or-ok}
 use Rattle.machine_core.proofs.Trying.{tried-not_refused}
 use Rattle.machine_laws.proofs.Tried.{outcome-tried}
-use Rattle.machine_laws.proofs.DeedOutcomes.{named-within}
+use Rattle.machine_laws.proofs.DeedOutcomes.{outcome-version}
 use Rattle.machine_laws.proofs.DerivingWhy.{derivation-why, derived_rows-why}
 use Rattle.machine_laws.proofs.Lists.{slice_get-there}
 use Rattle.machine_laws.proofs.Looks.{outcome-told, report-why, told-why}
 use Rattle.machine_laws.proofs.Makings.{place_of-within}
-use Rattle.machine_laws.proofs.MadeOutcomes.{master-there, master-within, outcome-rows_of, outcome-sheet}
+use Rattle.machine_laws.proofs.MadeOutcomes.{master-there, outcome-rows_of, outcome-sheet}
 use Rattle.machine_laws.proofs.Outcomes.{HasOutcome, outcome-bind, outcome-certainly, outcome-contradictions}
 use Rattle.machine_laws.proofs.Outcomes.{outcome-done, outcome-some_or}
 use Rattle.machine_laws.proofs.OwnOutcomes.{outcome-bound, outcome-report, sessions-of}
@@ -56,32 +50,23 @@ use Rattle.machine_laws.proofs.Twice.{none-equal}
 use Rattle.machine_laws.proofs.Refusals.{HasCauses, causes-asked, causes-bind, causes-certainly, causes-done}
 use Rattle.machine_laws.proofs.Refusals.{causes-each, causes-some_or, never_refused}
 
--- a place that is found is one of the rows
-placed-within : {T : Type 0} (name_of : T → List ℕ) (version_of : T → ℕ) (rows : List T) (name : List ℕ)
-    (version place : ℕ) → place_of name_of version_of rows name version ≡ Some place → place < length rows
-placed-within name_of version_of [] name version place is = absurd (cc)
-placed-within name_of version_of (row ∷ rows) name version place is =
-    place_of-within name_of version_of (row ∷ rows) name version place row is
-
 -- a body is there where its row is, or it is refused
-outcome-body_at : {T : Type 0} (body_in : T → List ℕ) (kind : Kind) (rows : List T) (found : Option ℕ)
-    → ((place : ℕ) → found ≡ Some place → place < length rows) → HasOutcome (body_at body_in kind rows found)
-outcome-body_at body_in kind rows found within = outcome-bind (outcome-some_or found (NoSuch kind)) (λ place is.
-    let there = slice_get-there rows place (within place (some_or-ok found (NoSuch kind) place is)) in
-    outcome-bind (outcome-certainly (slice_get rows place) there.0 there.1) (λ row ok. outcome-done (body_in row)))
+outcome-body_at : {T : Type 0} (body_in : T → List ℕ) (kind : Kind) (name_of : T → List ℕ) (version_of : T → ℕ)
+    (rows : List T) (name : List ℕ) (version : ℕ)
+    → HasOutcome (body_at body_in kind rows (place_of name_of version_of rows name version))
+outcome-body_at body_in kind name_of version_of rows name version = outcome-bind outcome-some_or (λ place is.
+    let there = slice_get-there rows place (place_of-within name_of version_of rows name version place is) in
+    outcome-bind (outcome-certainly there.0 there.1) (λ row ok. outcome-done))
 
 -- a body of each kind
 outcome-body : (rows : Rows) (what : Publication) (name : List ℕ) (version : ℕ)
     → HasOutcome (body_of (published_of rows) what name version)
-outcome-body rows publication.Schema name version = outcome-body_at (λ row. row.body) kind.Schema rows.schemas
-    (schema_named rows.schemas name version)
-    (placed-within (λ row. row.name) (λ row. row.version) rows.schemas name version)
-outcome-body rows publication.Master name version = outcome-body_at (λ row. row.body) kind.Master rows.masters
-    (master_named rows.masters name version)
-    (placed-within (λ row. row.name) (λ row. row.version) rows.masters name version)
-outcome-body rows publication.Rulebook name version = outcome-body_at (λ row. row.body) kind.Rulebook rows.rulebooks
-    (rulebook_named rows.rulebooks name version)
-    (placed-within (λ row. row.name) (λ row. row.version) rows.rulebooks name version)
+outcome-body rows publication.Schema =
+    outcome-body_at (λ row. row.body) kind.Schema (λ row. row.name) (λ row. row.version) rows.schemas
+outcome-body rows publication.Master =
+    outcome-body_at (λ row. row.body) kind.Master (λ row. row.name) (λ row. row.version) rows.masters
+outcome-body rows publication.Rulebook =
+    outcome-body_at (λ row. row.body) kind.Rulebook (λ row. row.name) (λ row. row.version) rows.rulebooks
 
 module _ (rows : Rows) (valid : AreValid rows) where
   -- the sessions of all clerks stand
@@ -103,37 +88,29 @@ module _ (rows : Rows) (valid : AreValid rows) where
 
   -- each look at the desk
   pub outcome-desk : (what : DeskLookOf) → HasOutcome (desk_reply rows what)
-  outcome-desk Report = outcome-told reply.Report
-      (outcome-report rows valid None (flat_map (λ sessions. sessions) rows.sessions) all-sessions)
+  outcome-desk Report =
+      outcome-told (outcome-report rows valid None (flat_map (λ sessions. sessions) rows.sessions) all-sessions)
   outcome-desk (Derive edition version master pairs) =
-      outcome-told reply.Derived (outcome-sheet rows valid edition version master pairs)
-  outcome-desk Published = outcome-told reply.Catalogue (outcome-done (catalogue_of rows))
-  outcome-desk (Edition edition version) = outcome-told reply.Edition
-      (outcome-bind (outcome-some_or (edition_named rows.editions edition version) (NoSuch kind.Edition))
-      (λ place found. outcome-sheet_at place (named-within rows valid edition version place found)))
-  outcome-desk (Row master version number) = outcome-told reply.MasterRow
-      (outcome-bind (outcome-some_or (master_named rows.masters master version) (NoSuch kind.Master)) (λ place found.
-      outcome-bind (master-there rows valid place (master-within rows valid master version place found)) (λ sheet reads.
-      outcome-bind (outcome-some_or (numbered sheet.1.grid.rows number) (NoSuch kind.Row)) (λ cells ok.
-      outcome-done _))))
-  outcome-desk (Region edition version number) = outcome-told reply.Region
-      (outcome-bind (outcome-some_or (edition_named rows.editions edition version) (NoSuch kind.Edition))
-      (λ place found.
-      let within = named-within rows valid edition version place found in
-      outcome-bind (outcome-some_or (numbered (regions_of rows.regions place) number) (NoSuch kind.Region))
-      (λ region there. outcome-bind (outcome-bound rows valid place within) (λ bound binds.
-      outcome-bind (outcome-rows_of rows valid place bound region
-      (certainly-ok (bound_at (published_of rows) place) bound binds)) (λ answers ok. outcome-done _)))))
-  outcome-desk (Body what name version) = outcome-told (reply.Body what) (outcome-body rows what name version)
-  outcome-desk (Contradictions edition version name) = outcome-told reply.Contradictions
-      (outcome-bind (outcome-some_or (edition_named rows.editions edition version) (NoSuch kind.Edition))
-      (λ place found.
-      outcome-bind (outcome-bound rows valid place (named-within rows valid edition version place found))
-      (λ bound binds. outcome-bind (outcome-some_or (position (bytes_eq name) bound.names.rules) (NoSuch kind.Rule))
-      (λ rule named. outcome-bind (outcome-contradictions bound.kit rule) (λ all told. outcome-done _)))))
-  outcome-desk (Check proposal) =
-      outcome-told (check_reply (published_of rows) proposal) (outcome-tried rows valid proposal)
-  outcome-desk Dump = outcome-told reply.Dump (outcome-done (tables_of rows))
+      outcome-told (outcome-sheet rows valid edition version master pairs)
+  outcome-desk Published = outcome-told outcome-done
+  outcome-desk (Edition edition version) = outcome-told (outcome-version rows valid edition version outcome-sheet_at)
+  outcome-desk (Row master version number) = outcome-told (outcome-bind outcome-some_or (λ place found.
+      outcome-bind (master-there rows valid place
+      (place_of-within (λ row. row.name) (λ row. row.version) rows.masters master version place found)) (λ sheet reads.
+      outcome-bind outcome-some_or (λ cells ok. outcome-done))))
+  outcome-desk (Region edition version number) = outcome-told
+      (outcome-version rows valid edition version (λ place within.
+      outcome-bind outcome-some_or (λ region there. outcome-bind (outcome-bound rows valid place within)
+      (λ bound binds. outcome-bind (outcome-rows_of rows valid place bound region binds)
+      (λ answers ok. outcome-done)))))
+  outcome-desk (Body what name version) = outcome-told (outcome-body rows what name version)
+  outcome-desk (Contradictions edition version name) = outcome-told
+      (outcome-version rows valid edition version (λ place within.
+      outcome-bind (outcome-bound rows valid place within) (λ bound binds.
+      outcome-bind outcome-some_or (λ rule named.
+      outcome-bind (outcome-contradictions bound.kit rule) (λ all told. outcome-done)))))
+  outcome-desk (Check proposal) = outcome-told (outcome-tried rows valid proposal)
+  outcome-desk Dump = outcome-told outcome-done
 
 -- a look at the desk is answered by the reply that it gives
 pub desk-answered : (rows : Rows) (what : DeskLookOf) (answer given : Reply) (changes : List Change)

@@ -107,7 +107,7 @@ module _ (rows : Rows) (valid : AreValid rows) where
         few = omega (arith, few_it);
         version = IsVersion-next (λ one. one.name) rows.editions made name named;
         rulebook = place_of-within (λ one. one.name) (λ one. one.version) rows.rulebooks rulebook.0 rulebook.1 book
-            (record { name = []; version = 0; schema = 0; body = [] }) stands;
+            stands;
         few_masters = omega (
           arith,
           each_following-length (another_master rows.masters) masters [] places given,

@@ -18,6 +18,7 @@ use Rattle.desk_valid.specs.Rows.Clerk.{IsClerkRow}
 use Rattle.desk_valid.specs.Valid.{AreValid}
 use Rattle.machine_core.specs.Checked.{Gives}
 use Rattle.machine_core.specs.Machine.{IsStep, answered, clerk_of, clerk_write, clerk_write_at, machine, steward_write}
+use Rattle.machine_core.specs.Machine.{deed_of, making_of}
 use Rattle.machine_core.specs.Own.{after, own_of}
 use Rattle.machine_core.specs.OwnRows.{HasOwnTarget}
 use Rattle.machine_core.specs.declared.ticket.Use.{Use}
@@ -31,19 +32,20 @@ use Rattle.machine_laws.proofs.Looks.{outcome-look}
 use Rattle.machine_laws.proofs.Lists.{slice_get-read, slice_get-there}
 use Rattle.machine_laws.proofs.MadeOutcomes.{outcome-made, outcome-making}
 use Rattle.machine_laws.proofs.Outcomes.{HasOutcome, outcome-bind, outcome-done, outcome-unless, plain_tests}
+use Rattle.machine_laws.proofs.Outcomes.{outcome-some_or}
 use Rattle.machine_laws.proofs.OwnOutcomes.{outcome-kept}
 use Rattle.machine_laws.proofs.Valid.{own-rows}
 use Rattle.machine_laws.proofs.Writes.{IsPlaceOf, clerk_of-ok}
-use Rattle.machine_core.proofs.Walks.{Met, Met-Gives}
+use Rattle.machine_core.proofs.Walks.{Gives-Met, Met, Met-Gives}
 
 -- the number of a request is the last one, or follows it, or it is refused
 outcome-use : (row : ClerkRow) (ticket : Ticket) → HasOutcome (use_of row ticket)
-outcome-use row ticket = outcome-bind (outcome-unless _ _) (λ _ _. outcome-bind (outcome-unless _ _) (λ _ _.
+outcome-use row ticket = outcome-bind outcome-unless (λ _ _. outcome-bind outcome-unless (λ _ _.
     last_or_next (ticket.number == row.last)))
   where
     last_or_next : (same : Bool) → HasOutcome (use_at same row ticket)
     last_or_next true = search plain_tests
-    last_or_next false = outcome-done Fresh
+    last_or_next false = outcome-done
 
 -- a repeat has the last number
 pub use-repeated : (row : ClerkRow) (ticket : Ticket) → Gives (use_of row ticket) (Ok Repeated)
@@ -57,10 +59,6 @@ use-repeated row ticket gives =
     again true is rest = grind (arith, nat_tests, is)
     again false is rest = absurd (cc)
 
--- a clerk is found, or there is none
-outcome-place : (clerks : List ClerkRow) (name : List ℕ) → HasOutcome (clerk_of clerks name)
-outcome-place clerks name = search plain_tests
-
 module _ (rows : Rows) (valid : AreValid rows) where
   -- a caller's row is good
   good-row : (place : ℕ) → place < length rows.clerks → IsClerkRow rows place (own_of rows place).row
@@ -71,10 +69,11 @@ module _ (rows : Rows) (valid : AreValid rows) where
 
   -- what a repeat repeats is done
   done-again : (place : ℕ) (ticket : Ticket) → place < length rows.clerks → 1 ≤ ticket.number
-      → Gives (use_of (own_of rows place).row ticket) (Ok Repeated)
+      → Met (use_of (own_of rows place).row ticket) (Ok Repeated)
       → IsDone rows place (own_of rows place).row.act (own_of rows place).row.target
-  done-again place ticket within some gives =
+  done-again place ticket within some met =
       let row : ClerkRow = (own_of rows place).row in
+      let gives = Gives-Met (use_of row ticket) (Ok Repeated) met in
       let good = good-row place within in
       record {
         some = λ nothing. omega (arith, some, use-repeated row ticket gives, good.started.1 nothing);
@@ -103,43 +102,45 @@ module _ (rows : Rows) (valid : AreValid rows) where
       → 1 ≤ ticket.number → HasOutcome (clerk_write (published_of rows) (own_of rows place) ticket work)
   outcome-clerk name place ticket work there some = outcome-bind (outcome-use (own_of rows place).row ticket) at_turn
     where
-      at_turn : (turn : Use) → Gives (use_of (own_of rows place).row ticket) (Ok turn)
+      at_turn : (turn : Use) → Met (use_of (own_of rows place).row ticket) (Ok turn)
           → HasOutcome (clerk_write_at (published_of rows) (own_of rows place) work turn)
       at_turn Repeated again = outcome-bind (outcome-kept rows valid (own_of rows place) (own-rows rows valid place)
           (own_of rows place).row.act (own_of rows place).row.target (own-target place there.following
           (own_of rows place).row.act (own_of rows place).row.target (done-again place ticket there.within some again)))
-          (λ answer ok. outcome-done _)
+          (λ answer ok. outcome-done)
       at_turn Fresh new =
           outcome-bind (outcome-deed rows valid (own_of rows place) (own-rows rows valid place) work) (λ deed does.
-          let sound = deed-sound rows place work deed valid there.within does in
+          let sound = deed-sound rows place work deed valid there.within
+          (Gives-Met (deed_of (published_of rows) (own_of rows place) work) (Ok deed) does) in
           outcome-bind (outcome-kept rows valid (after (own_of rows place) deed) sound.rows deed.act deed.target
-          sound.target) (λ answer ok. outcome-done _))
+          sound.target) (λ answer ok. outcome-done))
 
   -- a write of the steward
   outcome-steward : (ticket : Ticket) (work : StewardWork) → 1 ≤ ticket.number
       → HasOutcome (machine rows (Steward ticket work))
   outcome-steward ticket work some = outcome-bind (outcome-use (own_of rows 0).row ticket) at_turn
     where
-      at_turn : (turn : Use) → Gives (use_of (own_of rows 0).row ticket) (Ok turn)
+      at_turn : (turn : Use) → Met (use_of (own_of rows 0).row ticket) (Ok turn)
           → HasOutcome (steward_write rows ticket work turn)
       at_turn Repeated again = outcome-bind (outcome-made rows valid (own_of rows 0).row.act (own_of rows 0).row.target
-          (done-again 0 ticket valid.tables.steward some again)) (λ made ok. outcome-done _)
+          (done-again 0 ticket valid.tables.steward some again)) (λ made ok. outcome-done)
       at_turn Fresh new = outcome-bind (outcome-making rows valid work) (λ making makes.
-          let sound = making-sound rows work making valid makes in
+          let sound = making-sound rows work making valid (Gives-Met (making_of rows work) (Ok making) makes) in
           outcome-bind (outcome-made (changed rows making.change) sound.valid making.act making.target sound.is_done)
-          (λ made ok. outcome-done _))
+          (λ made ok. outcome-done))
 
   -- each request
   outcome-machine : (command : Command) → IsNumbered command → HasOutcome (machine rows command)
   outcome-machine (Steward ticket work) numbered = outcome-steward ticket work numbered.0
-  outcome-machine (Clerk name ticket work) numbered = outcome-bind (outcome-place rows.clerks name) (λ place found.
-      outcome-bind (outcome-clerk name place ticket work (clerk_of-ok rows.clerks name place found) numbered.0)
-      (λ both ok. outcome-done _))
-  outcome-machine (Look name look) numbered = outcome-bind (outcome-place rows.clerks name) (λ place found.
+  outcome-machine (Clerk name ticket work) numbered = outcome-bind outcome-some_or (λ place found.
+      outcome-bind (outcome-clerk name place ticket work (clerk_of-ok rows.clerks name place
+      (Gives-Met (clerk_of rows.clerks name) (Ok place) found)) numbered.0)
+      (λ both ok. outcome-done))
+  outcome-machine (Look name look) numbered = outcome-bind outcome-some_or (λ place found.
       outcome-bind (outcome-look rows valid (own_of rows place) (own-rows rows valid place) look)
-      (λ answer ok. outcome-done _))
+      (λ answer ok. outcome-done))
   outcome-machine (Desk look) numbered =
-      outcome-bind (outcome-desk rows valid look) (λ answer ok. outcome-done _)
+      outcome-bind (outcome-desk rows valid look) (λ answer ok. outcome-done)
 
 -- a request over valid tables has a reply and changes
 pub some-step : (rows : Rows) (command : Command) → AreValid rows → IsNumbered command

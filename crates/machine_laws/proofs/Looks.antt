@@ -1,23 +1,19 @@
 -- Each look of a clerk comes to a result over valid tables, and each refusal of it has its cause.
 use Rattle.std.proofs.Common.{ℕ, List, Some, refl, length}
-use Rattle.std.specs.Prelude.{◌==◌, Option, filter}
+use Rattle.std.specs.Prelude.{◌==◌, Option, filter, Ok}
 use Rattle.std.specs.List.{range_with_len}
 use Rattle.desk_words.specs.declared.command.Command.{Command}
 use Rattle.desk_words.specs.declared.command.Command.TheVariants.{Look}
 use Rattle.desk_words.specs.declared.look.Look.{Look as LookOf}
 use Rattle.desk_words.specs.declared.look.Look.TheVariants.{View, Suggest, Preview, Report, Records, Explain, Blocked}
 use Rattle.desk_words.specs.declared.look.Look.TheVariants.{Carry as CarryLook, Choices, Sessions}
-use Rattle.desk_words.specs.declared.refusal.Kind.TheVariants as kind
 use Rattle.desk_words.specs.declared.refusal.Refusal.{Refusal}
-use Rattle.desk_words.specs.declared.refusal.Refusal.TheVariants.{NoSuch}
 use Rattle.desk_words.specs.declared.reply.Reply.{Reply}
-use Rattle.desk_words.specs.declared.reply.Reply.TheVariants as reply
 use Rattle.desk_words.specs.declared.rows.session.SessionRow.{SessionRow}
 use Rattle.desk_words.specs.Tables.{Published, Rows, published_of}
 use Rattle.desk_valid.specs.Valid.{AreValid}
 use Rattle.machine_core.specs.Causes.{AsksWith, Cause}
 use Rattle.machine_core.specs.Checked.{Checked, advises, compares, decides}
-use Rattle.machine_core.specs.Finding.{edition_named}
 use Rattle.machine_core.specs.Look.{look_reply, reply_of, told}
 use Rattle.machine_core.specs.Look.Report.{assessment_of, report_of}
 use Rattle.machine_core.specs.Look.Suggest.{regions_of}
@@ -25,10 +21,12 @@ use Rattle.machine_core.specs.Own.{Own}
 use Rattle.machine_core.specs.OwnRows.{AreOwnRows}
 use Rattle.machine_laws.proofs.Blocked.{blocked_at-why, choices_at-why, outcome-blocked, outcome-choices}
 use Rattle.machine_laws.proofs.Comparing.{view_at-apart}
-use Rattle.machine_laws.proofs.DeedOutcomes.{active-of, carried-of, confirmed-of, named-within, outcome-active}
-use Rattle.machine_laws.proofs.DeedOutcomes.{outcome-active_bound, outcome-carry, outcome-confirm}
+use Rattle.machine_laws.proofs.DeedOutcomes.{carried-of, confirmed-of, outcome-active, outcome-carry, outcome-confirm}
+use Rattle.machine_laws.proofs.DeedOutcomes.{outcome-version}
+use Rattle.machine_core.proofs.Walks.{Gives-Met}
+use Rattle.machine_core.specs.Look.View.{view_at}
 use Rattle.machine_laws.proofs.Reasons.{explain-why, outcome-explain}
-use Rattle.machine_laws.proofs.Outcomes.{HasOutcome, outcome-bind, outcome-changes, outcome-done, outcome-some_or}
+use Rattle.machine_laws.proofs.Outcomes.{HasOutcome, outcome-bind, outcome-changes, outcome-done}
 use Rattle.machine_laws.proofs.OwnOutcomes.{outcome-bound, outcome-report, outcome-view, outcome-view_at}
 use Rattle.machine_laws.proofs.OwnOutcomes.{session-advised, sessions-of}
 use Rattle.machine_laws.proofs.Why.{active-why, carry_row-why, confirm-why, version-why, view-why, view_at-why}
@@ -37,42 +35,35 @@ use Rattle.machine_laws.proofs.Refusals.{causes-each}
 use Rattle.machine_core.specs.Answers.{state_of}
 
 -- what comes to a result is told
-pub outcome-told : {A : Type 0} {found : Checked A} (as_reply : A → Reply) → HasOutcome found
+pub outcome-told : {A : Type 0} {found : Checked A} {as_reply : A → Reply} → HasOutcome found
     → HasOutcome (reply_of (told found as_reply))
-outcome-told as_reply has = outcome-bind has (λ value is. outcome-done (as_reply value))
+outcome-told has = outcome-bind has (λ value is. outcome-done)
 
 module _ (rows : Rows) (valid : AreValid rows) (own : Own)
     (are : AreOwnRows (published_of rows) own.sessions own.records own.batches) where
   -- each look of a clerk
   pub outcome-look : (what : LookOf) → HasOutcome (look_reply (published_of rows) own what)
-  outcome-look (View number) = outcome-told reply.View (outcome-view_at rows valid own are number)
-  outcome-look (Suggest number) = outcome-told reply.Suggested
-      (outcome-bind (outcome-active own.sessions number) (λ session is.
-      outcome-bind (outcome-active_bound rows valid own are number session is) (λ bound binds.
-      outcome-bind (session-advised rows valid session bound (regions_of rows.regions session.edition)
-      (active-of rows valid own are number session is) binds) (λ suggestion ok. outcome-done _))))
-  outcome-look (Preview number cells) = outcome-told reply.View
+  outcome-look (View number) = outcome-told (outcome-view_at rows valid own are number)
+  outcome-look (Suggest number) = outcome-told (outcome-active rows valid own are number (λ session bound stands binds.
+      outcome-bind (session-advised rows valid session bound (regions_of rows.regions session.edition) stands binds)
+      (λ suggestion ok. outcome-done)))
+  outcome-look (Preview number cells) = outcome-told
       (outcome-bind (outcome-confirm rows valid own are number cells) (λ session is.
       outcome-view rows valid number session (confirmed-of rows valid own are number cells session is)))
-  outcome-look Report = outcome-told reply.Report
-      (outcome-report rows valid (Some own.row.name) own.sessions (sessions-of rows valid own are))
-  outcome-look (Records edition version) = outcome-told reply.Records
-      (outcome-bind (outcome-some_or (edition_named rows.editions edition version) (NoSuch kind.Edition))
-      (λ place found.
-      outcome-bind (outcome-bound rows valid place (named-within rows valid edition version place found))
-      (λ bound binds. outcome-done _)))
-  outcome-look (Explain number word) =
-      outcome-told reply.Explained (outcome-explain rows valid own are number word)
-  outcome-look (CarryLook number version) = outcome-told reply.Carried
+  outcome-look Report =
+      outcome-told (outcome-report rows valid (Some own.row.name) own.sessions (sessions-of rows valid own are))
+  outcome-look (Records edition version) = outcome-told (outcome-version rows valid edition version (λ place within.
+      outcome-bind (outcome-bound rows valid place within) (λ bound binds. outcome-done)))
+  outcome-look (Explain number word) = outcome-told (outcome-explain rows valid own are number word)
+  outcome-look (CarryLook number version) = outcome-told
       (outcome-bind (outcome-carry rows valid own are number version) (λ moved is.
       outcome-bind (outcome-view_at rows valid own are number) (λ before shown_before.
       outcome-bind (outcome-view rows valid number moved (carried-of rows valid own are number version moved is))
-      (λ after shown_after.
-      outcome-bind (outcome-changes before after (view_at-apart rows valid own number before shown_before))
-      (λ pairs told. outcome-done _)))))
-  outcome-look (Sessions from) = outcome-told reply.Sessions (outcome-done _)
-  outcome-look (Choices number) = outcome-told reply.Choices (outcome-choices rows valid own are number)
-  outcome-look (Blocked number) = outcome-told reply.Blocked (outcome-blocked rows valid own are number)
+      (λ after shown_after. outcome-bind (outcome-changes before after (view_at-apart rows valid own number before
+      (Gives-Met (view_at (published_of rows) own number) (Ok before) shown_before))) (λ pairs told. outcome-done)))))
+  outcome-look (Sessions from) = outcome-told outcome-done
+  outcome-look (Choices number) = outcome-told (outcome-choices rows valid own are number)
+  outcome-look (Blocked number) = outcome-told (outcome-blocked rows valid own are number)
 
 -- what the rules make of a session is never refused
 pub assessment-why : (P : Refusal → Type 0) (published : Published) (session : SessionRow)

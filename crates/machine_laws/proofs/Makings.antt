@@ -73,9 +73,10 @@ IsVersion-next name_of rows row name named = record {
 
 -- the place of a version stands
 pub place_of-within : {T : Type 0} (name_of : T → List ℕ) (version_of : T → ℕ) (rows : List T) (name : List ℕ)
-    (version place : ℕ) (past : T) → place_of name_of version_of rows name version ≡ Some place → place < length rows
-place_of-within name_of version_of rows name version place past is =
-    (position-Some (λ row. bytes_eq (name_of row) name && (version_of row == version)) rows place past is).0
+    (version place : ℕ) → place_of name_of version_of rows name version ≡ Some place → place < length rows
+place_of-within name_of version_of [] name version place is = absurd (cc)
+place_of-within name_of version_of (first ∷ others) name version place is =
+    (position-Some (λ row. bytes_eq (name_of row) name && (version_of row == version)) (first ∷ others) place first is).0
 
 -- nothing stands after the rows of a table that stays
 pub stays : {T : Type 0} (Q : ℕ → T → Type 0) (rows : List T) (place : ℕ) (row : T) → length rows ≤ place
@@ -264,7 +265,7 @@ module _ (rows : Rows) (valid : AreValid rows) where
       (omega arith, omega (arith, few_it)) refl (record {
         version = IsVersion-next (λ one. one.name) rows.rulebooks new name named;
         schema = place_of-within (λ one. one.name) (λ one. one.version) rows.schemas schema_name version place
-            (record { name = []; version = 0; body = [] }) found;
+            found;
         reads = subst (λ one. IfSome one (λ schema. IsSome (rules_over body schema))) (sym stands) reads_so;
       }) (λ same. cc) tt (omega (arith, length-append rows.rulebooks (new ∷ []))))
 

@@ -1,6 +1,6 @@
 -- An explanation comes to a result over valid tables, its refusals have their causes, and it tells the reason.
-use Rattle.std.proofs.Common.{◌≡◌, ◌∙◌, ℕ, List, Some, sym, ap, subst, Bool, arith, inl, inr, refl}
-use Rattle.std.specs.Prelude.{Ok, is_some}
+use Rattle.std.proofs.Common.{◌≡◌, ◌∙◌, ℕ, List, Some, sym, ap, subst, arith, inl, inr, refl}
+use Rattle.std.specs.Prelude.{Ok}
 use Rattle.desk_words.specs.declared.change.Change.{Change}
 use Rattle.desk_words.specs.declared.command.Command.TheVariants.{Look}
 use Rattle.desk_words.specs.declared.command.Command.{Command}
@@ -8,15 +8,11 @@ use Rattle.desk_words.specs.declared.look.Look.TheVariants.{Explain}
 use Rattle.desk_words.specs.declared.reply.Explained.{Explained}
 use Rattle.desk_words.specs.declared.reply.Reply.TheVariants as reply
 use Rattle.desk_words.specs.declared.rows.session.SessionRow.{SessionRow}
-use Rattle.desk_words.specs.declared.refusal.Refusal.TheVariants.{NoSuch, NotFixed}
 use Rattle.desk_words.specs.Tables.{Published, Rows, published_of}
-use Rattle.desk_words.specs.declared.refusal.Kind.TheVariants as kind
 use Rattle.desk_valid.specs.declared.bound.Bound.{Bound}
 use Rattle.desk_valid.specs.Bindings.{bound_at}
 use Rattle.desk_valid.specs.Valid.{AreValid}
 use Rattle.fix_model.specs.declared.state.State.{State}
-use Rattle.fix_model.specs.Run.{end_of}
-use Rattle.fix_model.specs.States.{cell_at, fixed_by}
 use Rattle.machine_core.specs.Answers.{state_of}
 use Rattle.machine_core.specs.Checked.{Gives, IsFound, decides, explains}
 use Rattle.machine_core.specs.Finding.{session_at}
@@ -27,7 +23,6 @@ use Rattle.machine_core.specs.Own.{Own, own_of}
 use Rattle.machine_core.specs.OwnRows.{AreOwnRows}
 use Rattle.machine_core.specs.Causes.{AsksWith, Cause, Explains}
 use Rattle.machine_core.proofs.Walks.{Gives-Met, Met-Gives}
-use Rattle.machine_core.proofs.Tested.{unless-ok}
 use Rattle.machine_laws.specs.Explanations.{TellsReason}
 use Rattle.machine_laws.proofs.Told.{look-told}
 use Rattle.machine_laws.proofs.Why.{conflict-why, no-conflict, session-named, session-why, session-words, word-why}
@@ -35,8 +30,8 @@ use Rattle.machine_laws.proofs.Twice.{word-at}
 use Rattle.machine_laws.proofs.Refusals.{HasCauses, causes-asked, causes-bind, causes-certainly, causes-done}
 use Rattle.machine_laws.proofs.Refusals.{causes-unless, not-both}
 use Rattle.machine_laws.proofs.Outcomes.{HasOutcome, outcome-bind, outcome-done, outcome-some_or, outcome-unless}
-use Rattle.machine_laws.proofs.OwnOutcomes.{outcome-bound, session-answered, session-explained}
-use Rattle.machine_laws.proofs.DeedOutcomes.{found-of, outcome-attribute, outcome-not_in_conflict}
+use Rattle.machine_laws.proofs.OwnOutcomes.{session-answered, session-explained}
+use Rattle.machine_laws.proofs.DeedOutcomes.{outcome-found, outcome-not_in_conflict}
 
 -- an attribute of which it is asked why it is fixed
 pub explain-why : (rows : Rows) (name : List ℕ) (number : ℕ) (word : List ℕ) (own : Own)
@@ -70,18 +65,12 @@ module _ (rows : Rows) (valid : AreValid rows) (own : Own)
     (are : AreOwnRows (published_of rows) own.sessions own.records own.batches) where
   -- over valid tables there is an explanation, or it is refused
   pub outcome-explain : (number : ℕ) (word : List ℕ) → HasOutcome (explain (published_of rows) own number word)
-  outcome-explain number word = outcome-bind
-      (outcome-some_or (session_at own.sessions number) (NoSuch kind.Session)) (λ session found.
-      let is = found-of rows valid own are number session found in
-      outcome-bind (outcome-bound rows valid session.edition is.edition) (λ bound binds.
-      outcome-bind (outcome-attribute bound.names.attributes word) (λ attribute there.
-      outcome-bind (session-answered rows valid session bound is binds) (λ answer given.
-      let end : State = end_of bound.kit (state_of session) answer.first in
-      let is_fixed : Bool = is_some (fixed_by (cell_at end attribute)) in
+  outcome-explain number word = outcome-found rows valid own are number (λ session bound stands binds.
+      outcome-bind outcome-some_or (λ attribute there.
+      outcome-bind (session-answered rows valid session bound stands binds) (λ answer answers.
       outcome-bind (outcome-not_in_conflict answer.verdict) (λ _ _.
-      outcome-bind (outcome-unless is_fixed (NotFixed word)) (λ passed ok.
-      outcome-bind (session-explained rows valid session bound answer attribute is binds given
-      (unless-ok is_fixed (NotFixed word) passed ok)) (λ explanation told. outcome-done _)))))))
+      outcome-bind outcome-unless (λ _ fixed. outcome-bind (session-explained rows valid session bound answer attribute
+      stands binds answers fixed) (λ explanation told. outcome-done))))))
 
 module _ (rows : Rows) (name : List ℕ) (number : ℕ) (word : List ℕ) where
   -- what is told of a session on an edition

@@ -1,6 +1,6 @@
 -- Each check comes to a result over valid tables: once its row is made, what the row reads as is there.
-use Rattle.std.proofs.Common.{◌≡◌, ◌∙◌, ℕ, List, Option, Some, None, ap}
-use Rattle.std.specs.Prelude.{Result, Ok, Err}
+use Rattle.std.proofs.Common.{◌≡◌, ◌∙◌, ℕ, List, Some, ap}
+use Rattle.std.specs.Prelude.{Ok}
 use Rattle.desk_words.specs.declared.proposal.Proposal.{Proposal}
 use Rattle.desk_words.specs.declared.proposal.Proposal.TheVariants.{Schema, Master, Rulebook, Edition}
 use Rattle.desk_words.specs.declared.rows.edition.EditionRow.{EditionRow}
@@ -14,12 +14,12 @@ use Rattle.fix_model.specs.declared.kit.Kit.{Kit}
 use Rattle.rule_text.specs.Reading.{read_rules}
 use Rattle.rule_text.specs.declared.rulebook.Rulebook.{Rulebook as RulebookOf}
 use Rattle.schema_core.specs.declared.schema.Schema.{Schema as SchemaOf}
-use Rattle.machine_core.specs.Checked.{Gives, run}
+use Rattle.machine_core.specs.Checked.{run}
 use Rattle.machine_core.specs.DeskLook.Check.{fits_of, tried}
 use Rattle.machine_core.specs.Steward.AddEdition.{edition_row}
 use Rattle.machine_core.specs.Steward.AddRulebook.{rulebook_row}
 use Rattle.machine_core.proofs.Trying.{tried-gives}
-use Rattle.machine_core.proofs.Walks.{Met-Gives}
+use Rattle.machine_core.proofs.Walks.{Met}
 use Rattle.machine_laws.proofs.MadeOutcomes.{outcome-edition_row, outcome-rulebook_row}
 use Rattle.machine_laws.proofs.Outcomes.{HasOutcome, outcome-bind, outcome-certainly, outcome-done, plain_tests}
 
@@ -31,11 +31,9 @@ pub record Reads (rows : Published) (row : RulebookRow) : Type 0 where
   pub reads : read_rules row.body schema ≡ Ok rulebook
 
 pub rulebook-reads : (rows : Published) (name schema : List ℕ) (version : ℕ) (body : List ℕ) (row : RulebookRow)
-    → Gives (rulebook_row rows name schema version body) (Ok row) → Reads rows row
-rulebook-reads rows name schema version body row makes =
-    let (_, proper, (place, stood, (over, stands, (rulebook, reads, (_, few, row_is))))) =
-    Met-Gives (rulebook_row rows name schema version body) (Ok row) makes in
-    record {
+    → Met (rulebook_row rows name schema version body) (Ok row) → Reads rows row
+rulebook-reads rows name schema version body row
+    (_, proper, (place, stood, (over, stands, (rulebook, reads, (_, few, row_is))))) = record {
       schema = over;
       rulebook = rulebook;
       stands = ap (λ (one : RulebookRow). schema_at rows one.schema) row_is ∙ stands;
@@ -50,11 +48,10 @@ pub record Binds (rows : Published) (row : EditionRow) : Type 0 where
   pub binds : binding parts row.folded ≡ Ok kit
 
 pub edition-binds : (rows : Published) (name : List ℕ) (rulebook : List ℕ × ℕ) (masters : List (List ℕ × ℕ))
-    (folded : List (List ℕ)) (row : EditionRow) → Gives (edition_row rows name rulebook masters folded) (Ok row)
+    (folded : List (List ℕ)) (row : EditionRow) → Met (edition_row rows name rulebook masters folded) (Ok row)
     → Binds rows row
-edition-binds rows name rulebook masters folded row makes =
-    let (_, named, (book, stands, (rules, found, (attributes, folds_are, rest)))) =
-    Met-Gives (edition_row rows name rulebook masters folded) (Ok row) makes in
+edition-binds rows name rulebook masters folded row
+    (_, named, (book, stands, (rules, found, (attributes, folds_are, rest)))) =
     let (_, few_masters, (places, are_places, (_, few, (_, (parts, are, (kit, binds, narrow)), is_row)))) = rest in
     record {
       parts = parts;
@@ -71,13 +68,13 @@ module _ (rows : Rows) (valid : AreValid rows) where
   outcome-fits (Rulebook name schema version body) =
       outcome-bind (outcome-rulebook_row rows valid name schema version body) (λ row makes.
       let has = rulebook-reads (published_of rows) name schema version body row makes in
-      outcome-bind (outcome-certainly (schema_at (published_of rows) row.schema) has.schema has.stands)
+      outcome-bind (outcome-certainly has.schema has.stands)
       (λ over ok. search plain_tests))
   outcome-fits (Edition name rulebook masters folded) =
       outcome-bind (outcome-edition_row rows valid name rulebook masters folded) (λ row makes.
       let has = edition-binds (published_of rows) name rulebook masters folded row makes in
-      outcome-bind (outcome-bind (outcome-certainly (parts_of (published_of rows) row) has.parts has.are)
-      (λ parts ok. search plain_tests)) (λ count ok. outcome-done _))
+      outcome-bind (outcome-bind (outcome-certainly has.parts has.are)
+      (λ parts ok. search plain_tests)) (λ count ok. outcome-done))
 
   -- and so does its check
   pub outcome-tried : (proposal : Proposal) → HasOutcome (tried (published_of rows) proposal)
