@@ -1,5 +1,5 @@
 -- A check tells what publishing the same next is answered.
-use Rattle.std.proofs.Common.{◌≡◌, ◌∙◌, ℕ, ◌+◌, List, length, map, refl, sym, ap, subst, inl, inr, Option, Some, None}
+use Rattle.std.proofs.Common.{◌≡◌, ◌∙◌, ℕ, ◌+◌, List, map, refl, sym, ap, subst, inl, inr, Option, Some, None}
 use Rattle.std.specs.Prelude.{Result, Ok, Err}
 use Rattle.desk_base.proofs.Lists.{slice_get-end}
 use Rattle.std.proofs.lemmas.Option.{same_Some}
@@ -20,9 +20,7 @@ use Rattle.desk_words.specs.declared.reply.Reply.TheVariants as reply
 use Rattle.desk_words.specs.declared.rows.act.Act.TheVariants as act
 use Rattle.desk_words.specs.declared.rows.clerk.ClerkRow.{ClerkRow}
 use Rattle.desk_words.specs.declared.rows.clerk.Digest.{Digest}
-use Rattle.desk_words.specs.declared.rows.edition.EditionRow.{EditionRow}
 use Rattle.desk_words.specs.declared.rows.master.MasterRow.{MasterRow}
-use Rattle.desk_words.specs.declared.rows.rulebook.RulebookRow.{RulebookRow}
 use Rattle.desk_words.specs.declared.rows.schema.SchemaRow.{SchemaRow}
 use Rattle.desk_words.specs.declared.steward_work.StewardWork.{StewardWork}
 use Rattle.desk_words.specs.declared.steward_work.StewardWork.TheVariants.{AddSchema, AddMaster, AddRulebook}
@@ -52,9 +50,10 @@ use Rattle.machine_core.specs.Steward.AddSchema.{schema_row}
 use Rattle.machine_core.specs.Ticket.{use_of}
 use Rattle.machine_core.specs.declared.ticket.Use.TheVariants.{Fresh}
 use Rattle.machine_core.proofs.Chains.{Gives-bind, Gives-bind_err, Gives-bind_ok, Gives-bind_refused, Gives-found}
-use Rattle.machine_core.proofs.Chains.{Gives-unique, done-not_refused, done-value}
+use Rattle.machine_core.proofs.Chains.{Gives-unique, done-not_refused, Gives-same}
 use Rattle.machine_core.proofs.Trying.{tried-gives}
-use Rattle.machine_core.proofs.Walks.{Met-Gives}
+use Rattle.machine_core.proofs.Walks.{Met, Met-Gives}
+use Rattle.machine_laws.proofs.Makings.{edition_making, master_making, rulebook_making, schema_making}
 use Rattle.machine_laws.specs.Checking.{IsToldBy, TellsPublishing, made_for, publishing_next}
 use Rattle.machine_laws.proofs.Tried.{edition-binds, outcome-fits, rulebook-reads}
 use Rattle.machine_laws.proofs.DeskLooks.{desk-answered}
@@ -117,153 +116,87 @@ module _ (rows : Rows) (digest : Digest) where
       × Gives (machine rows (Steward ticket-next work)) (Ok (reply.Made (made_for found), changes))
   Agrees work (Err refusal) = Gives (machine rows (Steward ticket-next work)) (Err refusal)
 
+  -- where the write makes a row, the check tells of the row what it reads as, and the row reads
+  module _ {Row : Type 0} (work : StewardWork) (row_of : Checked Row) (making : Row → Making)
+      (makes_it : run (making_of rows work) ≡ run (row_of >>= (λ row. done (making row)))) (told_of : Row → Made)
+      (kept : (row : Row)
+      → Gives (kept_made (changed rows (making row).change) (making row).act (making row).target) (Ok (told_of row)))
+      (rest : Row → Checked Fits)
+      (tells : (row : Row) (found : Fits) → Met (rest row) (Ok found) → made_for found ≡ told_of row)
+      (reads : (row : Row) (refusal : Refusal) → Met row_of (Ok row) → Gives (rest row) (Err refusal) → ⊥) where
+    row-agrees : (result : Result Fits Refusal) → Gives (row_of >>= rest) result → Agrees work result
+    row-agrees (Ok found) gives =
+        let (row, makes, read) = Gives-bind_ok row_of rest found gives in (
+          making_changes row-before ticket-next (making row),
+          made-next work (making row) (made_for found) (Gives-same (row_of >>= (λ one. done (making one)))
+              (making_of rows work) (Ok (making row)) (sym makes_it)
+              (Gives-bind row_of (λ one. done (making one)) row (Ok (making row)) makes refl))
+              (subst (λ one. Gives
+              (kept_made (changed rows (making row).change) (making row).act (making row).target) (Ok one))
+              (sym (tells row found (Met-Gives (rest row) (Ok found) read))) (kept row)),
+        )
+    row-agrees (Err refusal) gives = elim (Gives-bind_err row_of rest refusal gives) [
+      | inl refused ↦ refused-next work refusal (Gives-same (row_of >>= (λ one. done (making one)))
+          (making_of rows work) (Err refusal) (sym makes_it)
+          (Gives-bind_refused row_of (λ one. done (making one)) refusal refused))
+      | inr (row, makes, read) ↦ absurd (reads row refusal (Met-Gives row_of (Ok row) makes) read)
+    ]
+
   schema-agrees : (body : List ℕ) (result : Result Fits Refusal) → Gives (schema_fits rows.schemas body) result
       → Agrees (AddSchema body) result
-  schema-agrees body result = by result
-    where
-      making : SchemaRow → Making
-      making row = record { change = change.Schema row; act = act.Schema; target = length rows.schemas }
-
-      rest : SchemaRow → Checked Fits
-      rest row = value_or (schema_of row.body) schema_refusal
-          >>= (λ schema. done (fits.Schema row.name row.version schema.attributes))
-
-      by : (result : Result Fits Refusal) → Gives (schema_fits rows.schemas body) result → Agrees (AddSchema body) result
-      by (Ok found) gives =
-          let (row, makes, reads) = Gives-bind_ok (schema_row rows.schemas body) rest found gives in
-          let (schema, read, is) = Gives-bind_ok (value_or (schema_of row.body) schema_refusal)
-          (λ schema. done (fits.Schema row.name row.version schema.attributes)) found reads in
-          let same = done-value (fits.Schema row.name row.version schema.attributes) found is in
-          subst (λ one. Agrees (AddSchema body) (Ok one)) (sym same) (
-            making_changes row-before ticket-next (making row),
-            made-next (AddSchema body) (making row) (made.Schema row.name row.version)
-                (Gives-bind (schema_row rows.schemas body) (λ one. done (making one)) row (Ok (making row)) makes refl)
-                (rw (slice_get-end rows.schemas row) refl),
-          )
-      by (Err refusal) gives = elim (Gives-bind_err (schema_row rows.schemas body) rest refusal gives) [
-        | inl refused ↦ refused-next (AddSchema body) refusal
-            (Gives-bind_refused (schema_row rows.schemas body) (λ one. done (making one)) refusal refused)
-        | inr (row, makes, reads) ↦
-            let (schema, read, (_, few, row_is)) = Met-Gives (schema_row rows.schemas body) (Ok row) makes in
-            absurd (no-fault (schema_of row.body) schema_refusal
-            (λ schema. fits.Schema row.name row.version schema.attributes) schema refusal
-            (ap (λ (one : SchemaRow). schema_of one.body) row_is ∙ read) reads)
-      ]
+  schema-agrees body = row-agrees (AddSchema body) (schema_row rows.schemas body) (schema_making (published_of rows))
+      refl (λ row. made.Schema row.name row.version) (λ row. rw (slice_get-end rows.schemas row) refl)
+      (λ row. value_or (schema_of row.body) schema_refusal
+      >>= (λ schema. done (fits.Schema row.name row.version schema.attributes)))
+      (λ row found (schema, read, is). ap made_for is)
+      (λ row refusal (schema, read, (_, few, is)). no-fault (schema_of row.body) schema_refusal
+      (λ schema. fits.Schema row.name row.version schema.attributes) schema refusal
+      (ap (λ (one : SchemaRow). schema_of one.body) is ∙ read))
 
   master-agrees : (name body : List ℕ) (result : Result Fits Refusal) → Gives (master_fits rows.masters name body) result
       → Agrees (AddMaster name body) result
-  master-agrees name body result = by result
-    where
-      making : MasterRow → Making
-      making row = record { change = change.Master row; act = act.Master; target = length rows.masters }
-
-      rest : MasterRow → Checked Fits
-      rest row = value_or (read_outline row.body) sheet_refusal
-          >>= (λ outline. done (fits.Master row.name row.version outline.columns outline.rows))
-
-      by : (result : Result Fits Refusal) → Gives (master_fits rows.masters name body) result
-          → Agrees (AddMaster name body) result
-      by (Ok found) gives =
-          let (row, makes, reads) = Gives-bind_ok (master_row rows.masters name body) rest found gives in
-          let (outline, read, is) = Gives-bind_ok (value_or (read_outline row.body) sheet_refusal)
-          (λ outline. done (fits.Master row.name row.version outline.columns outline.rows)) found reads in
-          let same = done-value (fits.Master row.name row.version outline.columns outline.rows) found is in
-          subst (λ one. Agrees (AddMaster name body) (Ok one)) (sym same) (
-            making_changes row-before ticket-next (making row),
-            made-next (AddMaster name body) (making row) (made.Master row.name row.version)
-                (Gives-bind (master_row rows.masters name body) (λ one. done (making one)) row (Ok (making row)) makes
-                refl)
-                (rw (slice_get-end rows.masters row) refl),
-          )
-      by (Err refusal) gives = elim (Gives-bind_err (master_row rows.masters name body) rest refusal gives) [
-        | inl refused ↦ refused-next (AddMaster name body) refusal
-            (Gives-bind_refused (master_row rows.masters name body) (λ one. done (making one)) refusal refused)
-        | inr (row, makes, reads) ↦
-            let (_, named, (master, read, (_, few, (_, cells, row_is)))) =
-            Met-Gives (master_row rows.masters name body) (Ok row) makes in
-            absurd (no-fault (read_outline row.body) sheet_refusal
-            (λ outline. fits.Master row.name row.version outline.columns outline.rows) (outline_of master) refusal
-            (ap (λ (one : MasterRow). read_outline one.body) row_is ∙ ap outline_read read) reads)
-      ]
+  master-agrees name body = row-agrees (AddMaster name body) (master_row rows.masters name body)
+      (master_making (published_of rows)) refl (λ row. made.Master row.name row.version)
+      (λ row. rw (slice_get-end rows.masters row) refl)
+      (λ row. value_or (read_outline row.body) sheet_refusal
+      >>= (λ outline. done (fits.Master row.name row.version outline.columns outline.rows)))
+      (λ row found (outline, read, is). ap made_for is)
+      (λ row refusal (_, named, (master, read, (_, few, (_, cells, is)))). no-fault (read_outline row.body)
+      sheet_refusal (λ outline. fits.Master row.name row.version outline.columns outline.rows) (outline_of master)
+      refusal (ap (λ (one : MasterRow). read_outline one.body) is ∙ ap outline_read read))
 
   rulebook-agrees : (name schema : List ℕ) (version : ℕ) (body : List ℕ) (result : Result Fits Refusal)
       → Gives (rulebook_fits (published_of rows) name schema version body) result
       → Agrees (AddRulebook name schema version body) result
-  rulebook-agrees name schema version body result = by result
-    where
-      row_of : Checked RulebookRow
-      row_of = rulebook_row (published_of rows) name schema version body
-
-      making : RulebookRow → Making
-      making row = record { change = change.Rulebook row; act = act.Rulebook; target = length rows.rulebooks }
-
-      rest : RulebookRow → Checked Fits
-      rest row = certainly (schema_at (published_of rows) row.schema)
-          >>= (λ over. value_or (read_rules row.body over) rules_refusal
-          >>= (λ rulebook. done (fits.Rulebook row.name row.version (map (λ line. line.name) rulebook.lines))))
-
-      by : (result : Result Fits Refusal) → Gives (rulebook_fits (published_of rows) name schema version body) result
-          → Agrees (AddRulebook name schema version body) result
-      by (Ok found) gives =
-          let (row, makes, reads) = Gives-bind_ok row_of rest found gives in
-          let (over, there, (rulebook, read, is)) = Met-Gives (rest row) (Ok found) reads in
-          subst (λ one. Agrees (AddRulebook name schema version body) (Ok one)) (sym is) (
-            making_changes row-before ticket-next (making row),
-            made-next (AddRulebook name schema version body) (making row) (made.Rulebook row.name row.version)
-                (Gives-bind row_of (λ one. done (making one)) row (Ok (making row)) makes refl)
-                (rw (slice_get-end rows.rulebooks row) refl),
-          )
-      by (Err refusal) gives = elim (Gives-bind_err row_of rest refusal gives) [
-        | inl refused ↦ refused-next (AddRulebook name schema version body) refusal
-            (Gives-bind_refused row_of (λ one. done (making one)) refusal refused)
-        | inr (row, makes, reads) ↦
-            let has = rulebook-reads (published_of rows) name schema version body row (Met-Gives row_of (Ok row) makes) in
-            absurd (no-fault_in (schema_at (published_of rows) row.schema) (λ over. read_rules row.body over)
-            rules_refusal
-            (λ over rulebook. fits.Rulebook row.name row.version (map (λ line. line.name) rulebook.lines)) has.schema
-            has.rulebook refusal has.stands has.reads reads)
-      ]
+  rulebook-agrees name schema version body = row-agrees (AddRulebook name schema version body)
+      (rulebook_row (published_of rows) name schema version body) (rulebook_making (published_of rows)) refl
+      (λ row. made.Rulebook row.name row.version) (λ row. rw (slice_get-end rows.rulebooks row) refl)
+      (λ row. certainly (schema_at (published_of rows) row.schema)
+      >>= (λ over. value_or (read_rules row.body over) rules_refusal
+      >>= (λ rulebook. done (fits.Rulebook row.name row.version (map (λ line. line.name) rulebook.lines)))))
+      (λ row found (over, there, (rulebook, read, is)). ap made_for is)
+      (λ row refusal makes.
+      let has = rulebook-reads (published_of rows) name schema version body row makes in
+      no-fault_in (schema_at (published_of rows) row.schema) (λ over. read_rules row.body over) rules_refusal
+      (λ over rulebook. fits.Rulebook row.name row.version (map (λ line. line.name) rulebook.lines)) has.schema
+      has.rulebook refusal has.stands has.reads)
 
   edition-agrees : (name : List ℕ) (rulebook : List ℕ × ℕ) (masters : List (List ℕ × ℕ)) (folded : List (List ℕ))
       (result : Result Fits Refusal) → Gives (edition_fits (published_of rows) name rulebook masters folded) result
       → Agrees (AddEdition name rulebook masters folded) result
-  edition-agrees name rulebook masters folded result = by result
-    where
-      row_of : Checked EditionRow
-      row_of = edition_row (published_of rows) name rulebook masters folded
-
-      making : EditionRow → Making
-      making row = record { change = change.Edition row; act = act.Edition; target = length rows.editions }
-
-      rest : EditionRow → Checked Fits
-      rest row = entries_of (published_of rows) row >>= (λ count. done (fits.Edition row.name row.version count))
-
-      by : (result : Result Fits Refusal) → Gives (edition_fits (published_of rows) name rulebook masters folded) result
-          → Agrees (AddEdition name rulebook masters folded) result
-      by (Ok found) gives =
-          let (row, makes, reads) = Gives-bind_ok row_of rest found gives in
-          let (count, counts, is) = Gives-bind_ok (entries_of (published_of rows) row)
-          (λ count. done (fits.Edition row.name row.version count)) found reads in
-          let same = done-value (fits.Edition row.name row.version count) found is in
-          subst (λ one. Agrees (AddEdition name rulebook masters folded) (Ok one)) (sym same) (
-            making_changes row-before ticket-next (making row),
-            made-next (AddEdition name rulebook masters folded) (making row) (made.Edition row.name row.version)
-                (Gives-bind row_of (λ one. done (making one)) row (Ok (making row)) makes refl)
-                (rw (slice_get-end rows.editions row) refl),
-          )
-      by (Err refusal) gives = elim (Gives-bind_err row_of rest refusal gives) [
-        | inl refused ↦ refused-next (AddEdition name rulebook masters folded) refusal
-            (Gives-bind_refused row_of (λ one. done (making one)) refusal refused)
-        | inr (row, makes, reads) ↦
-            let has = edition-binds (published_of rows) name rulebook masters folded row
-            (Met-Gives row_of (Ok row) makes) in
-            absurd (elim (Gives-bind_err (entries_of (published_of rows) row)
-            (λ count. done (fits.Edition row.name row.version count)) refusal reads) [
-              | inl refused ↦ no-fault_in (parts_of (published_of rows) row) (λ parts. binding parts row.folded)
-                  bind_refusal (λ parts kit. entries kit) has.parts has.kit refusal has.are has.binds refused
-              | inr (count, counts, is) ↦ done-not_refused (fits.Edition row.name row.version count) refusal is
-            ])
-      ]
+  edition-agrees name rulebook masters folded = row-agrees (AddEdition name rulebook masters folded)
+      (edition_row (published_of rows) name rulebook masters folded) (edition_making (published_of rows)) refl
+      (λ row. made.Edition row.name row.version) (λ row. rw (slice_get-end rows.editions row) refl)
+      (λ row. entries_of (published_of rows) row >>= (λ count. done (fits.Edition row.name row.version count)))
+      (λ row found (count, counts, is). ap made_for is)
+      (λ row refusal makes read.
+      let has = edition-binds (published_of rows) name rulebook masters folded row makes in
+      elim (Gives-bind_err (entries_of (published_of rows) row)
+      (λ count. done (fits.Edition row.name row.version count)) refusal read) [
+        | inl refused ↦ no-fault_in (parts_of (published_of rows) row) (λ parts. binding parts row.folded)
+            bind_refusal (λ parts kit. entries kit) has.parts has.kit refusal has.are has.binds refused
+        | inr (count, counts, is) ↦ done-not_refused (fits.Edition row.name row.version count) refusal is
+      ])
 
   proposal-agrees : (proposal : Proposal) (result : Result Fits Refusal) → Gives (fits_of (published_of rows) proposal) result
       → Agrees (work_of proposal) result

@@ -40,8 +40,7 @@ use Rattle.desk_words.specs.declared.rows.region.RegionRow.{RegionRow}
 use Rattle.desk_valid.specs.Rows.Edition.{IsEditionRow}
 use Rattle.desk_valid.specs.Rows.Region.{IsRegionRow}
 use Rattle.machine_laws.proofs.Lists.{Begins, Begins-same, list_at-push, nothing-following, pushed}
-use Rattle.machine_laws.proofs.Valid.{AreValid-new, AreValid-published, with_new, AreGoodAfter, IsGoodFrom}
-use Rattle.machine_laws.proofs.Valid.{with_published}
+use Rattle.machine_laws.proofs.Valid.{AreValid-new, AreValid-published, with_new, with_published}
 use Rattle.machine_core.proofs.Walks.{Met-Gives}
 use Rattle.machine_core.proofs.Commands.{few-stand}
 use Rattle.machine_laws.proofs.More.{AreMore-changed}
@@ -153,41 +152,29 @@ IsGoodNew rows (change.Session caller place row) = ⊥
 IsGoodNew rows (change.Record caller row) = ⊥
 IsGoodNew rows (change.Batch caller row) = ⊥
 
-are_good : (rows : Rows) (now : Published) → IsGoodFrom (IsSchemaRow now) rows.schemas now.schemas
-    → IsGoodFrom (IsMasterRow now) rows.masters now.masters
-    → IsGoodFrom (IsRulebookRow now) rows.rulebooks now.rulebooks
-    → IsGoodFrom (IsEditionRow now) rows.editions now.editions
-    → IsGoodFrom (IsRegionRow now) rows.regions now.regions → AreGoodAfter (published_of rows) now
-are_good rows now schemas masters rulebooks editions regions = record {
-  schemas = schemas;
-  masters = masters;
-  rulebooks = rulebooks;
-  editions = editions;
-  regions = regions;
-}
-
--- so all that are published after those before are
-AreGoodAfter-changed : (rows : Rows) (one : Change) → IsGoodNew rows one
-    → AreGoodAfter (published_of rows) (published_of (changed rows one))
-AreGoodAfter-changed rows (change.Schema row) good = are_good rows (published_of (changed rows (change.Schema row)))
-    (pushed _ rows.schemas row good) (stays _ rows.masters) (stays _ rows.rulebooks) (stays _ rows.editions)
-    (stays _ rows.regions)
-AreGoodAfter-changed rows (change.Master row) good = are_good rows (published_of (changed rows (change.Master row)))
-    (stays _ rows.schemas) (pushed _ rows.masters row good) (stays _ rows.rulebooks) (stays _ rows.editions)
-    (stays _ rows.regions)
-AreGoodAfter-changed rows (change.Rulebook row) good = are_good rows
-    (published_of (changed rows (change.Rulebook row))) (stays _ rows.schemas) (stays _ rows.masters)
-    (pushed _ rows.rulebooks row good) (stays _ rows.editions) (stays _ rows.regions)
-AreGoodAfter-changed rows (change.Edition row) good = are_good rows (published_of (changed rows (change.Edition row)))
-    (stays _ rows.schemas) (stays _ rows.masters) (stays _ rows.rulebooks) (pushed _ rows.editions row good)
-    (stays _ rows.regions)
-AreGoodAfter-changed rows (change.Region row) good = are_good rows (published_of (changed rows (change.Region row)))
-    (stays _ rows.schemas) (stays _ rows.masters) (stays _ rows.rulebooks) (stays _ rows.editions)
-    (pushed _ rows.regions row good)
-AreGoodAfter-changed rows (change.Clerk place row) good = absurd good
-AreGoodAfter-changed rows (change.Session caller place row) good = absurd good
-AreGoodAfter-changed rows (change.Record caller row) good = absurd good
-AreGoodAfter-changed rows (change.Batch caller row) good = absurd good
+-- so the tables with it are valid
+AreValid-new_row : (rows : Rows) (one : Change) → AreValid rows → IsGoodNew rows one
+    → AreTables (with_published rows (published_of (changed rows one)))
+    → AreValid (with_published rows (published_of (changed rows one)))
+AreValid-new_row rows (change.Schema row) valid good tables =
+    AreValid-published rows (published_of (changed rows (change.Schema row))) valid (AreMore-changed rows (change.Schema row)) tables
+    (pushed _ rows.schemas row good) (stays _ rows.masters) (stays _ rows.rulebooks) (stays _ rows.editions) (stays _ rows.regions)
+AreValid-new_row rows (change.Master row) valid good tables =
+    AreValid-published rows (published_of (changed rows (change.Master row))) valid (AreMore-changed rows (change.Master row)) tables
+    (stays _ rows.schemas) (pushed _ rows.masters row good) (stays _ rows.rulebooks) (stays _ rows.editions) (stays _ rows.regions)
+AreValid-new_row rows (change.Rulebook row) valid good tables =
+    AreValid-published rows (published_of (changed rows (change.Rulebook row))) valid (AreMore-changed rows (change.Rulebook row)) tables
+    (stays _ rows.schemas) (stays _ rows.masters) (pushed _ rows.rulebooks row good) (stays _ rows.editions) (stays _ rows.regions)
+AreValid-new_row rows (change.Edition row) valid good tables =
+    AreValid-published rows (published_of (changed rows (change.Edition row))) valid (AreMore-changed rows (change.Edition row)) tables
+    (stays _ rows.schemas) (stays _ rows.masters) (stays _ rows.rulebooks) (pushed _ rows.editions row good) (stays _ rows.regions)
+AreValid-new_row rows (change.Region row) valid good tables =
+    AreValid-published rows (published_of (changed rows (change.Region row))) valid (AreMore-changed rows (change.Region row)) tables
+    (stays _ rows.schemas) (stays _ rows.masters) (stays _ rows.rulebooks) (stays _ rows.editions) (pushed _ rows.regions row good)
+AreValid-new_row rows (change.Clerk place row) valid good tables = absurd good
+AreValid-new_row rows (change.Session caller place row) valid good tables = absurd good
+AreValid-new_row rows (change.Record caller row) valid good tables = absurd good
+AreValid-new_row rows (change.Batch caller row) valid good tables = absurd good
 
 module _ (rows : Rows) (valid : AreValid rows) where
   -- a row that is published after the others, and good there, is soundly made
@@ -198,8 +185,7 @@ module _ (rows : Rows) (valid : AreValid rows) where
       → HasTarget (with_published rows published) 0 making.act making.target → IsSoundMaking rows making
   IsSoundMaking-published making fits same good some is stands = record {
     fits = fits;
-    valid = subst AreValid (sym same) (AreValid-published rows (published_of (changed rows making.change)) valid
-        (AreMore-changed rows making.change) (AreGoodAfter-changed rows making.change good)
+    valid = subst AreValid (sym same) (AreValid-new_row rows making.change valid good
         (subst AreTables same (AreTables-changed rows making.change fits valid.tables)));
     names = subst (λ (one : Rows). Begins (names_of rows.clerks) (names_of one.clerks)) (sym same)
         (Begins-same (names_of rows.clerks));

@@ -1,6 +1,6 @@
 -- What was published as a text is shown ever after.
-use Rattle.std.proofs.Common.{◌≡◌, ◌≢◌, ◌∙◌, ℕ, ◌+◌, List, [], ◌∷◌, ◌++◌, length, Some, inl, inr, refl, sym, ap}
-use Rattle.std.proofs.Common.{subst, arith}
+use Rattle.std.proofs.Common.{◌≡◌, ◌≢◌, ◌∙◌, ℕ, ◌+◌, List, [], ◌∷◌, ◌++◌, length, Some, inl, inr, refl, sym, ap, subst}
+use Rattle.std.proofs.Common.{arith}
 use Rattle.std.specs.Prelude.{◌==◌, ◌&&◌, Ok, Option, count_by, slice_get}
 use Rattle.std.specs.Str.{bytes_eq}
 use Rattle.std.proofs.lemmas.List.{length-append, take_all}
@@ -36,13 +36,10 @@ use Rattle.machine_core.specs.DeskLook.{desk_reply}
 use Rattle.machine_core.specs.DeskLook.Bodies.{body_at, body_of}
 use Rattle.machine_core.specs.Finding.{place_of}
 use Rattle.machine_core.specs.Kept.{kept_made}
-use Rattle.machine_core.specs.Machine.{IsStep}
+use Rattle.machine_core.specs.Machine.{IsStep, making_of}
 use Rattle.machine_core.specs.declared.making.Making.{Making}
-use Rattle.machine_core.specs.Steward.AddMaster.{master_row}
-use Rattle.machine_core.specs.Steward.AddRulebook.{rulebook_row}
-use Rattle.machine_core.specs.Steward.AddSchema.{schema_row}
 use Rattle.machine_core.specs.Versions.{AreVersions, IsLastNamed}
-use Rattle.machine_core.proofs.Chains.{Gives-bind, Gives-bind_ok, Gives-found, done-value}
+use Rattle.machine_core.proofs.Chains.{Gives-bind, Gives-found}
 use Rattle.machine_core.proofs.Newest.{newest-last, version-last}
 use Rattle.machine_core.proofs.Walks.{Met-Gives}
 use Rattle.machine_laws.specs.Events.{AreAnswered, Event, tables_after}
@@ -174,12 +171,8 @@ module _ (rows : Rows) (valid : AreValid rows) (ticket : Ticket) (answer : Reply
       → answer ≡ reply.Made (made.Schema name version)
       → HasText (published_of (changed_all rows changes)) Schema name version body
   schema-published new told =
-      let made_by : SchemaRow → Making = λ row.
-      record { change = change.Schema row; act = act.Schema; target = length rows.schemas } in
-      let (row, makes, is) =
-      Gives-bind_ok (schema_row rows.schemas body) (λ row. done (made_by row)) new.making new.makes in
-      let making : new.making ≡ made_by row = done-value (made_by row) new.making is in
-      let (_, reads, (_, few, row_is)) = Met-Gives (schema_row rows.schemas body) (Ok row) makes in
+      let (row, (_, reads, (_, few, row_is)), making) =
+      Met-Gives (making_of rows (AddSchema body)) (Ok new.making) new.makes in
       let pushed : (changed_all rows changes).schemas ≡ rows.schemas ++ row ∷ [] =
       ap (λ (one : Rows). one.schemas) (after-steward rows valid ticket (AddSchema body) answer changes new)
       ∙ ap (λ (one : Making). (changed rows one.change).schemas) making in
@@ -199,13 +192,8 @@ module _ (rows : Rows) (valid : AreValid rows) (ticket : Ticket) (answer : Reply
       → answer ≡ reply.Made (made.Master name version)
       → HasText (published_of (changed_all rows changes)) Master name version body
   master-published named new told =
-      let made_by : MasterRow → Making = λ row.
-      record { change = change.Master row; act = act.Master; target = length rows.masters } in
-      let (row, makes, is) =
-      Gives-bind_ok (master_row rows.masters named body) (λ row. done (made_by row)) new.making new.makes in
-      let making : new.making ≡ made_by row = done-value (made_by row) new.making is in
-      let (_, proper, (_, reads, (_, few, (_, cells, row_is)))) =
-      Met-Gives (master_row rows.masters named body) (Ok row) makes in
+      let (row, (_, proper, (_, reads, (_, few, (_, cells, row_is)))), making) =
+      Met-Gives (making_of rows (AddMaster named body)) (Ok new.making) new.makes in
       let pushed : (changed_all rows changes).masters ≡ rows.masters ++ row ∷ [] =
       ap (λ (one : Rows). one.masters) (after-steward rows valid ticket (AddMaster named body) answer changes new)
       ∙ ap (λ (one : Making). (changed rows one.change).masters) making in
@@ -226,13 +214,8 @@ module _ (rows : Rows) (valid : AreValid rows) (ticket : Ticket) (answer : Reply
       → answer ≡ reply.Made (made.Rulebook name version)
       → HasText (published_of (changed_all rows changes)) Rulebook name version body
   rulebook-published named schema over new told =
-      let made_by : RulebookRow → Making = λ row.
-      record { change = change.Rulebook row; act = act.Rulebook; target = length rows.rulebooks } in
-      let (row, makes, is) = Gives-bind_ok (rulebook_row (published_of rows) named schema over body)
-      (λ row. done (made_by row)) new.making new.makes in
-      let making : new.making ≡ made_by row = done-value (made_by row) new.making is in
-      let (_, proper, (_, stood, (_, read, (_, reads, (_, few, row_is))))) =
-      Met-Gives (rulebook_row (published_of rows) named schema over body) (Ok row) makes in
+      let (row, (_, proper, (_, stood, (_, read, (_, reads, (_, few, row_is))))), making) =
+      Met-Gives (making_of rows (AddRulebook named schema over body)) (Ok new.making) new.makes in
       let pushed : (changed_all rows changes).rulebooks ≡ rows.rulebooks ++ row ∷ [] =
       ap (λ (one : Rows). one.rulebooks)
       (after-steward rows valid ticket (AddRulebook named schema over body) answer changes new)

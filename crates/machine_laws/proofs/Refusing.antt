@@ -1,7 +1,7 @@
 -- Each refusal of the machine has its cause.
-use Rattle.std.proofs.Common.{◌≡◌, ◌≢◌, ◌∙◌, ℕ, ◌+◌, ◌-◌, ◌<◌, Bool, true, false, List, [], length, get_or, drop, take}
-use Rattle.std.proofs.Common.{Option, Some, None, inl, inr, refl, sym, ap, subst, arith}
-use Rattle.std.specs.Prelude.{◌==◌, Result, Ok, Err, ⊤, if◌then◌else◌, option_map, position, slice_get}
+use Rattle.std.proofs.Common.{◌≡◌, ◌≢◌, ◌⊎◌, ◌∙◌, ℕ, ◌+◌, ◌-◌, ◌<◌, Bool, true, false, List, [], length, get_or, drop}
+use Rattle.std.proofs.Common.{take, Option, Some, None, inl, inr, refl, sym, ap, subst, arith}
+use Rattle.std.specs.Prelude.{◌==◌, Result, Ok, Err, if◌then◌else◌, option_map, position, slice_get}
 use Rattle.std.specs.Str.{bytes_eq}
 use Rattle.std.proofs.lemmas.Bool.Decides.{nat_tests}
 use Rattle.std.proofs.lemmas.Slice.Eq.{bytes_eq-Decides}
@@ -66,46 +66,22 @@ session-there sessions place within none =
     apart) ∙ none in
     cc
 
--- a session that the target of a clerk's act needs is there
+-- the session that a clerk's act opened or changed is there
 abbrev HasSession : Own → Act → ℕ → Type 0
-HasSession own act.Opened target = target < length own.sessions
-HasSession own act.Changed target = target < length own.sessions
-HasSession own act.Nothing target = ⊤
-HasSession own act.Clerk target = ⊤
-HasSession own act.Schema target = ⊤
-HasSession own act.Master target = ⊤
-HasSession own act.Rulebook target = ⊤
-HasSession own act.Edition target = ⊤
-HasSession own act.Region target = ⊤
-HasSession own act.Committed target = ⊤
-HasSession own act.Batched target = ⊤
+HasSession own what target = (what ≡ act.Opened) ⊎ (what ≡ act.Changed) → target < length own.sessions
 
 pub session-own : (own : Own) (what : Act) (target : ℕ) → HasOwnTarget own what target → HasSession own what target
-session-own own act.Opened target has = has
-session-own own act.Changed target has = has
-session-own own act.Nothing target has = tt
-session-own own act.Clerk target has = tt
-session-own own act.Schema target has = tt
-session-own own act.Master target has = tt
-session-own own act.Rulebook target has = tt
-session-own own act.Edition target has = tt
-session-own own act.Region target has = tt
-session-own own act.Committed target has = tt
-session-own own act.Batched target has = tt
+session-own own what target has either = elim either [
+  | inl opened ↦ subst (λ one. HasOwnTarget own one target) opened has
+  | inr changed ↦ subst (λ one. HasOwnTarget own one target) changed has
+]
 
 session-target : (rows : Rows) (place : ℕ) (what : Act) (target : ℕ) → HasTarget rows place what target
     → HasSession (own_of rows place) what target
-session-target rows place act.Opened target has = has
-session-target rows place act.Changed target has = has
-session-target rows place act.Nothing target has = tt
-session-target rows place act.Clerk target has = tt
-session-target rows place act.Schema target has = tt
-session-target rows place act.Master target has = tt
-session-target rows place act.Rulebook target has = tt
-session-target rows place act.Edition target has = tt
-session-target rows place act.Region target has = tt
-session-target rows place act.Committed target has = tt
-session-target rows place act.Batched target has = tt
+session-target rows place what target has either = elim either [
+  | inl opened ↦ subst (λ one. HasTarget rows place one target) opened has
+  | inr changed ↦ subst (λ one. HasTarget rows place one target) changed has
+]
 
 -- a kept reply is given
 pub kept-why : (P : Refusal → Type 0) (published : Published) (own : Own) (what : Act) (target : ℕ)
@@ -118,8 +94,8 @@ kept-why P published own what target = by what
         (λ session stands. view-why P published (target + 1) session)
 
     by : (what : Act) → HasSession own what target → HasCauses P (kept_reply published own what target)
-    by act.Opened has = causes-bind (shown-why has) (λ _ _. causes-done)
-    by act.Changed has = causes-bind (shown-why has) (λ _ _. causes-done)
+    by act.Opened has = causes-bind (shown-why (has (inl refl))) (λ _ _. causes-done)
+    by act.Changed has = causes-bind (shown-why (has (inr refl))) (λ _ _. causes-done)
     by act.Committed has = search never_refused
     by act.Batched has = causes-bind causes-certainly (λ row stands.
         causes-bind (causes-each (take row.count (drop (row.first - 1) own.sessions)) (λ session there.

@@ -49,14 +49,6 @@ abbrev pub IsGoodFrom : {T : Type 0} → (ℕ → T → Type 0) → List T → L
 IsGoodFrom {T} Q before now =
     (place : ℕ) (row : T) → length before ≤ place → slice_get now place ≡ Some row → Q place row
 
--- the rows that are published after those before are good
-pub record AreGoodAfter (before now : Published) : Type 0 where
-  pub schemas : IsGoodFrom (IsSchemaRow now) before.schemas now.schemas
-  pub masters : IsGoodFrom (IsMasterRow now) before.masters now.masters
-  pub rulebooks : IsGoodFrom (IsRulebookRow now) before.rulebooks now.rulebooks
-  pub editions : IsGoodFrom (IsEditionRow now) before.editions now.editions
-  pub regions : IsGoodFrom (IsRegionRow now) before.regions now.regions
-
 -- the tables with this published
 abbrev pub with_published : Rows → Published → Rows
 with_published rows published = record rows {
@@ -69,9 +61,13 @@ with_published rows published = record rows {
 
 -- more that is published, and good, leaves valid tables
 pub AreValid-published : (rows : Rows) (published : Published) → AreValid rows → AreMore (published_of rows) published
-    → AreGoodAfter (published_of rows) published → AreTables (with_published rows published)
-    → AreValid (with_published rows published)
-AreValid-published rows published valid more good tables =
+    → AreTables (with_published rows published)
+    → IsGoodFrom (IsSchemaRow published) rows.schemas published.schemas
+    → IsGoodFrom (IsMasterRow published) rows.masters published.masters
+    → IsGoodFrom (IsRulebookRow published) rows.rulebooks published.rulebooks
+    → IsGoodFrom (IsEditionRow published) rows.editions published.editions
+    → IsGoodFrom (IsRegionRow published) rows.regions published.regions → AreValid (with_published rows published)
+AreValid-published rows published valid more tables new_schemas new_masters new_rulebooks new_editions new_regions =
     let other : Rows = with_published rows published in
     let fewer : AreNoFewer rows other = record {
       clerks = omega arith;
@@ -91,19 +87,19 @@ AreValid-published rows published valid more good tables =
       clerks = λ place row stands. IsClerkRow-more rows other place row fewer refl (valid.clerks place row stands);
       schemas = EachAt-begins (IsSchemaRow (published_of rows)) (IsSchemaRow published) rows.schemas published.schemas
           more.schemas valid.schemas (λ place row within is. IsSchemaRow-more rows valid published more place row
-          (omega arith) is) good.schemas;
+          (omega arith) is) new_schemas;
       masters = EachAt-begins (IsMasterRow (published_of rows)) (IsMasterRow published) rows.masters published.masters
           more.masters valid.masters (λ place row within is. IsMasterRow-more rows valid published more place row
-          (omega arith) is) good.masters;
+          (omega arith) is) new_masters;
       rulebooks = EachAt-begins (IsRulebookRow (published_of rows)) (IsRulebookRow published) rows.rulebooks
           published.rulebooks more.rulebooks valid.rulebooks (λ place row within is. IsRulebookRow-more rows valid
-          published more place row (omega arith) is) good.rulebooks;
+          published more place row (omega arith) is) new_rulebooks;
       editions = EachAt-begins (IsEditionRow (published_of rows)) (IsEditionRow published) rows.editions
           published.editions more.editions valid.editions (λ place row within is. IsEditionRow-more rows valid
-          published more place row (omega arith) is) good.editions;
+          published more place row (omega arith) is) new_editions;
       regions = EachAt-begins (IsRegionRow (published_of rows)) (IsRegionRow published) rows.regions published.regions
           more.regions valid.regions (λ place row within is. IsRegionRow-more rows valid published more place row
-          (omega arith) is) good.regions;
+          (omega arith) is) new_regions;
       sessions = λ clerk. (own clerk).sessions_valid;
       records = λ clerk. (own clerk).records_valid;
       batches = λ clerk. (own clerk).batches_valid;

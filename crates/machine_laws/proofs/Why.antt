@@ -33,8 +33,8 @@ use Rattle.fix_engine.specs.declared.verdict.Verdict.{Verdict}
 use Rattle.fix_engine.specs.declared.verdict.Verdict.TheVariants.{Fix, Conflict}
 use Rattle.fix_model.specs.States.{uncovered_count}
 use Rattle.machine_core.specs.Answers.{state_of}
-use Rattle.machine_core.specs.Causes.{AreWords, AsksWith, Cause, Commits, MakesSessions, Names, RefusesBody, IsAbout}
-use Rattle.machine_core.specs.Causes.{WouldStand}
+use Rattle.machine_core.specs.Causes.{HoldsBytes, AreWords, AsksWith, Cause, Commits, MakesSessions, Names, RefusesBody}
+use Rattle.machine_core.specs.Causes.{IsAbout, WouldStand}
 use Rattle.machine_laws.proofs.Twice.{Contains-image, free-why, named-there, none-equal, word-at}
 use Rattle.machine_core.specs.Checked.{decides, Answer, Checked, each, each_following, IsFound, some_or}
 use Rattle.machine_core.specs.declared.column.Column.{Column}
@@ -197,6 +197,12 @@ module _ (rows : Rows) (name : List ℕ) (place : ℕ) (found : IsFound (clerk_o
     abbrev CausesOf : ClerkWork → Refusal → Type 0
     CausesOf work = Cause rows (Clerk name ticket work)
 
+    -- more bytes of its texts would stand than may
+    bytes-why : (work : ClerkWork) (count : ℕ) → HoldsBytes rows (Clerk name ticket work) its count
+        → HasCauses (CausesOf work) (within which.Bytes count)
+    bytes-why work count holds =
+        limit-why rows (Clerk name ticket work) which.Bytes count (its, asks-it work, holds)
+
     enter-why : (edition : List ℕ) (cells : List (List ℕ × List ℕ)) (confirmed : List (List ℕ))
         → HasCauses (CausesOf (Enter edition cells confirmed)) (enter_row (published_of rows) its edition cells confirmed)
     enter-why edition cells confirmed =
@@ -212,19 +218,7 @@ module _ (rows : Rows) (name : List ℕ) (place : ℕ) (found : IsFound (clerk_o
         (Contains-append_right (map word_in cells) confirmed word listed))) (λ places vouched.
         causes-bind (limit-why rows command which.ActiveSessions _ (its, 1, asks, refl, refl)) (λ _ _.
         causes-bind (limit-why rows command which.Sessions _ (its, 1, asks, refl, refl)) (λ _ _.
-        causes-bind (limit-why rows command which.Bytes _ (
-          its,
-          asks,
-          (
-            at,
-            bound,
-            texts,
-            newest,
-            binds,
-            Gives-Met (each (typed_cell attributes) cells) (Ok texts) typed,
-            refl,
-          ),
-        )) (λ _ _. causes-done)))))))
+        causes-bind (bytes-why (Enter edition cells confirmed) _ (at, bound, texts, newest, binds, Gives-Met (each (typed_cell attributes) cells) (Ok texts) typed, refl)) (λ _ _. causes-done)))))))
 
     clerk-confirm-why : (number : ℕ) (cells : List (List ℕ × List ℕ))
         → HasCauses (CausesOf (Confirm number cells)) (confirm (published_of rows) its number cells)
@@ -232,15 +226,7 @@ module _ (rows : Rows) (name : List ℕ) (place : ℕ) (found : IsFound (clerk_o
         let command : Command = Clerk name ticket (Confirm number cells) in
         let asks = asks-it (Confirm number cells) in
         causes-bind (confirm-why rows command its number asks refl cells refl (λ word text there. there))
-        (λ session is. causes-bind (limit-why rows command which.Bytes _ (
-          its,
-          asks,
-          (
-            session,
-            Gives-Met (confirm_row (published_of rows) its number cells) (Ok session) is,
-            refl,
-          ),
-        )) (λ _ _. causes-done))
+        (λ session is. causes-bind (bytes-why (Confirm number cells) _ (session, Gives-Met (confirm_row (published_of rows) its number cells) (Ok session) is, refl)) (λ _ _. causes-done))
 
     withdraw-why : (number : ℕ) (names : List (List ℕ))
         → HasCauses (CausesOf (Withdraw number names)) (withdraw_row (published_of rows) its number names)
@@ -312,17 +298,7 @@ module _ (rows : Rows) (name : List ℕ) (place : ℕ) (found : IsFound (clerk_o
           ap uncovered_count ended,
           some,
         ))) (λ _ _. causes-done)) (λ row (_, enough, kept).
-        causes-bind (limit-why rows command which.Bytes (bytes_kept row) (
-          its,
-          asks,
-          (
-            session,
-            bound,
-            answer,
-            commits answer answers,
-            ap bytes_kept (kept ∙ ap (record_at bound number) ended),
-          ),
-        )) (λ _ _. causes-done)))))
+        causes-bind (bytes-why (Commit number accept) (bytes_kept row) (session, bound, answer, commits answer answers, ap bytes_kept (kept ∙ ap (record_at bound number) ended))) (λ _ _. causes-done)))))
 
     -- a column of a batch is refused
     column-why : (edition body : List ℕ) (words columns : List (List ℕ))
@@ -357,21 +333,7 @@ module _ (rows : Rows) (name : List ℕ) (place : ℕ) (found : IsFound (clerk_o
         causes-bind (limit-why rows command which.ActiveSessions _ (its, _, asks, makes, refl)) (λ _ _.
         causes-bind (limit-why rows command which.Sessions _ (its, _, asks, makes, refl)) (λ _ _.
         causes-bind (limit-why rows command which.Batches _ (its, name, ticket, edition, body, asks, refl, refl))
-        (λ _ _. causes-bind (limit-why rows command which.Bytes _ (
-          its,
-          asks,
-          (
-            at,
-            bound,
-            sheet,
-            columns,
-            newest,
-            binds,
-            reads,
-            Gives-Met (each_following [] (another_column bound.names.attributes) sheet.columns) (Ok columns) given,
-            refl,
-          ),
-        )) (λ _ _. causes-done)))))))))
+        (λ _ _. causes-bind (bytes-why (Batch edition body) _ (at, bound, sheet, columns, newest, binds, reads, Gives-Met (each_following [] (another_column bound.names.attributes) sheet.columns) (Ok columns) given, refl)) (λ _ _. causes-done)))))))))
 
     -- each command of a clerk
     pub deed-why : (work : ClerkWork) → HasCauses (CausesOf work) (deed_of (published_of rows) its work)
