@@ -1,7 +1,7 @@
 -- Accepted writes keep tables valid.
 use Rattle.std.proofs.Common.{◌≡◌, ◌∙◌, ℕ, ◌<◌, ◌≤◌, List, [], length, set, take, Some, inl, inr, refl, sym, ap, subst}
 use Rattle.std.proofs.Common.{arith}
-use Rattle.std.specs.Prelude.{Result, Ok, Err, option_to_list, slice_get}
+use Rattle.std.specs.Prelude.{Ok, option_to_list, slice_get}
 use Rattle.std.proofs.lemmas.List.{length-append, set-get_or}
 use Rattle.desk_words.specs.declared.change.Change.{Change}
 use Rattle.desk_words.specs.declared.change.Change.TheVariants as change
@@ -11,7 +11,6 @@ use Rattle.desk_words.specs.declared.clerk_work.ClerkWork.TheVariants.{Carry}
 use Rattle.desk_words.specs.declared.command.Command.{Command}
 use Rattle.desk_words.specs.declared.command.Command.TheVariants.{Steward, Clerk, Look, Desk}
 use Rattle.desk_words.specs.declared.command.Ticket.{Ticket}
-use Rattle.desk_words.specs.declared.refusal.Refusal.{Refusal}
 use Rattle.desk_words.specs.declared.reply.Reply.{Reply}
 use Rattle.desk_words.specs.declared.rows.act.Act.{Act}
 use Rattle.desk_words.specs.declared.rows.act.Act.TheVariants as act
@@ -24,7 +23,7 @@ use Rattle.desk_words.specs.Tables.{AreTables, Rows, new_clerk, published_of}
 use Rattle.desk_words.proofs.Changes.{AreTables-changed, AreTables-changed_all}
 use Rattle.desk_valid.specs.Valid.{AreValid}
 use Rattle.machine_core.specs.Checked.{Gives}
-use Rattle.machine_core.specs.Machine.{IsStep, answered, deed_of, machine, making_changes, making_of}
+use Rattle.machine_core.specs.Machine.{IsStep, deed_of, machine, making_changes, making_of}
 use Rattle.machine_core.specs.declared.making.Making.{Making}
 use Rattle.machine_core.specs.Own.{Own, after, changes_of, own_of}
 use Rattle.machine_core.specs.declared.deed.Deed.{Deed}
@@ -43,7 +42,7 @@ use Rattle.machine_laws.proofs.Makings.{IsSoundMaking, IsSoundMaking-add_clerk, 
 use Rattle.machine_laws.proofs.Makings.{IsSoundMaking-add_rulebook, IsSoundMaking-add_schema}
 use Rattle.machine_laws.proofs.Regions.{IsSoundMaking-add_region}
 use Rattle.machine_laws.proofs.Valid.{AreNoFewer-own, AreValid-own, own-rows, with_own}
-use Rattle.machine_laws.proofs.Writes.{clerk-written, desk-unchanged, look-unchanged, steward-written}
+use Rattle.machine_laws.proofs.Writes.{clerk-written, desk-unchanged, look-unchanged, steward-written, step-holds}
 
 -- a caller's own rows in valid tables are good, and no list is too long
 pub good-own : (rows : Rows) (place : ℕ) → AreValid rows → place < length rows.clerks
@@ -234,17 +233,10 @@ made-valid rows (Look name look) made valid numbered gives =
 made-valid rows (Desk look) made valid numbered gives =
     none-valid rows made.1 valid (desk-unchanged rows look made gives)
 
-outcome-valid : (rows : Rows) (command : Command) (outcome : Result (Reply × List Change) Refusal) → AreValid rows
-    → IsNumbered command → Gives (machine rows command) outcome
-    → FitAll rows (answered outcome).1 × AreValid (changed_all rows (answered outcome).1)
-outcome-valid rows command (Ok made) valid numbered gives = made-valid rows command made valid numbered gives
-outcome-valid rows command (Err refusal) valid numbered gives = (tt, valid)
-
 -- the changes of a step fit, and leave valid tables
 pub step-valid : (rows : Rows) (command : Command) (answer : Reply) (changes : List Change) → AreValid rows
     → IsNumbered command → IsStep rows command answer changes → FitAll rows changes
     × AreValid (changed_all rows changes)
-step-valid rows command answer changes valid numbered step =
-    subst (λ made. FitAll rows made × AreValid (changed_all rows made))
-    (sym (ap (λ (both : Reply × List Change). both.1)
-    step.answers)) (outcome-valid rows command step.outcome valid numbered step.gives)
+step-valid rows command answer changes valid numbered = step-holds
+    (λ _ made. FitAll rows made × AreValid (changed_all rows made)) rows command
+    (λ made gives. made-valid rows command made valid numbered gives) (λ refusal gives. (tt, valid)) answer changes

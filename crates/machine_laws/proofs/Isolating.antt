@@ -20,13 +20,13 @@ use Rattle.desk_words.specs.declared.reply.Reply.TheVariants as reply
 use Rattle.desk_words.specs.Changes.{changed_all}
 use Rattle.desk_words.specs.Tables.{Published, Rows, published_of}
 use Rattle.desk_valid.specs.Valid.{AreValid}
-use Rattle.machine_core.specs.Checked.{Checked, ComesTo, and_then, done, run, told, IsFound, Outcome}
-use Rattle.machine_core.specs.Checked.{◌>>=◌, some_or, Gives}
+use Rattle.machine_core.specs.Checked.{Checked, ComesTo, and_then, done, run, told, IsFound, Outcome, ◌>>=◌, some_or}
+use Rattle.machine_core.specs.Checked.{Gives}
 use Rattle.machine_core.specs.Deriving.{derived_sheet}
 use Rattle.machine_core.specs.Machine.{IsStep, answered, changes_if, clerk_of, clerk_write, clerk_write_at, deed_of}
+use Rattle.machine_core.specs.Machine.{machine}
 use Rattle.machine_core.specs.Look.{look_reply, reply_of}
 use Rattle.machine_core.specs.Look as looks
-use Rattle.machine_core.specs.Machine.{machine}
 use Rattle.machine_core.specs.Own.{Own, after, changes_of, own_of}
 use Rattle.machine_core.specs.declared.ticket.Use.TheVariants.{Fresh}
 use Rattle.machine_core.specs.Ticket.{ticketed, use_of}
@@ -39,7 +39,7 @@ use Rattle.machine_laws.proofs.Deeds.{own_after}
 use Rattle.machine_laws.proofs.Names.{clerk_of-same}
 use Rattle.machine_laws.proofs.Staying.{after-clerk, chain-done, names-set, own_of-with_same, step-kept}
 use Rattle.machine_laws.proofs.Valid.{with_own}
-use Rattle.machine_laws.proofs.Writes.{IsNew, IsPlaceOf, clerk-written, clerk_of-ok}
+use Rattle.machine_laws.proofs.Writes.{IsNew, IsPlaceOf, clerk-written, clerk_of-ok, step-holds}
 
 -- the reply alone
 abbrev replied : {C : Type 0} → Checked (Reply × C) → Checked Reply
@@ -246,52 +246,42 @@ published-new rows name ticket work answer changes valid new =
 pub write-cases : (rows : Rows) (name : List ℕ) (ticket : Ticket) (work : ClerkWork) (answer : Reply)
     (changes : List Change)
     → IsStep rows (Clerk name ticket work) answer changes → (changes ≡ []) ⊎ IsNew rows name ticket work answer changes
-write-cases rows name ticket work answer changes step =
-    subst (λ (both : Reply × List Change). (both.1 ≡ []) ⊎ IsNew rows name ticket work both.0 both.1) (sym step.answers)
-    (whole step.outcome step.gives)
-  where
-    whole : (outcome : Result (Reply × List Change) Refusal) → Gives (machine rows (Clerk name ticket work)) outcome
-        → ((answered outcome).1 ≡ []) ⊎ IsNew rows name ticket work (answered outcome).0 (answered outcome).1
-    whole (Ok made) gives = elim (clerk-written rows name ticket work made gives) [
+write-cases rows name ticket work = step-holds
+    (λ answer changes. (changes ≡ []) ⊎ IsNew rows name ticket work answer changes) rows (Clerk name ticket work)
+    (λ made gives. elim (clerk-written rows name ticket work made gives) [
       | inl again ↦ inl again.unchanged
       | inr new ↦ inr new
+    ]) (λ refusal gives. inl refl)
+
+-- nor does it change what was published
+pub clerk-published : (rows : Rows) (name : List ℕ) (ticket : Ticket) (work : ClerkWork) (answer : Reply)
+    (changes : List Change) → AreValid rows → IsStep rows (Clerk name ticket work) answer changes
+    → published_of (changed_all rows changes) ≡ published_of rows
+clerk-published rows name ticket work answer changes valid step = elim (write-cases rows name ticket work answer changes
+    step) [
+      | inl none ↦ ap (λ made. published_of (changed_all rows made)) none
+      | inr new ↦ published-new rows name ticket work answer changes valid new
     ]
-    whole (Err refusal) gives = inl refl
 
 -- tables look alike after a write of the clerk's own
 pub write-alike : (name : List ℕ) (rows other : Rows) (ticket : Ticket) (work : ClerkWork) (answer answer_too : Reply)
     (changes others : List Change) → AreValid rows → AreValid other → LookAlike name rows other
     → IsStep rows (Clerk name ticket work) answer changes → IsStep other (Clerk name ticket work) answer_too others
     → LookAlike name (changed_all rows changes) (changed_all other others)
-write-alike name rows other ticket work answer answer_too changes others valid valid_too alike step step_too =
-    elim (write-cases rows name ticket work answer changes step) [
-      | inl none ↦ elim (write-cases other name ticket work answer_too others step_too) [
-        | inl none_too ↦ subst (λ made. LookAlike name (changed_all rows made) (changed_all other others)) (sym none)
-            (subst (λ made. LookAlike name rows (changed_all other made)) (sym none_too) alike)
-        | inr new_too ↦ record {
-          published = published-step rows changes (inl none) ∙ alike.published
-              ∙ sym (published-new other name ticket work answer_too others valid_too new_too);
-          own = new-alike name other rows ticket work answer_too answer others changes valid_too valid (record
-              { published = sym alike.published; own = sym alike.own }) new_too step;
-        }
-      ]
-      | inr new ↦ record {
-        published = published-new rows name ticket work answer changes valid new ∙ alike.published
-            ∙ sym (published-either (write-cases other name ticket work answer_too others step_too));
-        own = sym (new-alike name rows other ticket work answer answer_too changes others valid valid_too alike new
-            step_too);
-      }
+write-alike name rows other ticket work answer answer_too changes others valid valid_too alike step step_too = record {
+  published = clerk-published rows name ticket work answer changes valid step ∙ alike.published
+      ∙ sym (clerk-published other name ticket work answer_too others valid_too step_too);
+  own = elim (write-cases rows name ticket work answer changes step) [
+    | inl none ↦ elim (write-cases other name ticket work answer_too others step_too) [
+      | inl none_too ↦ ap (λ made. run (own_by (changed_all rows made) (clerk name))) none ∙ alike.own
+          ∙ sym (ap (λ made. run (own_by (changed_all other made) (clerk name))) none_too)
+      | inr new_too ↦ new-alike name other rows ticket work answer_too answer others changes valid_too valid (record
+          { published = sym alike.published; own = sym alike.own }) new_too step
     ]
-  where
-    published-step : (one : Rows) (made : List Change) → (made ≡ []) ⊎ ⊥
-        → published_of (changed_all one made) ≡ published_of one
-    published-step one made (inl none) = ap (λ list. published_of (changed_all one list)) none
-    published-step one made (inr never_so) = absurd never_so
-
-    published-either : (others ≡ []) ⊎ IsNew other name ticket work answer_too others
-        → published_of (changed_all other others) ≡ published_of other
-    published-either (inl none) = ap (λ list. published_of (changed_all other list)) none
-    published-either (inr new_too) = published-new other name ticket work answer_too others valid_too new_too
+    | inr new ↦ sym (new-alike name rows other ticket work answer answer_too changes others valid valid_too alike new
+        step_too)
+  ];
+}
 
 -- a clerk's own rows are those of the place that is found
 own_by-places : (found : Option ℕ) (one other : ℕ → Own) → ((place : ℕ) → found ≡ Some place → one place ≡ other place)
@@ -311,7 +301,7 @@ own_by-same name rows other names same =
     ∙ ap (λ one. and_then one (λ place. told (Ok (own_of other place))))
     (sym (clerk_of-same rows.clerks other.clerks name names))
 
--- a clerk's write leaves the names, and the steward's row
+-- a clerk's write leaves the names
 pub clerk-names : (rows : Rows) (name : List ℕ) (ticket : Ticket) (work : ClerkWork) (answer : Reply)
     (changes : List Change)
     → AreValid rows → IsStep rows (Clerk name ticket work) answer changes
@@ -322,15 +312,6 @@ clerk-names rows name ticket work answer changes valid step =
       | inr new ↦ ap (λ (one : Rows). names_of one.clerks) (after-clerk rows valid name ticket work answer changes new)
           ∙ names-set rows new.place (ticketed (own_of rows new.place).row ticket new.deed.act new.deed.target)
           new.is_place.within refl
-    ]
-
-pub clerk-published : (rows : Rows) (name : List ℕ) (ticket : Ticket) (work : ClerkWork) (answer : Reply)
-    (changes : List Change) → AreValid rows → IsStep rows (Clerk name ticket work) answer changes
-    → published_of (changed_all rows changes) ≡ published_of rows
-clerk-published rows name ticket work answer changes valid step = elim (write-cases rows name ticket work answer changes
-    step) [
-      | inl none ↦ ap (λ made. published_of (changed_all rows made)) none
-      | inr new ↦ published-new rows name ticket work answer changes valid new
     ]
 
 -- another clerk's write leaves what a clerk's name sees

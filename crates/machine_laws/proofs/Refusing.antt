@@ -1,7 +1,7 @@
 -- Each refusal of the machine has its cause.
 use Rattle.std.proofs.Common.{◌≡◌, ◌≢◌, ◌⊎◌, ◌∙◌, ℕ, ◌+◌, ◌-◌, ◌<◌, Bool, true, false, List, [], length, get_or, drop}
 use Rattle.std.proofs.Common.{take, Option, Some, None, inl, inr, refl, sym, ap, subst, arith}
-use Rattle.std.specs.Prelude.{◌==◌, Result, Ok, Err, if◌then◌else◌, option_map, position, slice_get}
+use Rattle.std.specs.Prelude.{◌==◌, Ok, if◌then◌else◌, option_map, position, slice_get}
 use Rattle.std.specs.Str.{bytes_eq}
 use Rattle.std.proofs.lemmas.Bool.Decides.{nat_tests}
 use Rattle.std.proofs.lemmas.Slice.Eq.{bytes_eq-Decides}
@@ -24,7 +24,7 @@ use Rattle.desk_valid.specs.Rows.Clerk.{HasTarget}
 use Rattle.desk_valid.specs.Valid.{AreValid}
 use Rattle.fix_model.specs.Regions.{row_state}
 use Rattle.machine_core.specs.Causes.{Cause, WritesWith}
-use Rattle.machine_core.specs.Checked.{Checked, ◌>>=◌, done, Gives, decides}
+use Rattle.machine_core.specs.Checked.{Gives, decides}
 use Rattle.machine_core.specs.DeskLook.{desk_reply}
 use Rattle.machine_core.specs.Finding.{session_at}
 use Rattle.machine_core.specs.Kept.{kept_made, kept_reply}
@@ -35,7 +35,6 @@ use Rattle.machine_core.specs.Own.{Own, after, own_of}
 use Rattle.machine_core.specs.declared.ticket.Use.{Use}
 use Rattle.machine_core.specs.declared.ticket.Use.TheVariants.{Fresh, Repeated}
 use Rattle.machine_core.specs.Ticket.{use_of, use_at}
-use Rattle.machine_core.proofs.Chains.{Gives-bind_ok, done-value}
 use Rattle.machine_core.proofs.DeskLooks.{desk-found}
 use Rattle.machine_core.proofs.Looks.{look-found}
 use Rattle.machine_core.specs.OwnRows.{HasOwnTarget}
@@ -51,8 +50,8 @@ use Rattle.machine_laws.proofs.Refusals.{HasCauses, causes-asked, causes-bind, c
 use Rattle.machine_laws.proofs.Refusals.{causes-each, causes-never, causes-some_or, causes-unless, never_refused}
 use Rattle.machine_laws.proofs.Refusals.{not-both}
 use Rattle.machine_core.specs.Named.{clerk_in}
-use Rattle.machine_core.proofs.Walks.{Gives-Met}
-use Rattle.machine_laws.proofs.Writes.{IsPlaceOf, clerk-written, clerk_of-ok, steward-written}
+use Rattle.machine_core.proofs.Walks.{Gives-Met, Met-Gives}
+use Rattle.machine_laws.proofs.Writes.{IsPlaceOf, clerk-written, clerk_of-ok, steward-written, step-holds, IsPlaceOf}
 
 -- a session whose place is within the list is there
 session-there : (sessions : List SessionRow) (place : ℕ) → place < length sessions → session_at sessions (place + 1) ≢
@@ -240,31 +239,23 @@ made-not_refused rows (Clerk name ticket work) made refusal gives is =
           new.deed.target) (Ok one)) is new.kept)
     ]
 made-not_refused rows (Look name look) made refusal gives is =
-    let last : Reply → Checked (Reply × List Change) = λ answer. done (answer, []) in
-    let place = Gives-bind_ok (clerk_of rows.clerks name)
-    (λ place. look_reply (published_of rows) (own_of rows place) look
-    >>= last) made gives in
-    let answer = Gives-bind_ok (look_reply (published_of rows) (own_of rows place.0) look) last made place.2 in
-    let same : answer.0 ≡ reply.Refused refusal =
-    sym (ap (λ (one : Reply × List Change). one.0) (done-value (answer.0, []) made answer.2)) ∙ is in
-    look-found (published_of rows) (own_of rows place.0) look (reply.Refused refusal)
-    (subst (λ one. Gives (look_reply (published_of rows) (own_of rows place.0) look) (Ok one)) same answer.1)
+    let (place, there, (answer, given, same)) = Met-Gives (machine rows (Look name look)) (Ok made) gives in
+    look-found (published_of rows) (own_of rows place) look (reply.Refused refusal)
+    (subst (λ one. Gives (look_reply (published_of rows) (own_of rows place) look) (Ok one))
+    (sym (ap (λ (one : Reply × List Change). one.0) same) ∙ is)
+    (Gives-Met (look_reply (published_of rows) (own_of rows place) look) (Ok answer) given))
 made-not_refused rows (Desk what) made refusal gives is =
-    let last : Reply → Checked (Reply × List Change) = λ answer. done (answer, []) in
-    let answer = Gives-bind_ok (desk_reply rows what) last made gives in
-    let same : answer.0 ≡ reply.Refused refusal =
-    sym (ap (λ (one : Reply × List Change). one.0) (done-value (answer.0, []) made answer.2)) ∙ is in
-    desk-found rows what (reply.Refused refusal) (subst (λ one. Gives (desk_reply rows what) (Ok one)) same answer.1)
+    let (answer, given, same) = Met-Gives (machine rows (Desk what)) (Ok made) gives in
+    desk-found rows what (reply.Refused refusal) (subst (λ one. Gives (desk_reply rows what) (Ok one))
+    (sym (ap (λ (one : Reply × List Change). one.0) same) ∙ is) (Gives-Met (desk_reply rows what) (Ok answer) given))
 
 -- a request that is answered by a refusal has its cause
 pub step-why : (rows : Rows) (command : Command) (refusal : Refusal) (changes : List Change) → AreValid rows
     → IsStep rows command (reply.Refused refusal) changes → Cause rows command refusal
 step-why rows command refusal changes valid step =
-    whole step.outcome step.gives (ap (λ (both : Reply × List Change). both.0) step.answers)
-  where
-    whole : (outcome : Result (Reply × List Change) Refusal) → Gives (machine rows command) outcome
-        → reply.Refused refusal ≡ (answered outcome).0 → Cause rows command refusal
-    whole (Ok made) gives is = absurd (made-not_refused rows command made refusal gives (sym is))
-    whole (Err other) gives is =
-        let same : other ≡ refusal = cc in
-        subst (Cause rows command) same ((refusal-why rows valid command).why other gives)
+    step-holds (λ answer _. answer ≡ reply.Refused refusal → Cause rows command refusal) rows command
+    (λ made gives is. absurd (made-not_refused rows command made refusal gives is))
+    (λ other gives is.
+    let same : other ≡ refusal = cc in
+    subst (Cause rows command) same ((refusal-why rows valid command).why other gives)) (reply.Refused refusal) changes
+    step refl

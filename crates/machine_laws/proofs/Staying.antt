@@ -1,7 +1,7 @@
 -- What a step leaves as it was, and what it does to the caller's own rows.
 use Rattle.std.proofs.Common.{◌≡◌, ◌≢◌, ◌⊎◌, ◌∙◌, ℕ, ◌<◌, Bool, true, false, List, [], length, get_or, drop, set, inl}
 use Rattle.std.proofs.Common.{inr, refl, sym, ap, subst, arith}
-use Rattle.std.specs.Prelude.{Result, Ok, Err, position}
+use Rattle.std.specs.Prelude.{Ok, Err, position}
 use Rattle.std.specs.Str.{bytes_eq}
 use Rattle.std.proofs.lemmas.List.{get_or-drop, get_or-set_other, get_or-set_same}
 use Rattle.std.proofs.lemmas.List.Quantifiers.{position-Some}
@@ -11,7 +11,6 @@ use Rattle.desk_words.specs.declared.clerk_work.ClerkWork.{ClerkWork}
 use Rattle.desk_words.specs.declared.command.Command.{Command}
 use Rattle.desk_words.specs.declared.command.Command.TheVariants.{Steward, Clerk, Look, Desk}
 use Rattle.desk_words.specs.declared.command.Ticket.{Ticket}
-use Rattle.desk_words.specs.declared.refusal.Refusal.{Refusal}
 use Rattle.desk_words.specs.declared.reply.Reply.{Reply}
 use Rattle.desk_words.specs.declared.rows.act.Act.{Act}
 use Rattle.desk_words.specs.declared.rows.clerk.ClerkRow.{ClerkRow}
@@ -21,7 +20,7 @@ use Rattle.desk_words.specs.Tables.{AreTables, Rows, new_clerk, published_of}
 use Rattle.desk_valid.specs.Valid.{AreValid}
 use Rattle.machine_core.specs.Checked.{Checked, IsFound, Outcome, and_then, awaits, done, nothing, told, ComesTo, run}
 use Rattle.machine_core.specs.Checked.{◌>>=◌, Gives}
-use Rattle.machine_core.specs.Machine.{IsStep, answered, clerk_of, machine}
+use Rattle.machine_core.specs.Machine.{IsStep, clerk_of, machine}
 use Rattle.machine_core.specs.declared.making.Making.{Making}
 use Rattle.machine_core.specs.Own.{Own, own_of}
 use Rattle.machine_core.specs.declared.ticket.Use.TheVariants.{Fresh}
@@ -30,13 +29,13 @@ use Rattle.machine_laws.specs.Callers.{Caller, asks, clerk, number_of, place_of,
 use Rattle.machine_laws.proofs.Accepted.{making-sound}
 use Rattle.machine_laws.proofs.Callers.{names_of}
 use Rattle.machine_laws.proofs.Deeds.{changed-caller, changed-deed, own_after}
-use Rattle.machine_laws.proofs.Lists.{Begins, Begins-same, list_at-set_other, list_at-set_same}
-use Rattle.machine_laws.proofs.Lists.{map-set_same, slice_get-read, slice_get-there}
+use Rattle.machine_laws.proofs.Lists.{Begins, Begins-same, list_at-set_other, list_at-set_same, map-set_same}
+use Rattle.machine_laws.proofs.Lists.{slice_get-read, slice_get-there}
 use Rattle.machine_laws.proofs.More.{AreMore, AreMore-same, AreMore-changed}
 use Rattle.machine_laws.proofs.Names.{clerk_of-begins, found-place}
 use Rattle.machine_laws.proofs.Valid.{with_own}
 use Rattle.machine_laws.proofs.Writes.{IsNew, IsPlaceOf, IsStewardsNew, clerk-written, clerk_of-ok, desk-unchanged}
-use Rattle.machine_laws.proofs.Writes.{look-unchanged, steward-written}
+use Rattle.machine_laws.proofs.Writes.{look-unchanged, step-holds, steward-written}
 
 -- what an accepted request is: a new write of a clerk or of the steward
 pub data IsAccepted (rows : Rows) : Command → Reply → List Change → Type 0 where
@@ -61,14 +60,8 @@ made-cases rows (Desk look) made gives = inl (desk-unchanged rows look made give
 -- a step changes nothing, or its request is accepted
 pub step-cases : (rows : Rows) (command : Command) (answer : Reply) (changes : List Change)
     → IsStep rows command answer changes → (changes ≡ []) ⊎ IsAccepted rows command answer changes
-step-cases rows command answer changes step =
-    subst (λ (both : Reply × List Change). (both.1 ≡ []) ⊎ IsAccepted rows command both.0 both.1) (sym step.answers)
-    (whole step.outcome step.gives)
-  where
-    whole : (outcome : Result (Reply × List Change) Refusal) → Gives (machine rows command) outcome
-        → ((answered outcome).1 ≡ []) ⊎ IsAccepted rows command (answered outcome).0 (answered outcome).1
-    whole (Ok made) gives = made-cases rows command made gives
-    whole (Err refusal) gives = inl refl
+step-cases rows command = step-holds (λ answer changes. (changes ≡ []) ⊎ IsAccepted rows command answer changes) rows
+    command (made-cases rows command) (λ refusal gives. inl refl)
 
 -- the caller's own rows are those that were put
 pub own_of-with_same : (rows : Rows) (place : ℕ) (own : Own) → AreTables rows → place < length rows.clerks

@@ -1,6 +1,6 @@
 -- A request that is not refused is told what the machine gives.
 use Rattle.std.proofs.Common.{◌≡◌, ◌≢◌, ◌∙◌, ℕ, List, [], refl, sym, ap, subst}
-use Rattle.std.specs.Prelude.{Result, Ok, Err}
+use Rattle.std.specs.Prelude.{Ok}
 use Rattle.desk_words.specs.declared.change.Change.{Change}
 use Rattle.desk_words.specs.declared.command.Command.{Command}
 use Rattle.desk_words.specs.declared.command.Command.TheVariants.{Look}
@@ -13,18 +13,16 @@ use Rattle.machine_core.specs.Checked.{Checked, ◌>>=◌, done, Gives, ComesTo,
 use Rattle.machine_core.specs.Look.{look_reply}
 use Rattle.machine_core.specs.Machine.{IsStep, answered, clerk_of, machine}
 use Rattle.machine_core.specs.Own.{own_of}
-use Rattle.machine_core.proofs.Chains.{Gives-bind, Gives-bind_ok, Gives-unique, done-value}
-use Rattle.machine_laws.proofs.Writes.{clerk_of-ok}
+use Rattle.machine_core.proofs.Chains.{Gives-bind, Gives-unique}
+use Rattle.machine_laws.proofs.Writes.{clerk_of-ok, step-holds}
+use Rattle.machine_core.proofs.Walks.{Gives-Met, Met-Gives}
 
 pub step-told : (rows : Rows) (command : Command) (answer : Reply) (changes : List Change)
     → ((refusal : Refusal) → answer ≢ reply.Refused refusal) → IsStep rows command answer changes
     → Gives (machine rows command) (Ok (answer, changes))
-step-told rows command answer changes told step = whole step.outcome step.gives step.answers
-  where
-    whole : (outcome : Result (Reply × List Change) Refusal) → Gives (machine rows command) outcome
-        → (answer, changes) ≡ answered outcome → Gives (machine rows command) (Ok (answer, changes))
-    whole (Ok made) gives is = subst (λ one. Gives (machine rows command) (Ok one)) (sym is) gives
-    whole (Err refusal) gives is = absurd (told refusal (ap (λ (both : Reply × List Change). both.0) is))
+step-told rows command answer changes told step = step-holds
+    (λ one made. ((refusal : Refusal) → one ≢ reply.Refused refusal) → Gives (machine rows command) (Ok (one, made)))
+    rows command (λ made gives apart. gives) (λ refusal gives apart. absurd (apart refusal refl)) answer changes step told
 
 -- a look is told what comes of the clerk's own rows
 pub record IsToldTo (rows : Rows) (name : List ℕ) (look : LookOf) (answer : Reply) : Type 0 where
@@ -36,19 +34,14 @@ pub look-told : (rows : Rows) (name : List ℕ) (look : LookOf) (answer : Reply)
     → ((refusal : Refusal) → answer ≢ reply.Refused refusal) → IsStep rows (Look name look) answer changes
     → IsToldTo rows name look answer
 look-told rows name look answer changes told step =
-    let last : Reply → Checked (Reply × List Change) = λ one. done (one, []) in
-    let place = Gives-bind_ok (clerk_of rows.clerks name)
-    (λ place. look_reply (published_of rows) (own_of rows place) look
-    >>= last) (answer, changes) (step-told rows (Look name look) answer changes told step) in
-    let given = Gives-bind_ok (look_reply (published_of rows) (own_of rows place.0) look) last (answer, changes)
-    place.2 in
-    let same : answer ≡ given.0 =
-    ap (λ (both : Reply × List Change). both.0) (done-value (given.0, []) (answer, changes) given.2) in
+    let (place, there, (given, gives, same)) = Met-Gives (machine rows (Look name look)) (Ok (answer, changes))
+    (step-told rows (Look name look) answer changes told step) in
     record {
-      place = place.0;
-      found = (clerk_of-ok rows.clerks name place.0 place.1).found;
-      gives = subst (λ one. Gives (look_reply (published_of rows) (own_of rows place.0) look) (Ok one)) (sym same)
-          given.1;
+      place = place;
+      found = (clerk_of-ok rows.clerks name place (Gives-Met (clerk_of rows.clerks name) (Ok place) there)).found;
+      gives = subst (λ one. Gives (look_reply (published_of rows) (own_of rows place) look) (Ok one))
+          (sym (ap (λ (both : Reply × List Change). both.0) same))
+          (Gives-Met (look_reply (published_of rows) (own_of rows place) look) (Ok given) gives);
     }
 
 -- and each time the same

@@ -1,6 +1,6 @@
 -- Refusals and looks change nothing.
-use Rattle.std.proofs.Common.{◌≡◌, ◌∙◌, ℕ, List, [], inl, inr, refl, sym, ap, subst}
-use Rattle.std.specs.Prelude.{Result, Ok, Err}
+use Rattle.std.proofs.Common.{◌≡◌, ◌∙◌, ℕ, List, [], inl, inr, refl, sym, subst}
+use Rattle.std.specs.Prelude.{Ok}
 use Rattle.desk_words.specs.declared.change.Change.{Change}
 use Rattle.desk_words.specs.declared.command.Command.{Command}
 use Rattle.desk_words.specs.declared.command.Command.TheVariants.{Steward, Clerk, Look, Desk}
@@ -14,20 +14,15 @@ use Rattle.machine_core.specs.Checked.{Gives}
 use Rattle.machine_core.specs.Kept.{kept_reply}
 use Rattle.machine_core.specs.Machine.{IsStep, answered, machine}
 use Rattle.machine_core.specs.Own.{Own, after, own_of}
-use Rattle.machine_laws.proofs.Writes.{clerk-written, desk-unchanged, look-unchanged, steward-written}
+use Rattle.machine_laws.proofs.Writes.{clerk-written, desk-unchanged, look-unchanged, steward-written, step-holds}
 use Rattle.machine_core.proofs.Walks.{Met-Gives}
 
 -- where what is answered changes nothing, a step does not
 pub step-unchanged : (rows : Rows) (command : Command) (answer : Reply) (changes : List Change)
     → ((made : Reply × List Change) → Gives (machine rows command) (Ok made) → made.1 ≡ [])
     → IsStep rows command answer changes → changes ≡ []
-step-unchanged rows command answer changes none step =
-    ap (λ (both : Reply × List Change). both.1) step.answers ∙ whole step.outcome step.gives
-  where
-    whole : (outcome : Result (Reply × List Change) Refusal) → Gives (machine rows command) outcome
-        → (answered outcome).1 ≡ []
-    whole (Ok made) gives = none made gives
-    whole (Err refusal) gives = refl
+step-unchanged rows command answer changes none =
+    step-holds (λ _ made. made ≡ []) rows command none (λ refusal gives. refl) answer changes
 
 -- a kept reply is no refusal
 pub kept-not_refused : (published : Published) (own : Own) (what : Act) (target : ℕ) (refusal : Refusal)
@@ -77,10 +72,6 @@ made-unchanged rows (Desk look) made refusal gives is = desk-unchanged rows look
 pub refused-unchanged : (rows : Rows) (command : Command) (refusal : Refusal) (changes : List Change)
     → IsStep rows command (reply.Refused refusal) changes → changes ≡ []
 refused-unchanged rows command refusal changes step =
-    ap (λ (both : Reply × List Change). both.1) step.answers
-    ∙ whole step.outcome step.gives (ap (λ (both : Reply × List Change). both.0) step.answers)
-  where
-    whole : (outcome : Result (Reply × List Change) Refusal) → Gives (machine rows command) outcome
-        → reply.Refused refusal ≡ (answered outcome).0 → (answered outcome).1 ≡ []
-    whole (Ok made) gives is = made-unchanged rows command made refusal gives is
-    whole (Err other) gives is = refl
+    step-holds (λ answer made. reply.Refused refusal ≡ answer → made ≡ []) rows command
+    (λ made gives is. made-unchanged rows command made refusal gives is) (λ other gives is. refl)
+    (reply.Refused refusal) changes step refl

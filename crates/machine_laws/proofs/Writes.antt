@@ -22,8 +22,7 @@ use Rattle.desk_words.specs.Tables.{Published, Rows, new_clerk, published_of}
 use Rattle.desk_valid.proofs.Named.{option_map-Some}
 use Rattle.machine_core.specs.Checked.{done, some_or, Gives, IsFound, run}
 use Rattle.machine_core.specs.Kept.{kept_made, kept_reply}
-use Rattle.machine_core.specs.Machine.{changes_if, clerk_of, clerk_write_at, deed_of, machine}
-use Rattle.machine_core.specs.Machine.{IsStep, answered}
+use Rattle.machine_core.specs.Machine.{changes_if, clerk_of, clerk_write_at, deed_of, machine, IsStep, answered}
 use Rattle.machine_core.specs.Machine.{making_changes, making_of, steward_write}
 use Rattle.machine_core.specs.declared.making.Making.{Making}
 use Rattle.machine_core.specs.Own.{Own, after, changes_of, own_of}
@@ -35,6 +34,7 @@ use Rattle.machine_core.proofs.Chains.{Gives-bind_ok, done-value}
 use Rattle.machine_core.proofs.Tested.{some_or-ok}
 use Rattle.machine_core.proofs.Walks.{Gives-Met, Met-Gives}
 use Rattle.desk_words.specs.declared.refusal.Refusal.{Refusal}
+use Rattle.desk_words.specs.declared.command.Command.{Command}
 
 -- the place of the clerk of a name: after the steward
 pub record IsPlaceOf (clerks : List ClerkRow) (name : List ℕ) (place : ℕ) : Type 0 where
@@ -196,19 +196,26 @@ desk-unchanged rows look made gives =
     let (answer, answers, is) = Met-Gives (machine rows (Desk look)) (Ok made) gives in
     ap (λ (one : Reply × List Change). one.1) is
 
+-- what holds of each answer that a request comes to, and of each refusal, holds of its step
+pub step-holds : (P : Reply → List Change → Type 0) (rows : Rows) (command : Command)
+    → ((made : Reply × List Change) → Gives (machine rows command) (Ok made) → P made.0 made.1)
+    → ((refusal : Refusal) → Gives (machine rows command) (Err refusal) → P (reply.Refused refusal) [])
+    → (answer : Reply) (changes : List Change) → IsStep rows command answer changes → P answer changes
+step-holds P rows command of_made of_refusal answer changes step =
+    subst (λ (both : Reply × List Change). P both.0 both.1) (sym step.answers) (whole step.outcome step.gives)
+  where
+    whole : (outcome : Result (Reply × List Change) Refusal) → Gives (machine rows command) outcome
+        → P (answered outcome).0 (answered outcome).1
+    whole (Ok made) = of_made made
+    whole (Err refusal) = of_refusal refusal
+
 -- a write of the steward changes nothing, or is new
 pub steward-cases : (rows : Rows) (ticket : Ticket) (work : StewardWork) (answer : Reply) (changes : List Change)
     → IsStep rows (Steward ticket work) answer changes
     → (changes ≡ []) ⊎ IsStewardsNew rows ticket work answer changes
-steward-cases rows ticket work answer changes step =
-    subst (λ (both : Reply × List Change). (both.1 ≡ []) ⊎ IsStewardsNew rows ticket work both.0 both.1)
-    (sym step.answers)
-    (whole step.outcome step.gives)
-  where
-    whole : (outcome : Result (Reply × List Change) Refusal) → Gives (machine rows (Steward ticket work)) outcome
-        → ((answered outcome).1 ≡ []) ⊎ IsStewardsNew rows ticket work (answered outcome).0 (answered outcome).1
-    whole (Ok made) gives = elim (steward-written rows ticket work made gives) [
+steward-cases rows ticket work = step-holds
+    (λ answer changes. (changes ≡ []) ⊎ IsStewardsNew rows ticket work answer changes) rows (Steward ticket work)
+    (λ made gives. elim (steward-written rows ticket work made gives) [
       | inl repeated ↦ inl repeated.unchanged
       | inr written ↦ inr written
-    ]
-    whole (Err refusal) gives = inl refl
+    ]) (λ refusal gives. inl refl)
