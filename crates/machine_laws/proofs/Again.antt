@@ -1,7 +1,6 @@
 -- A write that comes again.
 use Rattle.std.proofs.Common.{◌≡◌, ◌≢◌, ◌⊎◌, ◌∙◌, ℕ, ◌+◌, ◌<◌, Bool, true, false, List, [], length, None, inl, inr}
-use Rattle.std.proofs.Common.{nat_le}
-use Rattle.std.proofs.Common.{refl, sym, ap, subst, arith}
+use Rattle.std.proofs.Common.{nat_le, refl, sym, ap, subst, arith}
 use Rattle.std.specs.Prelude.{Ok, ◌==◌}
 use Rattle.std.specs.Str.{bytes_eq}
 use Rattle.std.proofs.lemmas.Bool.Decides.{nat_tests}
@@ -24,27 +23,25 @@ use Rattle.desk_words.specs.Changes.{changed, changed_all}
 use Rattle.desk_words.specs.Tables.{Published, Rows, new_clerk, published_of}
 use Rattle.desk_valid.specs.Rows.Clerk.{HasTarget}
 use Rattle.desk_valid.specs.Valid.{AreValid}
-use Rattle.machine_core.specs.Checked.{done, ◌>>=◌, Gives, ComesTo, IsFound, IsRefused, run}
+use Rattle.machine_core.specs.Checked.{Gives, ComesTo, IsFound, IsRefused, run}
 use Rattle.machine_core.specs.Kept.{kept_made, kept_reply}
-use Rattle.machine_core.specs.Machine.{IsStep, answered, changes_if, clerk_of, clerk_write, clerk_write_at, machine}
-use Rattle.machine_core.specs.Machine.{steward_write}
+use Rattle.machine_core.specs.Machine.{IsStep, answered, clerk_of, machine}
 use Rattle.machine_core.specs.Own.{Own, after, own_of}
 use Rattle.machine_core.specs.declared.ticket.Use.TheVariants.{Fresh, Repeated}
 use Rattle.machine_core.specs.Ticket.{ticketed, use_of, use_at}
-use Rattle.machine_core.proofs.Chains.{Gives-bind, Gives-unique}
+use Rattle.machine_core.proofs.Chains.{Gives-unique, Gives-found}
 use Rattle.machine_laws.specs.Callers.{Caller, asks, clerk, steward}
 use Rattle.machine_laws.proofs.Accepted.{making-sound}
 use Rattle.machine_laws.proofs.Callers.{names_of}
 use Rattle.machine_laws.proofs.Deeds.{own_after}
 use Rattle.machine_laws.proofs.Kept.{kept_made-more, kept_reply-more}
-use Rattle.machine_laws.proofs.Lists.{Begins, Begins-same, slice_get-read, slice_get-there}
+use Rattle.machine_laws.proofs.Lists.{Begins, Begins-same}
 use Rattle.machine_laws.proofs.Names.{clerk_of-begins, clerk_of-same}
-use Rattle.machine_laws.proofs.Staying.{IsAccepted, IsLonger, after-clerk, after-steward, by_clerk}
-use Rattle.machine_laws.proofs.Staying.{by_steward, names-set, own_of-with_same, step-cases, step-kept, step-longer}
-use Rattle.machine_laws.proofs.Staying.{with_making}
-use Rattle.machine_laws.proofs.Valid.{own-rows, with_own}
+use Rattle.machine_laws.proofs.Staying.{IsAccepted, IsLonger, after-clerk, after-steward, by_clerk, by_steward}
+use Rattle.machine_laws.proofs.Staying.{names-set, own_of-with_same, step-cases, step-kept, step-longer, with_making}
+use Rattle.machine_laws.proofs.Valid.{good-row, own-rows, with_own}
 use Rattle.machine_laws.proofs.Writes.{clerk_of-ok}
-use Rattle.machine_core.proofs.Walks.{Met, Met-Gives}
+use Rattle.machine_core.proofs.Walks.{Gives-Met, Met, Met-Gives}
 use Rattle.machine_laws.proofs.More.{AreMore-same}
 
 -- a new number follows the last
@@ -106,29 +103,16 @@ last-answer : (rows : Rows) (command : Command) (answer : Reply) → IsLast rows
     → Gives (machine rows command) (Ok (answer, []))
 last-answer rows command answer (of_clerk name ticket work answer' place found used kept) =
     let own : Own = own_of rows place in
-    let published : Published = published_of rows in
-    let both : Gives (clerk_write_at published own work Repeated) (Ok (answer', None)) =
-    Gives-bind (kept_reply published own own.row.act own.row.target) (λ one. done (one, None)) answer'
-    (Ok (answer', None))
-    kept refl in
-    let used_it : Gives (use_of own.row ticket) (Ok Repeated) =
-    subst (λ one. ComesTo one (Ok Repeated)) (sym used) refl in
-    let written : Gives (clerk_write published own ticket work) (Ok (answer', None)) =
-    Gives-bind (use_of own.row ticket) (clerk_write_at published own work) Repeated (Ok (answer', None)) used_it both in
-    let found_it : Gives (clerk_of rows.clerks name) (Ok place) = subst (λ one. ComesTo one (Ok place)) (sym found)
-    refl in
-    Gives-bind (clerk_of rows.clerks name)
-    (λ there. clerk_write published (own_of rows there) ticket work >>= (λ one. done
-    (one.0, changes_if there (own_of rows there).row ticket one.1))) place (Ok (answer', [])) found_it
-    (Gives-bind (clerk_write published own ticket work) (λ one. done (one.0, changes_if place own.row ticket one.1))
-    (answer', None) (Ok (answer', [])) written refl)
+    let there = Met-Gives (clerk_of rows.clerks name) (Ok place) (Gives-found (clerk_of rows.clerks name) place found) in
+    let used_so = Met-Gives (use_of own.row ticket) (Ok Repeated) (Gives-found (use_of own.row ticket) Repeated used) in
+    let kept_so = Met-Gives (kept_reply (published_of rows) own own.row.act own.row.target) (Ok answer') kept in
+    Gives-Met (machine rows (Clerk name ticket work)) (Ok (answer', []))
+    (place, there, ((answer', None), (Repeated, used_so, (answer', kept_so, refl)), refl))
 last-answer rows command answer (of_steward ticket work made used kept) =
-    let used_it : Gives (use_of (own_of rows 0).row ticket) (Ok Repeated) =
-    subst (λ one. ComesTo one (Ok Repeated)) (sym used) refl in
-    Gives-bind (use_of (own_of rows 0).row ticket) (steward_write rows ticket work) Repeated (Ok (reply.Made made, []))
-    used_it (Gives-bind (kept_made rows (own_of rows 0).row.act (own_of rows 0).row.target)
-    (λ one. done (reply.Made one, []))
-    made (Ok (reply.Made made, [])) kept refl)
+    let row : ClerkRow = (own_of rows 0).row in
+    let used_so = Met-Gives (use_of row ticket) (Ok Repeated) (Gives-found (use_of row ticket) Repeated used) in
+    let kept_so = Met-Gives (kept_made rows row.act row.target) (Ok made) kept in
+    Gives-Met (machine rows (Steward ticket work)) (Ok (reply.Made made, [])) (Repeated, used_so, (made, kept_so, refl))
 
 pub last-step : (rows : Rows) (command : Command) (answer other : Reply) (changes : List Change)
     → IsLast rows command answer → IsStep rows command other changes → (other ≡ answer) × (changes ≡ [])
@@ -234,11 +218,7 @@ module _ (rows : Rows) (valid : AreValid rows) where
       let same : own_of next 0 ≡ own_of rows 0 = step-kept rows valid steward 0 other reply_to changes step not_its
       refl in
       let row : ClerkRow = (own_of rows 0).row in
-      let there = slice_get-there rows.clerks 0 valid.tables.steward in
-      let is : row ≡ there.0 = slice_get-read rows.clerks 0 there.0 (new_clerk []) there.1 in
-      let has : HasTarget rows 0 row.act row.target = subst (λ (one : ClerkRow). HasTarget rows 0 one.act one.target)
-      (sym is)
-      (valid.clerks 0 there.0 there.1).target in
+      let has : HasTarget rows 0 row.act row.target = (good-row rows valid 0 valid.tables.steward).target in
       let kept_it : Gives (kept_made next row.act row.target) (Ok made) =
       subst (λ one. ComesTo one (Ok made))
       (sym (kept_made-more rows next valid longer.published longer.names row.act row.target

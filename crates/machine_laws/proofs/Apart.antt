@@ -38,6 +38,10 @@ use Rattle.machine_laws.proofs.Stewards.{AreAsToSteward, changed-names, changed-
 use Rattle.machine_laws.proofs.Unchanged.{step-unchanged}
 use Rattle.machine_laws.proofs.Writes.{IsStewardsNew, clerk_of-ok, desk-unchanged, look-unchanged, steward-cases}
 
+-- a place that is found is the one that was
+same_place : {one another : ℕ} → IsFound (done one) another → one ≡ another
+same_place is = cc
+
 -- a clerk who comes with the steward's step has nothing yet
 following-new : (rows : Rows) (valid : AreValid rows) (name : List ℕ) (ticket : Ticket) (work : StewardWork)
     (answer : Reply)
@@ -148,9 +152,6 @@ module _ (name : List ℕ) (rows other : Rows) (valid : AreValid rows) (valid_to
         ∙ sym there.2 ∙ ap (own_of other) same
         ∙ sym (step-kept other valid_too (clerk name) place (Steward ticket work) answer_too others step_too (inr refl)
         found_too)
-      where
-        same_place : {one another : ℕ} → IsFound (done one) another → one ≡ another
-        same_place is = cc
 
     -- and one who comes with the step has nothing yet
     own-following : (place : ℕ) → position (λ row. bytes_eq row.name name) (drop 1 rows.clerks) ≡ None
@@ -209,9 +210,6 @@ module _ (name : List ℕ) (rows other : Rows) (valid : AreValid rows) (valid_to
             let same : first + 1 ≡ place = same_place (sym later ∙ found) in
             subst (λ one. own_of (changed_all rows changes) one ≡ own_of (changed_all other others) one) same
             (own-before (first + 1) before)
-          where
-            same_place : {one another : ℕ} → IsFound (done one) another → one ≡ another
-            same_place is = cc
 
     row-after : (own_of (changed_all rows changes) 0).row ≡ (own_of (changed_all other others) 0).row
     row-after = elim (steward-cases rows ticket work answer changes step) [
@@ -375,18 +373,14 @@ answers-apart name rows other (event ∷ events) others valid valid_too alike st
           valid_too steps_next.0 steps_next.1).1 alike_next steps.2 steps_next.2 fewer) own
     ]
   where
+    not-true : (told : Bool) → not told ≡ true → told ≡ false
+    not-true true is = absurd (cc)
+    not-true false is = refl
+
     not-asked : (command : Command) → is_of_other name command ≡ true → asks (clerk name) command ≡ false
     not-asked (Steward ticket work) is = refl
     not-asked (Clerk named ticket work) is = not-true (bytes_eq named name) is
-      where
-        not-true : (told : Bool) → not told ≡ true → told ≡ false
-        not-true true is = absurd (cc)
-        not-true false is = refl
     not-asked (Look named look) is = not-true (bytes_eq named name) is
-      where
-        not-true : (told : Bool) → not told ≡ true → told ≡ false
-        not-true true is = absurd (cc)
-        not-true false is = refl
     not-asked (Desk look) is = refl
 
     with-own : (others : List Event) → AreAnswered other others

@@ -15,8 +15,6 @@ use Rattle.desk_words.specs.declared.clerk_work.ClerkWork.TheVariants.{Carry}
 use Rattle.desk_words.specs.declared.command.Command.TheVariants.{Clerk, Look}
 use Rattle.desk_words.specs.declared.command.Ticket.{Ticket}
 use Rattle.desk_words.specs.declared.look.Look.TheVariants.{View, Carry as CarryLook}
-use Rattle.desk_words.specs.declared.refusal.Kind.TheVariants as kind
-use Rattle.desk_words.specs.declared.refusal.Refusal.TheVariants.{NoSuch}
 use Rattle.desk_words.specs.declared.reply.Carried.{Carried}
 use Rattle.desk_words.specs.declared.reply.Reply.{Reply}
 use Rattle.desk_words.specs.declared.reply.Reply.TheVariants as reply
@@ -40,10 +38,8 @@ use Rattle.machine_core.specs.Look.Carry.{carrying}
 use Rattle.machine_core.specs.Look.View.{view_at}
 use Rattle.machine_core.specs.Machine.{IsStep, clerk_of}
 use Rattle.machine_core.specs.Own.{Own, after, changes_of, own_of, puts}
-use Rattle.machine_core.specs.Tests.{session_of}
 use Rattle.machine_core.specs.Views.{edition_at, view_of, view_with}
-use Rattle.machine_core.proofs.Chains.{Gives-bind, Gives-bind_ok, Gives-unique, done-value}
-use Rattle.machine_core.proofs.Tested.{some_or-ok}
+use Rattle.machine_core.proofs.Chains.{Gives-bind, Gives-unique}
 use Rattle.machine_laws.specs.Carries.{CarriesOne, IsCarried, row_after}
 use Rattle.machine_core.proofs.Commands.{IsCarryOf, carry_row-ok}
 use Rattle.machine_laws.proofs.Deeds.{changed-caller, put-within}
@@ -53,6 +49,7 @@ use Rattle.machine_laws.proofs.Sessions.{session_at-found, IsActiveAt-session}
 use Rattle.machine_laws.proofs.Told.{look-told, told-again}
 use Rattle.machine_laws.proofs.Writes.{IsNew}
 use Rattle.machine_core.proofs.Walks.{Gives-Met, Met-Gives}
+use Rattle.machine_core.specs.Look.{look_reply}
 
 -- an edition stands under the name and the version by which it was found
 edition-named : (published : Published) (name : List ℕ) (version place : ℕ)
@@ -131,21 +128,19 @@ put-shown : (published : Published) (own : Own) (number : ℕ) (moved : SessionR
 put-shown published own number moved answer counted within gives =
     let next : Own = after own (puts (number - 1) moved act.Changed) in
     let same_number : number - 1 + 1 ≡ number = omega (arith, counted) in
-    let (view, shown, told_so) =
-    Gives-bind_ok (view_at published next (number - 1 + 1)) (λ view. done (reply.View view)) answer gives in
-    let there : Gives (view_at published next number) (Ok view) =
-    subst (λ one. Gives (view_at published next one) (Ok view)) same_number shown in
-    let (session, found, of_session) =
-    Gives-bind_ok (session_of next.sessions number) (view_of published number) view there in
+    let (view, (session, found, of_session), told_so) =
+    Met-Gives (kept_reply published next act.Changed (number - 1)) (Ok answer) gives in
     let stands = session_at-found next.sessions number session
-    (some_or-ok (session_at next.sessions number) (NoSuch kind.Session) session found) in
+    (ap (session_at next.sessions) (sym same_number) ∙ found) in
     let put_there : slice_get next.sessions (number - 1) ≡ Some moved =
     ap (λ list. slice_get list (number - 1)) (put-within own.sessions (number - 1) moved within)
     ∙ slice_get-set_same own.sessions (number - 1) moved within in
     let same : session ≡ moved = same_Some session moved (sym stands.1 ∙ put_there) in (
       view,
-      subst (λ one. Gives (view_of published number one) (Ok view)) same of_session,
-      done-value (reply.View view) answer told_so,
+      subst (λ one. Gives (view_of published one moved) (Ok view)) same_number
+          (subst (λ one. Gives (view_of published (number - 1 + 1) one) (Ok view)) same
+          (Gives-Met (view_of published (number - 1 + 1) session) (Ok view) of_session)),
+      told_so,
     )
 
 -- it is shown by what the rules of its edition make of it
@@ -247,15 +242,15 @@ carry-look rows name number version carried changes step =
     let told = look-told rows name (CarryLook number version) (reply.Carried carried) changes (λ refusal same. cc)
     step in
     let own : Own = own_of rows told.place in
-    let found = Gives-bind_ok (carrying (published_of rows) own number version) (λ one. done (reply.Carried one))
-    (reply.Carried carried) told.gives in
-    let replies = done-value (reply.Carried found.0) (reply.Carried carried) found.2 in
-    let same : found.0 ≡ carried = cc in
+    let (found, carries, replies) = Met-Gives (look_reply (published_of rows) own (CarryLook number version))
+    (Ok (reply.Carried carried)) told.gives in
+    let same : found ≡ carried = cc in
     record {
       place = told.place;
       found = told.found;
       is = carrying-found (published_of rows) own number version carried
-          (subst (λ one. Gives (carrying (published_of rows) own number version) (Ok one)) same found.1);
+          (subst (λ one. Gives (carrying (published_of rows) own number version) (Ok one)) same
+          (Gives-Met (carrying (published_of rows) own number version) (Ok found) carries));
     }
 
 -- the session is shown so

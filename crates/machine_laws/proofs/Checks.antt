@@ -40,7 +40,7 @@ use Rattle.machine_core.specs.DeskLook.Check.{check_reply, edition_fits, entries
 use Rattle.machine_core.specs.DeskLook.Check.{rulebook_fits, schema_fits, tried}
 use Rattle.machine_core.specs.Faults.{bind_refusal, rules_refusal, schema_refusal, sheet_refusal}
 use Rattle.machine_core.specs.Kept.{kept_made}
-use Rattle.machine_core.specs.Machine.{IsStep, answered, machine, making_changes, making_of, steward_write}
+use Rattle.machine_core.specs.Machine.{IsStep, answered, machine, making_changes, making_of}
 use Rattle.machine_core.specs.Own.{own_of}
 use Rattle.machine_core.specs.declared.making.Making.{Making}
 use Rattle.machine_core.specs.Steward.AddEdition.{edition_row}
@@ -52,7 +52,7 @@ use Rattle.machine_core.specs.declared.ticket.Use.TheVariants.{Fresh}
 use Rattle.machine_core.proofs.Chains.{Gives-bind, Gives-bind_err, Gives-bind_ok, Gives-bind_refused, Gives-found}
 use Rattle.machine_core.proofs.Chains.{Gives-unique, done-not_refused, Gives-same}
 use Rattle.machine_core.proofs.Trying.{tried-gives}
-use Rattle.machine_core.proofs.Walks.{Met, Met-Gives}
+use Rattle.machine_core.proofs.Walks.{Gives-Met, Met, Met-Gives}
 use Rattle.machine_laws.proofs.Makings.{edition_making, master_making, rulebook_making, schema_making}
 use Rattle.machine_laws.specs.Checking.{IsToldBy, TellsPublishing, made_for, publishing_next}
 use Rattle.machine_laws.proofs.Tried.{edition-binds, outcome-fits, rulebook-reads}
@@ -84,30 +84,35 @@ module _ (rows : Rows) (digest : Digest) where
 
   -- ---- the steward's next write
 
+  fresh-next : Met (use_of row-before ticket-next) (Ok Fresh)
+  fresh-next = Met-Gives (use_of row-before ticket-next) (Ok Fresh)
+      (Gives-found (use_of row-before ticket-next) Fresh (use-next row-before ticket-next refl))
+
   -- it makes what it asks for
   made-next : (work : StewardWork) (making : Making) (told : Made) → Gives (making_of rows work) (Ok making)
       → Gives (kept_made (changed rows making.change) making.act making.target) (Ok told)
       → Gives (machine rows (Steward ticket-next work))
       (Ok (reply.Made told, making_changes row-before ticket-next making))
-  made-next work making told makes kept =
-      let answer : Made → Reply × List Change = λ one. (reply.Made one, making_changes row-before ticket-next making) in
-      Gives-bind (use_of row-before ticket-next) (steward_write rows ticket-next work) Fresh (Ok (answer told))
-      (Gives-found (use_of row-before ticket-next) Fresh (use-next row-before ticket-next refl))
-      (Gives-bind (making_of rows work)
-      (λ one. kept_made (changed rows one.change) one.act one.target
-      >>= (λ it. done (reply.Made it, making_changes row-before ticket-next one))) making (Ok (answer told)) makes
-      (Gives-bind (kept_made (changed rows making.change) making.act making.target) (λ it. done (answer it)) told
-      (Ok (answer told)) kept refl))
+  made-next work making told makes kept = Gives-Met (machine rows (Steward ticket-next work))
+      (Ok (reply.Made told, making_changes row-before ticket-next making)) (
+        Fresh,
+        fresh-next,
+        (
+          making,
+          Met-Gives (making_of rows work) (Ok making) makes,
+          (
+            told,
+            Met-Gives (kept_made (changed rows making.change) making.act making.target) (Ok told) kept,
+            refl,
+          ),
+        ),
+      )
 
   -- or is refused as that is
   refused-next : (work : StewardWork) (refusal : Refusal) → Gives (making_of rows work) (Err refusal)
       → Gives (machine rows (Steward ticket-next work)) (Err refusal)
-  refused-next work refusal refused =
-      Gives-bind (use_of row-before ticket-next) (steward_write rows ticket-next work) Fresh (Err refusal)
-      (Gives-found (use_of row-before ticket-next) Fresh (use-next row-before ticket-next refl))
-      (Gives-bind_refused (making_of rows work)
-      (λ one. kept_made (changed rows one.change) one.act one.target
-      >>= (λ it. done (reply.Made it, making_changes row-before ticket-next one))) refusal refused)
+  refused-next work refusal refused = Gives-Met (machine rows (Steward ticket-next work)) (Err refusal)
+      (inr (Fresh, fresh-next, inl (Met-Gives (making_of rows work) (Err refusal) refused)))
 
   -- ---- it comes to what its check does
 

@@ -1,5 +1,5 @@
 -- Over valid tables each request has a step.
-use Rattle.std.proofs.Common.{◌≡◌, ℕ, ◌<◌, ◌≤◌, Bool, true, false, List, [], length, refl, sym, subst, arith}
+use Rattle.std.proofs.Common.{◌≡◌, ℕ, ◌<◌, ◌≤◌, Bool, true, false, List, length, refl, arith}
 use Rattle.std.specs.Prelude.{◌==◌, Ok}
 use Rattle.std.proofs.lemmas.Bool.Decides.{nat_tests}
 use Rattle.desk_words.specs.declared.change.Change.{Change}
@@ -13,8 +13,7 @@ use Rattle.desk_words.specs.declared.rows.act.Act.TheVariants as act
 use Rattle.desk_words.specs.declared.rows.clerk.ClerkRow.{ClerkRow}
 use Rattle.desk_words.specs.declared.steward_work.StewardWork.{StewardWork}
 use Rattle.desk_words.specs.Changes.{changed}
-use Rattle.desk_words.specs.Tables.{Rows, new_clerk, published_of}
-use Rattle.desk_valid.specs.Rows.Clerk.{IsClerkRow}
+use Rattle.desk_words.specs.Tables.{Rows, published_of}
 use Rattle.desk_valid.specs.Valid.{AreValid}
 use Rattle.machine_core.specs.Checked.{Gives}
 use Rattle.machine_core.specs.Machine.{IsStep, answered, clerk_of, clerk_write, clerk_write_at, machine, steward_write}
@@ -29,12 +28,11 @@ use Rattle.machine_laws.proofs.Callers.{IsDone}
 use Rattle.machine_laws.proofs.DeedOutcomes.{outcome-deed}
 use Rattle.machine_laws.proofs.DeskLooks.{outcome-desk}
 use Rattle.machine_laws.proofs.Looks.{outcome-look}
-use Rattle.machine_laws.proofs.Lists.{slice_get-read, slice_get-there}
 use Rattle.machine_laws.proofs.MadeOutcomes.{outcome-made, outcome-making}
 use Rattle.machine_laws.proofs.Outcomes.{HasOutcome, outcome-bind, outcome-done, outcome-unless, plain_tests}
 use Rattle.machine_laws.proofs.Outcomes.{outcome-some_or}
 use Rattle.machine_laws.proofs.OwnOutcomes.{outcome-kept}
-use Rattle.machine_laws.proofs.Valid.{own-rows}
+use Rattle.machine_laws.proofs.Valid.{good-row, own-rows}
 use Rattle.machine_laws.proofs.Writes.{IsPlaceOf, clerk_of-ok}
 use Rattle.machine_core.proofs.Walks.{Gives-Met, Met, Met-Gives}
 
@@ -60,13 +58,6 @@ use-repeated row ticket gives =
     again false is rest = absurd (cc)
 
 module _ (rows : Rows) (valid : AreValid rows) where
-  -- a caller's row is good
-  good-row : (place : ℕ) → place < length rows.clerks → IsClerkRow rows place (own_of rows place).row
-  good-row place within =
-      let row = slice_get-there rows.clerks place within in
-      let is : (own_of rows place).row ≡ row.0 = slice_get-read rows.clerks place row.0 (new_clerk []) row.1 in
-      subst (IsClerkRow rows place) (sym is) (valid.clerks place row.0 row.1)
-
   -- what a repeat repeats is done
   done-again : (place : ℕ) (ticket : Ticket) → place < length rows.clerks → 1 ≤ ticket.number
       → Met (use_of (own_of rows place).row ticket) (Ok Repeated)
@@ -74,7 +65,7 @@ module _ (rows : Rows) (valid : AreValid rows) where
   done-again place ticket within some met =
       let row : ClerkRow = (own_of rows place).row in
       let gives = Gives-Met (use_of row ticket) (Ok Repeated) met in
-      let good = good-row place within in
+      let good = good-row rows valid place within in
       record {
         some = λ nothing. omega (arith, some, use-repeated row ticket gives, good.started.1 nothing);
         steward = good.steward;

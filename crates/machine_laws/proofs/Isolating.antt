@@ -23,8 +23,7 @@ use Rattle.desk_valid.specs.Valid.{AreValid}
 use Rattle.machine_core.specs.Checked.{Checked, ComesTo, and_then, done, run, told, IsFound, Outcome, ◌>>=◌, some_or}
 use Rattle.machine_core.specs.Checked.{Gives}
 use Rattle.machine_core.specs.Deriving.{derived_sheet}
-use Rattle.machine_core.specs.Machine.{IsStep, answered, changes_if, clerk_of, clerk_write, clerk_write_at, deed_of}
-use Rattle.machine_core.specs.Machine.{machine}
+use Rattle.machine_core.specs.Machine.{IsStep, answered, changes_if, clerk_of, clerk_write, deed_of, machine}
 use Rattle.machine_core.specs.Look.{look_reply, reply_of}
 use Rattle.machine_core.specs.Look as looks
 use Rattle.machine_core.specs.Own.{Own, after, changes_of, own_of}
@@ -32,6 +31,7 @@ use Rattle.machine_core.specs.declared.ticket.Use.TheVariants.{Fresh}
 use Rattle.machine_core.specs.Ticket.{ticketed, use_of}
 use Rattle.machine_core.specs.Kept.{kept_reply}
 use Rattle.machine_core.proofs.Chains.{Gives-bind, Gives-bind_refused, Gives-same, Gives-unique, and_then-assoc}
+use Rattle.machine_core.proofs.Chains.{Gives-found}
 use Rattle.machine_laws.specs.Alike.{LookAlike}
 use Rattle.machine_laws.specs.Callers.{clerk, own_by, place_of}
 use Rattle.machine_laws.proofs.Callers.{names_of}
@@ -40,6 +40,7 @@ use Rattle.machine_laws.proofs.Names.{clerk_of-same}
 use Rattle.machine_laws.proofs.Staying.{after-clerk, chain-done, names-set, own_of-with_same, step-kept}
 use Rattle.machine_laws.proofs.Valid.{with_own}
 use Rattle.machine_laws.proofs.Writes.{IsNew, IsPlaceOf, clerk-written, clerk_of-ok, step-holds}
+use Rattle.machine_core.proofs.Walks.{Gives-Met, Met-Gives}
 
 -- the reply alone
 abbrev replied : {C : Type 0} → Checked (Reply × C) → Checked Reply
@@ -202,23 +203,29 @@ new-alike name rows other ticket work answer answer_too changes others valid val
     let kept : Keeps (published_of other) own_too =
     subst (λ published. Keeps published own_too) alike.published
     (subst (Keeps (published_of rows)) (sym there.2) new.kept) in
-    let at_turn : Gives (clerk_write_at (published_of other) own_too work Fresh) (Ok (answer, Some new.deed)) =
-    Gives-bind (deed_of (published_of other) own_too work) (λ deed. kept_reply (published_of other) (after own_too deed)
-    deed.act deed.target >>= (λ one. done (one, Some deed))) new.deed (Ok (answer, Some new.deed)) does
-    (Gives-bind (kept_reply (published_of other) (after own_too new.deed) new.deed.act new.deed.target) (λ one.
-    done (one, Some new.deed)) answer (Ok (answer, Some new.deed)) kept refl) in
-    let written : Gives (clerk_write (published_of other) own_too ticket work) (Ok (answer, Some new.deed)) =
-    Gives-bind (use_of own_too.row ticket) (clerk_write_at (published_of other) own_too work) Fresh
-    (Ok (answer, Some new.deed)) used at_turn in
     let whole : Gives (machine other (Clerk name ticket work)) (Ok made) =
-    Gives-bind (clerk_of other.clerks name) (λ place. clerk_write (published_of other) (own_of other place) ticket work
-    >>= (λ both. done (both.0, changes_if place (own_of other place).row ticket both.1))) there.0 (Ok made)
-    (subst (λ one. ComesTo one (Ok there.0)) (sym there.1) refl)
-    (Gives-bind (clerk_write (published_of other) own_too ticket work) (λ both. done (
-      both.0,
-      changes_if there.0 own_too.row
-          ticket both.1,
-    )) (answer, Some new.deed) (Ok made) written refl) in
+    Gives-Met (machine other (Clerk name ticket work)) (Ok made) (
+      there.0,
+      Met-Gives (clerk_of other.clerks name) (Ok there.0) (Gives-found (clerk_of other.clerks name) there.0 there.1),
+      (
+        (answer, Some new.deed),
+        (
+          Fresh,
+          Met-Gives (use_of own_too.row ticket) (Ok Fresh) used,
+          (
+            new.deed,
+            Met-Gives (deed_of (published_of other) own_too work) (Ok new.deed) does,
+            (
+              answer,
+              Met-Gives (kept_reply (published_of other) (after own_too new.deed) new.deed.act new.deed.target)
+                  (Ok answer) kept,
+              refl,
+            ),
+          ),
+        ),
+        refl,
+      ),
+    ) in
     let one = Gives-unique (machine other (Clerk name ticket work)) step.outcome (Ok made) step.gives whole in
     let pair = step.answers ∙ ap answered one in
     let new_too : IsNew other name ticket work answer others = record {

@@ -12,18 +12,18 @@ use Rattle.desk_words.specs.declared.reply.Reply.{Reply}
 use Rattle.desk_words.specs.declared.reply.Reply.TheVariants as reply
 use Rattle.desk_words.specs.declared.rows.clerk.ClerkRow.{ClerkRow}
 use Rattle.desk_words.specs.Changes.{changed_all}
-use Rattle.desk_words.specs.Tables.{Rows, published_of}
+use Rattle.desk_words.specs.Tables.{Rows}
 use Rattle.desk_valid.specs.Valid.{AreValid}
-use Rattle.machine_core.specs.Checked.{done, ◌>>=◌, Gives, IsFound, ComesTo, run}
-use Rattle.machine_core.specs.Machine.{IsStep, answered, changes_if, clerk_of, clerk_write, clerk_write_at, machine}
-use Rattle.machine_core.specs.Machine.{steward_write}
+use Rattle.machine_core.specs.Checked.{done, Gives, IsFound, run}
+use Rattle.machine_core.specs.Machine.{IsStep, answered, clerk_of, machine, steward_write}
 use Rattle.machine_core.specs.Own.{Own, own_of}
 use Rattle.machine_core.specs.Ticket.{use_of}
-use Rattle.machine_core.proofs.Chains.{Gives-bind, Gives-bind_refused, Gives-unique}
+use Rattle.machine_core.proofs.Chains.{Gives-bind_refused, Gives-unique, Gives-found, Gives-IsRefused}
 use Rattle.machine_laws.specs.Callers.{Caller, asks, clerk, number_of, place_of, steward}
 use Rattle.machine_laws.specs.Events.{Event, has_changes, is_accepted, is_write_of}
 use Rattle.machine_laws.proofs.Again.{use-fresh, use-stale}
 use Rattle.machine_laws.proofs.Staying.{IsLonger, IsTicketed, place_of-begins, step-kept, step-longer, step-ticketed}
+use Rattle.machine_core.proofs.Walks.{Gives-Met, Met-Gives}
 
 -- there are changes, or none
 pub has_changes-none : (changes : List Change) → has_changes changes ≡ false → changes ≡ []
@@ -146,8 +146,8 @@ stale-result rows steward (Steward ticket work) place asked_it found less some =
     let first : place ≡ 0 = cc in
     let Refused : ℕ → Type 0 = λ one. Gives (use_of (own_of rows one).row ticket)
     (Err (Stale (own_of rows one).row.last)) in
-    let stale : Refused place = subst (λ one. ComesTo one (Err (Stale (own_of rows place).row.last)))
-    (sym (use-stale (own_of rows place).row ticket less)) refl in
+    let stale : Refused place = Gives-IsRefused (use_of (own_of rows place).row ticket)
+    (Stale (own_of rows place).row.last) (use-stale (own_of rows place).row ticket less) in
     subst (λ one. Gives (machine rows (Steward ticket work)) (Err (Stale (own_of rows one).row.last))) (sym first)
     (Gives-bind_refused (use_of (own_of rows 0).row ticket) (steward_write rows ticket work)
     (Stale (own_of rows 0).row.last) (subst Refused first stale))
@@ -157,22 +157,12 @@ stale-result rows steward (Desk look) place asked_it found less some = absurd (c
 stale-result rows (clerk named) (Steward ticket work) place asked_it found less some = absurd (cc)
 stale-result rows (clerk named) (Clerk name ticket work) place asked_it found less some =
     let same : name ≡ named = (bytes_eq-Decides name named).0 asked_it in
-    let there : Gives (clerk_of rows.clerks name) (Ok place) = subst (λ one. ComesTo one (Ok place))
-    (sym (ap (λ one. run (clerk_of rows.clerks one)) same ∙ found)) refl in
     let own : Own = own_of rows place in
-    let stale : Gives (use_of own.row ticket) (Err (Stale own.row.last)) =
-    subst (λ one. ComesTo one (Err (Stale own.row.last))) (sym (use-stale own.row ticket less)) refl in
-    let refused_it : Gives (clerk_write (published_of rows) own ticket work) (Err (Stale own.row.last)) =
-    Gives-bind_refused (use_of own.row ticket) (clerk_write_at (published_of rows) own work) (Stale own.row.last)
-    stale in
-    Gives-bind (clerk_of rows.clerks name) (λ one. clerk_write (published_of rows) (own_of rows one) ticket work
-    >>= (λ both. done (both.0, changes_if one (own_of rows one).row ticket both.1))) place (Err (Stale own.row.last))
-    there
-    (Gives-bind_refused (clerk_write (published_of rows) own ticket work) (λ both. done (
-      both.0,
-      changes_if place own.row
-          ticket both.1,
-    )) (Stale own.row.last) refused_it)
+    let there = Met-Gives (clerk_of rows.clerks name) (Ok place) (Gives-found (clerk_of rows.clerks name) place
+    (ap (λ one. run (clerk_of rows.clerks one)) same ∙ found)) in
+    let stale = Met-Gives (use_of own.row ticket) (Err (Stale own.row.last))
+    (Gives-IsRefused (use_of own.row ticket) (Stale own.row.last) (use-stale own.row ticket less)) in
+    Gives-Met (machine rows (Clerk name ticket work)) (Err (Stale own.row.last)) (inr (place, there, inl (inl stale)))
 stale-result rows (clerk named) (Look name look) place asked_it found less some = absurd (omega (arith, some))
 stale-result rows (clerk named) (Desk look) place asked_it found less some = absurd (cc)
 

@@ -1,6 +1,6 @@
 -- Each refusal of the machine has its cause.
-use Rattle.std.proofs.Common.{◌≡◌, ◌≢◌, ◌⊎◌, ◌∙◌, ℕ, ◌+◌, ◌-◌, ◌<◌, Bool, true, false, List, [], length, get_or, drop}
-use Rattle.std.proofs.Common.{take, Option, Some, None, inl, inr, refl, sym, ap, subst, arith}
+use Rattle.std.proofs.Common.{◌≡◌, ◌≢◌, ◌⊎◌, ◌∙◌, ℕ, ◌+◌, ◌-◌, ◌<◌, Bool, true, false, List, length, get_or, drop, take}
+use Rattle.std.proofs.Common.{Option, Some, None, inl, inr, refl, sym, ap, subst, arith}
 use Rattle.std.specs.Prelude.{◌==◌, Ok, if◌then◌else◌, option_map, position, slice_get}
 use Rattle.std.specs.Str.{bytes_eq}
 use Rattle.std.proofs.lemmas.Bool.Decides.{nat_tests}
@@ -19,7 +19,7 @@ use Rattle.desk_words.specs.declared.rows.clerk.ClerkRow.{ClerkRow}
 use Rattle.desk_words.specs.declared.rows.session.SessionRow.{SessionRow}
 use Rattle.desk_words.specs.declared.steward_work.StewardWork.{StewardWork}
 use Rattle.desk_words.specs.Changes.{changed}
-use Rattle.desk_words.specs.Tables.{Published, Rows, new_clerk, published_of}
+use Rattle.desk_words.specs.Tables.{Published, Rows, published_of}
 use Rattle.desk_valid.specs.Rows.Clerk.{HasTarget}
 use Rattle.desk_valid.specs.Valid.{AreValid}
 use Rattle.fix_model.specs.Regions.{row_state}
@@ -40,11 +40,12 @@ use Rattle.machine_core.proofs.Looks.{look-found}
 use Rattle.machine_core.specs.OwnRows.{HasOwnTarget}
 use Rattle.machine_laws.proofs.Accepted.{deed-sound}
 use Rattle.machine_laws.proofs.DeskLooks.{desk-why}
-use Rattle.machine_laws.proofs.Lists.{slice_get-read, slice_get-there}
+use Rattle.machine_laws.proofs.Lists.{slice_get-there}
 use Rattle.machine_laws.proofs.Looks.{assessment-why, look-why}
 use Rattle.machine_laws.proofs.Names.{none-passes}
 use Rattle.machine_laws.proofs.StewardWhy.{making-why}
 use Rattle.machine_laws.proofs.Unchanged.{kept-not_refused}
+use Rattle.machine_laws.proofs.Valid.{good-row}
 use Rattle.machine_laws.proofs.Why.{deed-why, view-why}
 use Rattle.machine_laws.proofs.Refusals.{HasCauses, causes-asked, causes-bind, causes-certainly, causes-done}
 use Rattle.machine_laws.proofs.Refusals.{causes-each, causes-never, causes-some_or, causes-unless, never_refused}
@@ -172,20 +173,12 @@ module _ (rows : Rows) (valid : AreValid rows) where
       causes-bind (causes-bind (number-why rows (Clerk name ticket work) (own_of rows place).row ticket
       (place, there.found, refl, refl)) (λ turn _. at_turn place there turn)) (λ _ _. causes-done))
     where
-      own-target : (place : ℕ) → place < length rows.clerks → HasSession (own_of rows place) (own_of rows place).row.act
-          (own_of rows place).row.target
-      own-target place within =
-          let row = slice_get-there rows.clerks place within in
-          let is : (own_of rows place).row ≡ row.0 = slice_get-read rows.clerks place row.0 (new_clerk []) row.1 in
-          session-target rows place (own_of rows place).row.act (own_of rows place).row.target
-          (subst (λ (one : ClerkRow). HasTarget rows place one.act one.target) (sym is)
-          (valid.clerks place row.0 row.1).target)
-
       at_turn : (place : ℕ) → IsPlaceOf rows.clerks name place → (turn : Use)
           → HasCauses (Cause rows (Clerk name ticket work)) (clerk_write_at (published_of rows) (own_of rows place) work turn)
       at_turn place there Repeated = causes-bind (kept-why (Cause rows (Clerk name ticket work)) (published_of rows)
           (own_of rows place) (own_of rows place).row.act (own_of rows place).row.target
-          (own-target place there.within)) (λ _ _. causes-done)
+          (session-target rows place
+          (own_of rows place).row.act (own_of rows place).row.target (good-row rows valid place there.within).target)) (λ _ _. causes-done)
       at_turn place there Fresh = causes-bind (deed-why rows name place there.found ticket work) (λ deed does.
           let sound = deed-sound rows place work deed valid there.within
           (Gives-Met (deed_of (published_of rows) (own_of rows place) work) (Ok deed) does) in

@@ -46,7 +46,7 @@ use Rattle.machine_core.specs.declared.deed.Deed.{Deed}
 use Rattle.machine_core.specs.Tests.{attribute_of, typed_cell}
 use Rattle.machine_core.specs.Ticket.{use_of}
 use Rattle.machine_core.specs.declared.ticket.Use.TheVariants.{Fresh}
-use Rattle.machine_core.proofs.Chains.{Gives-bind_ok, done-value}
+use Rattle.machine_core.proofs.Chains.{done-value}
 use Rattle.machine_laws.specs.Callers.{clerk, own_by, place_of}
 use Rattle.machine_laws.specs.Events.{AreAnswered, Event, tables_after}
 use Rattle.machine_laws.specs.OneByOne.{EnterAll, IsOneByOne, cells_of, is_vouched, single, vouched}
@@ -217,12 +217,8 @@ fresh-new rows name ticket work answer changes place deed valid is_place used do
         (session-own (after own deed) deed.act deed.target sound.target)) (λ _ _. causes-done)) (λ _ _. causes-done) in
         absurd (never.why refusal gives)
     whole (Ok made) gives answers =
-        let both = Gives-bind_ok (kept >>= some) last made gives in
-        let told = Gives-bind_ok kept some both.0 both.1 in
-        let pair : both.0 ≡ (told.0, Some deed) = done-value (told.0, Some deed) both.0 told.2 in
-        let same : made ≡ (both.0.0, changes_if place own.row ticket both.0.1) =
-        done-value (both.0.0, changes_if place own.row ticket both.0.1) made both.2 in
-        let all : (answer, changes) ≡ (told.0, changes_of place own.row ticket deed) = answers ∙ same
+        let (both, (given, kept_so, pair), same) = Met-Gives ((kept >>= some) >>= last) (Ok made) gives in
+        let all : (answer, changes) ≡ (given, changes_of place own.row ticket deed) = answers ∙ same
         ∙ ap (λ (one : Reply × Option Deed). (one.0, changes_if place own.row ticket one.1)) pair in
         record {
           place = place;
@@ -230,7 +226,7 @@ fresh-new rows name ticket work answer changes place deed valid is_place used do
           use_made = subst (λ one. ComesTo one (Ok Fresh)) (sym used) refl;
           deed = deed;
           does = subst (λ one. ComesTo one (Ok deed)) (sym does) refl;
-          kept = subst (λ one. Gives kept (Ok one)) (sym (ap (λ (one : Reply × List Change). one.0) all)) told.1;
+          kept = subst (λ one. Gives kept (Ok one)) (sym (ap (λ (one : Reply × List Change). one.0) all)) (Gives-Met kept (Ok given) kept_so);
           changed = ap (λ (one : Reply × List Change). one.1) all;
         }
 

@@ -9,11 +9,11 @@ use Rattle.desk_words.specs.declared.refusal.Refusal.{Refusal}
 use Rattle.desk_words.specs.declared.reply.Reply.{Reply}
 use Rattle.desk_words.specs.declared.reply.Reply.TheVariants as reply
 use Rattle.desk_words.specs.Tables.{Rows, published_of}
-use Rattle.machine_core.specs.Checked.{Checked, ◌>>=◌, done, Gives, ComesTo, IsFound}
+use Rattle.machine_core.specs.Checked.{Gives, IsFound}
 use Rattle.machine_core.specs.Look.{look_reply}
 use Rattle.machine_core.specs.Machine.{IsStep, answered, clerk_of, machine}
 use Rattle.machine_core.specs.Own.{own_of}
-use Rattle.machine_core.proofs.Chains.{Gives-bind, Gives-unique}
+use Rattle.machine_core.proofs.Chains.{Gives-found, Gives-unique}
 use Rattle.machine_laws.proofs.Writes.{clerk_of-ok, step-holds}
 use Rattle.machine_core.proofs.Walks.{Gives-Met, Met-Gives}
 
@@ -48,14 +48,15 @@ look-told rows name look answer changes told step =
 pub told-again : (rows : Rows) (name : List ℕ) (look : LookOf) (answer other : Reply) (changes : List Change)
     → IsToldTo rows name look answer → IsStep rows (Look name look) other changes → other ≡ answer
 told-again rows name look answer other changes is step =
-    let last : Reply → Checked (Reply × List Change) = λ one. done (one, []) in
-    let found : Gives (clerk_of rows.clerks name) (Ok is.place) = subst (λ one. ComesTo one (Ok is.place))
-    (sym is.found)
-    refl in
-    let whole : Gives (machine rows (Look name look)) (Ok (answer, [])) = Gives-bind (clerk_of rows.clerks name)
-    (λ place.
-    look_reply (published_of rows) (own_of rows place) look >>= last) is.place (Ok (answer, [])) found
-    (Gives-bind (look_reply (published_of rows) (own_of rows is.place) look) last answer (Ok (answer, [])) is.gives
-    refl) in
+    let whole : Gives (machine rows (Look name look)) (Ok (answer, [])) =
+    Gives-Met (machine rows (Look name look)) (Ok (answer, [])) (
+      is.place,
+      Met-Gives (clerk_of rows.clerks name) (Ok is.place) (Gives-found (clerk_of rows.clerks name) is.place is.found),
+      (
+        answer,
+        Met-Gives (look_reply (published_of rows) (own_of rows is.place) look) (Ok answer) is.gives,
+        refl,
+      ),
+    ) in
     let same = Gives-unique (machine rows (Look name look)) step.outcome (Ok (answer, [])) step.gives whole in
     ap (λ (both : Reply × List Change). both.0) (step.answers ∙ ap answered same)

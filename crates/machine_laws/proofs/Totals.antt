@@ -1,7 +1,7 @@
 -- The numbers of a report add up.
 use Rattle.std.proofs.Common.{◌≡◌, ◌∙◌, ℕ, zero, suc, ◌+◌, ◌*◌, ◌<◌, Bool, true, false, cond, List, [], ◌∷◌, length}
 use Rattle.std.proofs.Common.{get_or, Option, Some, None, refl, sym, ap, subst, arith}
-use Rattle.std.specs.Prelude.{◌==◌, All, IfSome, Result, Ok, Err, count_by, filter, flat_map, slice_get, sum_by}
+use Rattle.std.specs.Prelude.{◌==◌, All, IfSome, Ok, count_by, filter, flat_map, slice_get, sum_by}
 use Rattle.std.specs.List.{range_with_len}
 use Rattle.std.proofs.lemmas.Bool.Decides.{nat_tests}
 use Rattle.std.proofs.lemmas.List.{get_or_default, length-map, length-set}
@@ -25,7 +25,6 @@ use Rattle.desk_words.specs.declared.change.Change.{Change}
 use Rattle.desk_words.specs.declared.command.Command.TheVariants.{Look, Desk}
 use Rattle.desk_words.specs.declared.desk_look.DeskLook.TheVariants as desk_look
 use Rattle.desk_words.specs.declared.look.Look.TheVariants.{Report}
-use Rattle.desk_words.specs.declared.refusal.Refusal.{Refusal}
 use Rattle.desk_words.specs.declared.report.ReportLine.{ReportLine}
 use Rattle.desk_words.specs.declared.report.ReportSheet.{ReportSheet}
 use Rattle.desk_words.specs.declared.reply.Reply.{Reply}
@@ -43,13 +42,14 @@ use Rattle.machine_core.specs.Checked.{Answer, Checked, ◌>>=◌, done, each, G
 use Rattle.machine_core.specs.Look.Report.{Assessment, assessment_of, is_abandoned, is_certain_fix, is_committed}
 use Rattle.machine_core.specs.Look.Report.{is_confirmed_cell, is_conflict, is_fixed_cell, is_partial_fix}
 use Rattle.machine_core.specs.Look.Report.{is_uncovered_cell, line_over, report_line, report_of}
-use Rattle.machine_core.specs.Machine.{IsStep, answered, machine}
-use Rattle.machine_core.specs.Own.{Own, own_of}
+use Rattle.machine_core.specs.Machine.{IsStep, machine}
+use Rattle.machine_core.specs.Own.{own_of}
 use Rattle.machine_core.proofs.Chains.{Gives-bind_ok, done-value}
 use Rattle.machine_core.proofs.Tested.{each-length}
 use Rattle.machine_laws.specs.Sums.{AddsUp, LineAddsUp}
 use Rattle.machine_laws.proofs.Lists.{slice_get-read}
-use Rattle.machine_core.proofs.Walks.{Gives-Met, Met-Gives}
+use Rattle.machine_core.proofs.Walks.{Gives-Met, Met, Met-Gives}
+use Rattle.machine_laws.proofs.Told.{step-told}
 
 -- three sums are the sum of the three
 sums-three : {A : Type 0} (one two three all : A → ℕ) (items : List A)
@@ -266,46 +266,36 @@ all-flat P [] all = All-nil P
 all-flat P (first ∷ lists) all = All-append P first (flat_map (λ list. list) lists) (All-head (All P) first lists all)
     (all-flat P lists (All-tail (All P) first lists all))
 
--- a clerk's report, and the desk's
+-- a report that is told adds up
+told-adds : (published : Published) (clerk : Option (List ℕ)) (sessions : List SessionRow) (report sheet : ReportSheet)
+    → All (HasFlags published) sessions → Met (report_of published clerk sessions) (Ok report)
+    → reply.Report sheet ≡ reply.Report report → AddsUp published sheet
+told-adds published clerk sessions report sheet flags reports told =
+    let same : report ≡ sheet = cc in
+    subst (AddsUp published) same (report-adds published clerk sessions report flags
+    (Gives-Met (report_of published clerk sessions) (Ok report) reports))
+
+-- a clerk's report does, and the desk's
 pub look-adds : (rows : Rows) (name : List ℕ) (sheet : ReportSheet) (changes : List Change) → AreValid rows
     → IsStep rows (Look name Report) (reply.Report sheet) changes → AddsUp (published_of rows) sheet
 look-adds rows name sheet changes valid step =
-    whole step.outcome step.gives (ap (λ (both : Reply × List Change). both.0) step.answers)
-  where
-    whole : (outcome : Result (Reply × List Change) Refusal) → Gives (machine rows (Look name Report)) outcome
-        → reply.Report sheet ≡ (answered outcome).0 → AddsUp (published_of rows) sheet
-    whole (Err refusal) gives is = absurd (cc)
-    whole (Ok made) gives is =
-        let (place, is_place, (answer, (report, reports, told_so), made_so)) =
-        Met-Gives (machine rows (Look name Report)) (Ok made) gives in
-        let own : Own = own_of rows place in
-        let same : reply.Report sheet ≡ reply.Report report =
-        is ∙ ap (λ (one : Reply × List Change). one.0) made_so ∙ told_so in
-        let sheets : report ≡ sheet = cc in
-        subst (AddsUp (published_of rows)) sheets
-        (report-adds (published_of rows) (Some own.row.name) own.sessions report (own-flags rows valid place)
-        (Gives-Met (report_of (published_of rows) (Some own.row.name) own.sessions) (Ok report) reports))
+    let (place, is_place, (answer, (report, reports, told_so), is)) =
+    Met-Gives (machine rows (Look name Report)) (Ok (reply.Report sheet, changes))
+    (step-told rows (Look name Report) (reply.Report sheet) changes (λ refusal same. cc) step) in
+    told-adds (published_of rows) (Some (own_of rows place).row.name) (own_of rows place).sessions report sheet
+    (own-flags rows valid place) reports (ap (λ (one : Reply × List Change). one.0) is ∙ told_so)
 
 pub desk-adds : (rows : Rows) (sheet : ReportSheet) (changes : List Change) → AreValid rows
     → IsStep rows (Desk desk_look.Report) (reply.Report sheet) changes → AddsUp (published_of rows) sheet
 desk-adds rows sheet changes valid step =
-    whole step.outcome step.gives (ap (λ (both : Reply × List Change). both.0) step.answers)
+    let (answer, (report, reports, told_so), is) =
+    Met-Gives (machine rows (Desk desk_look.Report)) (Ok (reply.Report sheet, changes))
+    (step-told rows (Desk desk_look.Report) (reply.Report sheet) changes (λ refusal same. cc) step) in
+    told-adds (published_of rows) None (flat_map (λ sessions. sessions) rows.sessions) report sheet
+    (all-flat (HasFlags (published_of rows)) rows.sessions (λ index past inside. at_list index past inside)) reports
+    (ap (λ (one : Reply × List Change). one.0) is ∙ told_so)
   where
-    whole : (outcome : Result (Reply × List Change) Refusal) → Gives (machine rows (Desk desk_look.Report)) outcome
-        → reply.Report sheet ≡ (answered outcome).0 → AddsUp (published_of rows) sheet
-    whole (Err refusal) gives is = absurd (cc)
-    whole (Ok made) gives is =
-        let all : List SessionRow = flat_map (λ sessions. sessions) rows.sessions in
-        let (answer, (report, reports, told_so), made_so) =
-        Met-Gives (machine rows (Desk desk_look.Report)) (Ok made) gives in
-        let same : reply.Report sheet ≡ reply.Report report =
-        is ∙ ap (λ (one : Reply × List Change). one.0) made_so ∙ told_so in
-        let sheets : report ≡ sheet = cc in
-        subst (AddsUp (published_of rows)) sheets (report-adds (published_of rows) None all report
-        (all-flat (HasFlags (published_of rows)) rows.sessions (λ index past inside. at_list index past inside))
-        (Gives-Met (report_of (published_of rows) None all) (Ok report) reports))
-      where
-        at_list : (index : ℕ) (past : List SessionRow) → index < length rows.sessions
-            → All (HasFlags (published_of rows)) (get_or rows.sessions index past)
-        at_list index past inside = subst (All (HasFlags (published_of rows)))
-            (get_or_default rows.sessions index [] past inside) (own-flags rows valid index)
+    at_list : (index : ℕ) (past : List SessionRow) → index < length rows.sessions
+        → All (HasFlags (published_of rows)) (get_or rows.sessions index past)
+    at_list index past inside = subst (All (HasFlags (published_of rows)))
+        (get_or_default rows.sessions index [] past inside) (own-flags rows valid index)

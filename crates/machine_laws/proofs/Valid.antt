@@ -8,7 +8,7 @@ use Rattle.desk_words.specs.declared.rows.batch.BatchRow.{BatchRow}
 use Rattle.desk_words.specs.declared.rows.clerk.ClerkRow.{ClerkRow}
 use Rattle.desk_words.specs.declared.rows.record.RecordRow.{RecordRow}
 use Rattle.desk_words.specs.declared.rows.session.SessionRow.{SessionRow}
-use Rattle.desk_words.specs.Tables.{AreTables, Published, Rows, list_at, published_of}
+use Rattle.desk_words.specs.Tables.{AreTables, Published, Rows, list_at, published_of, new_clerk}
 use Rattle.desk_valid.specs.Rows.Clerk.{IsClerkRow}
 use Rattle.desk_valid.specs.Rows.Edition.{IsEditionRow}
 use Rattle.desk_valid.specs.Rows.Master.{IsMasterRow}
@@ -16,11 +16,12 @@ use Rattle.desk_valid.specs.Rows.Region.{IsRegionRow}
 use Rattle.desk_valid.specs.Rows.Rulebook.{IsRulebookRow}
 use Rattle.desk_valid.specs.Rows.Schema.{IsSchemaRow}
 use Rattle.desk_valid.specs.Valid.{AreValid, EachAt}
-use Rattle.machine_core.specs.Own.{Own}
+use Rattle.machine_core.specs.Own.{Own, own_of}
+use Rattle.machine_laws.proofs.Lists.{slice_get-read, slice_get-there, Begins-push, EachAt-begins, EachAt-set}
+use Rattle.machine_laws.proofs.Lists.{length-begins, list_at-push, list_at-set_other, list_at-set_same, map-set_same}
+use Rattle.machine_laws.proofs.Lists.{pushed}
 use Rattle.machine_core.specs.OwnRows.{AreOwnRows}
 use Rattle.machine_laws.proofs.Callers.{AreNoFewer, IsClerkRow-more, names_of}
-use Rattle.machine_laws.proofs.Lists.{Begins-push, EachAt-begins, EachAt-set, length-begins, list_at-push}
-use Rattle.machine_laws.proofs.Lists.{list_at-set_other, list_at-set_same, map-set_same, pushed}
 use Rattle.machine_laws.proofs.More.{AreMore, AreOwnRows-more, IsEditionRow-more, IsMasterRow-more, IsRegionRow-more}
 use Rattle.machine_laws.proofs.More.{IsRulebookRow-more, IsSchemaRow-more}
 
@@ -32,6 +33,14 @@ own-rows rows valid clerk = record {
   records_valid = valid.records clerk;
   batches_valid = valid.batches clerk;
 }
+
+-- a caller's row in valid tables is good
+pub good-row : (rows : Rows) → AreValid rows → (place : ℕ) → place < length rows.clerks
+    → IsClerkRow rows place (own_of rows place).row
+good-row rows valid place within =
+    let row = slice_get-there rows.clerks place within in
+    let is : (own_of rows place).row ≡ row.0 = slice_get-read rows.clerks place row.0 (new_clerk []) row.1 in
+    subst (IsClerkRow rows place) (sym is) (valid.clerks place row.0 row.1)
 
 -- equal lists are good alike
 pub AreOwnRows-same : (published : Published) (sessions other_sessions : List SessionRow)
