@@ -20,16 +20,14 @@ use Rattle.desk_valid.specs.declared.bound.Bound.{Bound}
 use Rattle.desk_valid.specs.Bindings.{bound_at}
 use Rattle.desk_valid.specs.Valid.{AreValid}
 use Rattle.machine_core.specs.Answers.{shown_state, state_of}
-use Rattle.machine_core.specs.Checked.{Answer, Gives}
+use Rattle.machine_core.specs.Checked.{Answer}
 use Rattle.machine_core.specs.Look.View.{view_at}
 use Rattle.machine_core.specs.Own.{Own}
-use Rattle.machine_core.specs.Tests.{session_of}
-use Rattle.machine_core.specs.Views.{view_cell, view_of, view_with}
-use Rattle.machine_core.proofs.Chains.{Gives-bind_ok}
+use Rattle.machine_core.specs.Views.{view_cell, view_with}
 use Rattle.machine_core.proofs.EditionWords.{words-apart}
 use Rattle.machine_core.proofs.Widths.{kit-width}
 use Rattle.machine_laws.proofs.Lists.{slice_get-there}
-use Rattle.machine_core.proofs.Walks.{Met-Gives}
+use Rattle.machine_core.proofs.Walks.{Met}
 
 -- whether two values came to be alike
 decide_shown : (one other : Shown) → Decided (one ≡ other)
@@ -134,17 +132,8 @@ module _ (rows : Rows) (valid : AreValid rows) where
       (omega (arith, within, kit-width rows session.edition bound valid binds))
       (ap (λ (cell : ViewCell). cell.name) (sym one) ∙ same ∙ ap (λ (cell : ViewCell). cell.name) other)
 
-  pub view-apart : (number : ℕ) (session : SessionRow) (view : View)
-      → Gives (view_of (published_of rows) number session) (Ok view) → AreApart view.cells
-  view-apart number session view gives =
-      let (bound, binds, (answer, answers, is)) =
-      Met-Gives (view_of (published_of rows) number session) (Ok view) gives in
-      subst (λ (one : View). AreApart one.cells) (sym is) (view_with-apart number session bound answer binds)
-
-  -- as it stands too
-  pub view_at-apart : (own : Own) (number : ℕ) (view : View) → Gives (view_at (published_of rows) own number) (Ok view)
+  -- as it stands
+  pub view_at-apart : (own : Own) (number : ℕ) (view : View) → Met (view_at (published_of rows) own number) (Ok view)
       → AreApart view.cells
-  view_at-apart own number view gives =
-      let (session, stands, shown) =
-      Gives-bind_ok (session_of own.sessions number) (view_of (published_of rows) number) view gives in
-      view-apart number session view shown
+  view_at-apart own number view (session, stands, (bound, binds, (answer, answers, is))) =
+      subst (λ (one : View). AreApart one.cells) (sym is) (view_with-apart number session bound answer binds)

@@ -1,20 +1,18 @@
 -- Derived rows, as they are told and as they become a region.
-use Rattle.std.proofs.Common.{◌≡◌, ◌≢◌, ◌∙◌, ℕ, ◌-◌, List, [], ◌∷◌, ◌++◌, length, map, drop, take, Some, inl, inr, refl}
-use Rattle.std.proofs.Common.{sym, ap, subst, append_assoc, arith}
+use Rattle.std.proofs.Common.{◌≡◌, ◌≢◌, ◌∙◌, ℕ, ◌-◌, List, [], ◌∷◌, ◌++◌, map, drop, take, Some, inl, inr, refl, sym}
+use Rattle.std.proofs.Common.{ap, subst, append_assoc, arith}
 use Rattle.std.specs.Prelude.{IfSome, Ok, option_map}
 use Rattle.std.specs.Str.{bytes_eq}
 use Rattle.std.proofs.lemmas.List.{append-nil, length-map, length-take, map_push}
 use Rattle.std.proofs.lemmas.Simd.{map-map}
 use Rattle.std.proofs.lemmas.Slice.Eq.{bytes_eq-Decides}
 use Rattle.desk_words.specs.declared.change.Change.{Change}
-use Rattle.desk_words.specs.declared.change.Change.TheVariants as change
 use Rattle.desk_words.specs.declared.command.Command.TheVariants.{Steward, Desk}
 use Rattle.desk_words.specs.declared.desk_look.DeskLook.TheVariants.{Derive}
 use Rattle.desk_words.specs.declared.command.Ticket.{Ticket}
 use Rattle.desk_words.specs.declared.reply.DerivedSheet.{DerivedSheet}
 use Rattle.desk_words.specs.declared.reply.Reply.{Reply}
 use Rattle.desk_words.specs.declared.reply.Reply.TheVariants as reply
-use Rattle.desk_words.specs.declared.rows.act.Act.TheVariants as act
 use Rattle.desk_words.specs.declared.rows.region.RegionRow.{RegionRow}
 use Rattle.desk_words.specs.declared.steward_work.StewardWork.TheVariants.{AddDerived}
 use Rattle.desk_words.specs.Tables.{Published, Rows, published_of}
@@ -22,16 +20,14 @@ use Rattle.desk_valid.specs.declared.bound.Bound.{Bound}
 use Rattle.desk_valid.specs.Valid.{AreValid}
 use Rattle.master_rows.specs.declared.master.Master.{Master}
 use Rattle.region_derive.specs.Derived.{AreDerived, ArePairs}
-use Rattle.machine_core.specs.Checked.{Checked, done, each_following, Gives}
+use Rattle.machine_core.specs.Checked.{Checked, each_following, Gives}
 use Rattle.machine_core.specs.declared.derivation.Derivation.{Derivation}
-use Rattle.machine_core.specs.declared.making.Making.{Making}
 use Rattle.machine_core.specs.Deriving.{another_pair, derivation_of, derived_rows, places_of}
-use Rattle.machine_core.specs.Machine.{IsStep, making_changes, machine}
+use Rattle.machine_core.specs.Machine.{IsStep, making_changes, machine, making_of}
 use Rattle.machine_core.specs.Own.{own_of}
 use Rattle.machine_core.specs.Steward.AddDerived.{derived_region, region_from}
 use Rattle.machine_core.specs.Steward.AddEdition.{master_name}
 use Rattle.machine_core.specs.Views.{edition_at, name_at}
-use Rattle.machine_core.proofs.Chains.{Gives-bind_ok, done-value}
 use Rattle.machine_core.proofs.Deriving.{derivation-derivable}
 use Rattle.machine_laws.specs.Derivations.{AddsDerived, AreGiven, IsAskedOf, IsDerivedSheet}
 use Rattle.machine_laws.proofs.DerivedRegions.{derived_region-found}
@@ -41,6 +37,7 @@ use Rattle.machine_laws.proofs.Told.{step-told}
 use Rattle.machine_core.proofs.Walks.{Met, Met-Gives, Gives-Met}
 use Rattle.desk_words.specs.declared.command.Command.{Command}
 use Rattle.machine_laws.proofs.Writes.{steward-cases}
+use Rattle.machine_laws.proofs.Makings.{region_making}
 
 -- sheets that are replied alike are one
 same-sheet : (one other : DerivedSheet) → reply.Derived one ≡ reply.Derived other → one ≡ other
@@ -152,12 +149,10 @@ module _ (rows : Rows) (valid : AreValid rows) (edition : List ℕ) (version : �
       elim (steward-cases rows ticket (AddDerived edition version master pairs from) answer changes step) [
         | inl none ↦ absurd (accepted none)
         | inr new ↦
-            let made_of : RegionRow → Making = λ row.
-            record { change = change.Region row; act = act.Region; target = length rows.regions } in
-            let (row, derives, is) = Gives-bind_ok
-            (derived_region (published_of rows) edition version master pairs from)
-            (λ row. done (made_of row)) new.making new.makes in
-            let found = derived_region-found (published_of rows) edition version master pairs from row derives in
+            let (row, derives, is) = Met-Gives (making_of rows (AddDerived edition version master pairs from))
+            (Ok new.making) new.makes in
+            let found = derived_region-found (published_of rows) edition version master pairs from row
+            (Gives-Met (derived_region (published_of rows) edition version master pairs from) (Ok row) derives) in
             let region : RegionRow = region_from found.derivation from found.rows in
             let texts_of : ℕ × List (List ℕ) → List (List ℕ) = λ one. one.1 in
             let part : List (ℕ × List (List ℕ)) = take 200 (drop (from - 1) found.rows) in
@@ -171,6 +166,6 @@ module _ (rows : Rows) (valid : AreValid rows) (edition : List ℕ) (version : �
               texts = refl;
               few = omega (arith, length-map part texts_of, length-take 200 (drop (from - 1) found.rows));
               two_changes = new.changed_so ∙ ap (making_changes (own_of rows 0).row ticket)
-                  (done-value (made_of row) new.making is ∙ ap made_of found.is);
+                  (is ∙ ap (region_making (published_of rows)) found.is);
             }
       ]

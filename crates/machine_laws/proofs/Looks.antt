@@ -1,6 +1,6 @@
 -- Each look of a clerk comes to a result over valid tables, and each refusal of it has its cause.
 use Rattle.std.proofs.Common.{ℕ, List, Some, refl, length}
-use Rattle.std.specs.Prelude.{◌==◌, Option, filter, Ok}
+use Rattle.std.specs.Prelude.{◌==◌, Option, filter}
 use Rattle.std.specs.List.{range_with_len}
 use Rattle.desk_words.specs.declared.command.Command.{Command}
 use Rattle.desk_words.specs.declared.command.Command.TheVariants.{Look}
@@ -23,8 +23,6 @@ use Rattle.machine_laws.proofs.Blocked.{blocked_at-why, choices_at-why, outcome-
 use Rattle.machine_laws.proofs.Comparing.{view_at-apart}
 use Rattle.machine_laws.proofs.DeedOutcomes.{carried-of, confirmed-of, outcome-active, outcome-carry, outcome-confirm}
 use Rattle.machine_laws.proofs.DeedOutcomes.{outcome-version}
-use Rattle.machine_core.proofs.Walks.{Gives-Met}
-use Rattle.machine_core.specs.Look.View.{view_at}
 use Rattle.machine_laws.proofs.Reasons.{explain-why, outcome-explain}
 use Rattle.machine_laws.proofs.Outcomes.{HasOutcome, outcome-bind, outcome-changes, outcome-done}
 use Rattle.machine_laws.proofs.OwnOutcomes.{outcome-bound, outcome-report, outcome-view, outcome-view_at}
@@ -60,7 +58,7 @@ module _ (rows : Rows) (valid : AreValid rows) (own : Own)
       outcome-bind (outcome-view_at rows valid own are number) (λ before shown_before.
       outcome-bind (outcome-view rows valid number moved (carried-of rows valid own are number version moved is))
       (λ after shown_after. outcome-bind (outcome-changes before after (view_at-apart rows valid own number before
-      (Gives-Met (view_at (published_of rows) own number) (Ok before) shown_before))) (λ pairs told. outcome-done)))))
+      shown_before)) (λ pairs told. outcome-done)))))
   outcome-look (Sessions from) = outcome-told outcome-done
   outcome-look (Choices number) = outcome-told (outcome-choices rows valid own are number)
   outcome-look (Blocked number) = outcome-told (outcome-blocked rows valid own are number)

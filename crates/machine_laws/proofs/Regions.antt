@@ -11,59 +11,50 @@ use Rattle.std.proofs.lemmas.List.Sums.{count_by_more_yes, sum_by-take-le}
 use Rattle.std.proofs.lemmas.Slice.Zip.{length-zip}
 use Rattle.desk_words.specs.declared.change.Change.TheVariants as change
 use Rattle.desk_words.specs.declared.limit.Which.TheVariants as which
-use Rattle.desk_words.specs.declared.refusal.Refusal.TheVariants.{RowWidth, UnknownAttr}
+use Rattle.desk_words.specs.declared.refusal.Refusal.TheVariants.{UnknownAttr}
 use Rattle.desk_words.specs.declared.rows.region.RegionRow.{RegionRow}
 use Rattle.desk_words.specs.declared.steward_work.StewardWork.TheVariants.{AddRegion}
 use Rattle.desk_words.specs.Tables.{Published, Rows, published_of}
 use Rattle.desk_valid.specs.Rows.Region.{IsRegionRow}
 use Rattle.desk_valid.specs.Valid.{AreValid}
-use Rattle.machine_core.specs.Checked.{◌>>=◌, done, each, each_following, unless, Gives}
+use Rattle.machine_core.specs.Checked.{each, each_following, Gives}
 use Rattle.machine_core.specs.Limits.{within}
 use Rattle.machine_core.specs.Machine.{making_of}
 use Rattle.machine_core.specs.declared.making.Making.{Making}
-use Rattle.machine_core.specs.Steward.AddRegion.{full_row, full_rows, region_count, short_text}
+use Rattle.machine_core.specs.Steward.AddRegion.{full_rows, region_count, short_text}
 use Rattle.machine_core.specs.Tests.{another_attribute}
-use Rattle.machine_core.proofs.Chains.{Gives-bind_ok, done-value}
 use Rattle.machine_core.proofs.Distinct.{AreDistinct, another-place, no-places}
-use Rattle.machine_core.proofs.Tested.{each-length, each_following-all, each_following-length, unless-ok}
+use Rattle.machine_core.proofs.Tested.{each-length, each_following-all, each_following-length}
 use Rattle.machine_laws.proofs.Lists.{slice_get-read, slice_get-there}
 use Rattle.machine_laws.proofs.Makings.{IsGoodNew, IsSoundMaking, IsSoundMaking-published, region_making}
 use Rattle.machine_laws.proofs.Sessions.{distinct-below}
 use Rattle.machine_core.proofs.Widths.{edition-stands, width-bound}
-use Rattle.machine_core.proofs.Walks.{Met-Gives, Gives-Met}
+use Rattle.machine_core.proofs.Walks.{Met, Met-Gives, Gives-Met}
 use Rattle.machine_core.proofs.Commands.{few-stand}
 use Rattle.desk_valid.proofs.Few.{editions-few}
 
 -- each row has a text for each attribute, and there are as many as were given
 full_rows-ok : (attributes : List (List ℕ)) (number : ℕ) (rows found : List (List (List ℕ)))
-    → Gives (full_rows attributes number rows) (Ok found)
+    → Met (full_rows attributes number rows) (Ok found)
     → (length found ≡ length rows) × All (λ texts. length texts ≡ length attributes) found
-full_rows-ok attributes number [] found gives =
-    let none = done-value [] found gives in (
-      ap length none,
-      subst (All (λ texts. length texts ≡ length attributes)) (sym none)
-          (All-nil (λ texts. length texts ≡ length attributes)),
-    )
-full_rows-ok attributes number (first ∷ others) found gives =
+full_rows-ok attributes number [] found none = (
+  ap length none,
+  subst (All (λ texts. length texts ≡ length attributes)) (sym none)
+      (All-nil (λ texts. length texts ≡ length attributes)),
+)
+full_rows-ok attributes number (first ∷ others) found (texts, (_, wide, short), (more, are_more, is)) =
     let Wide : List (List ℕ) → Type 0 = λ texts. length texts ≡ length attributes in
-    let texts = Gives-bind_ok (full_row attributes number first) (λ texts. full_rows attributes (number + 1) others
-    >>= (λ more. done (texts ∷ more))) found gives in
-    let more = Gives-bind_ok (full_rows attributes (number + 1) others) (λ more. done (texts.0 ∷ more)) found texts.2 in
-    let wide = Gives-bind_ok (unless (length first == length attributes) (RowWidth number)) (λ _.
-    each short_text (zip attributes first)) texts.0 texts.1 in
-    let test = unless-ok (length first == length attributes) (RowWidth number) wide.0 wide.1 in
-    let as_wide : length first ≡ length attributes = grind (arith, nat_tests, test) in
-    let first_wide : Wide texts.0 = omega (
+    let as_wide : length first ≡ length attributes = grind (arith, nat_tests, wide) in
+    let first_wide : Wide texts = omega (
       arith,
-      each-length short_text (zip attributes first) texts.0 wide.2,
+      each-length short_text (zip attributes first) texts
+          (Gives-Met (each short_text (zip attributes first)) (Ok texts) short),
       length-zip attributes first,
       as_wide,
     ) in
-    let is : found ≡ texts.0 ∷ more.0 = done-value (texts.0 ∷ more.0) found more.2 in
-    let rest = full_rows-ok attributes (number + 1) others more.0 more.1 in (
+    let rest = full_rows-ok attributes (number + 1) others more are_more in (
       ap length is ∙ ap suc rest.0,
-      subst (All Wide) (sym is) (All-cons Wide texts.0 more.0
-          first_wide rest.1),
+      subst (All Wide) (sym is) (All-cons Wide texts more first_wide rest.1),
     )
 
 module _ (rows : Rows) (valid : AreValid rows) where
@@ -169,7 +160,7 @@ module _ (rows : Rows) (valid : AreValid rows) where
       (UnknownAttr word) place are found) (no-places (length words)) given in
       let as_many : length attributes ≡ length places =
       omega (arith, each_following-length (another_attribute words) attributes [] places given) in
-      let whole = full_rows-ok attributes 1 texts full (Gives-Met (full_rows attributes 1 texts) (Ok full) are_full) in
+      let whole = full_rows-ok attributes 1 texts full are_full in
       let few_it = few-stand which.Regions (region_count rows.regions edition + 1) few in
       subst (IsSoundMaking rows) (sym (is ∙ ap (region_making published) is_row)) (IsSoundMaking-region made (record {
         edition = edition-stands published edition bound binds;

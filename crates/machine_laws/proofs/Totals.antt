@@ -38,13 +38,12 @@ use Rattle.desk_valid.specs.Readings.{width_at}
 use Rattle.desk_valid.specs.Tallies.{is_active}
 use Rattle.desk_valid.specs.Valid.{AreValid}
 use Rattle.machine_core.specs.Answers.{shown_state, state_of}
-use Rattle.machine_core.specs.Checked.{Answer, Checked, ◌>>=◌, done, each, Gives}
+use Rattle.machine_core.specs.Checked.{Answer, Checked, each}
 use Rattle.machine_core.specs.Look.Report.{Assessment, assessment_of, is_abandoned, is_certain_fix, is_committed}
 use Rattle.machine_core.specs.Look.Report.{is_confirmed_cell, is_conflict, is_fixed_cell, is_partial_fix}
 use Rattle.machine_core.specs.Look.Report.{is_uncovered_cell, line_over, report_line, report_of}
 use Rattle.machine_core.specs.Machine.{IsStep, machine}
 use Rattle.machine_core.specs.Own.{own_of}
-use Rattle.machine_core.proofs.Chains.{Gives-bind_ok, done-value}
 use Rattle.machine_core.proofs.Tested.{each-length}
 use Rattle.machine_laws.specs.Sums.{AddsUp, LineAddsUp}
 use Rattle.machine_laws.proofs.Lists.{slice_get-read}
@@ -107,39 +106,24 @@ one-cell (cell.Fixed step) = refl
 
 -- what is found of items of which each is so
 each-all_of : {A B : Type 0} (Q : A → Type 0) (P : B → Type 0) (find : A → Checked B) (items : List A) (found : List B)
-    → All Q items → ((item : A) (value : B) → Q item → Gives (find item) (Ok value) → P value)
-    → Gives (each find items) (Ok found) → All P found
-each-all_of Q P find [] found all holds gives = subst (All P) (sym (done-value [] found gives)) (All-nil P)
-each-all_of Q P find (first ∷ others) found all holds gives =
-    let (here, is_here, rest) =
-    Gives-bind_ok (find first) (λ one. each find others >>= (λ more. done (one ∷ more))) found gives in
-    let (more, are_more, is) = Gives-bind_ok (each find others) (λ more. done (here ∷ more)) found rest in
-    subst (All P) (sym (done-value (here ∷ more) found is)) (All-cons P here more
-    (holds first here (All-head Q first others all) is_here)
+    → All Q items → ((item : A) (value : B) → Q item → Met (find item) (Ok value) → P value)
+    → Met (each find items) (Ok found) → All P found
+each-all_of Q P find [] found all holds is = subst (All P) (sym is) (All-nil P)
+each-all_of Q P find (first ∷ others) found all holds (here, is_here, (more, are_more, is)) =
+    subst (All P) (sym is) (All-cons P here more (holds first here (All-head Q first others all) is_here)
     (each-all_of Q P find others more (All-tail Q first others all) holds are_more))
 
 -- what is found at a place was found of the item there
 each-at : {A B : Type 0} (find : A → Checked B) (items : List A) (found : List B) (place : ℕ) (value : B)
-    → Gives (each find items) (Ok found) → slice_get found place ≡ Some value
-    → (item : A) × (slice_get items place ≡ Some item) × Gives (find item) (Ok value)
-each-at find [] found place value gives there =
-    absurd (let none = ap (λ list. slice_get list place) (sym (done-value [] found gives)) ∙ there in cc)
-each-at {A} {B} find (first ∷ others) found place value gives there =
-    let (here, is_here, rest) =
-    Gives-bind_ok (find first) (λ one. each find others >>= (λ more. done (one ∷ more))) found gives in
-    let (more, are_more, is) = Gives-bind_ok (each find others) (λ more. done (here ∷ more)) found rest in
-    let stands : slice_get (here ∷ more) place ≡ Some value =
-    ap (λ list. slice_get list place) (sym (done-value (here ∷ more) found is)) ∙ there in
-    at_place place here more stands is_here (λ index later. each-at find others more index value are_more later)
-  where
-    at_place : (place : ℕ) (one : B) (more : List B) → slice_get (one ∷ more) place ≡ Some value
-        → Gives (find first) (Ok one)
-        → ((index : ℕ) → slice_get more index ≡ Some value
-        → (item : A) × (slice_get others index ≡ Some item) × Gives (find item) (Ok value))
-        → (item : A) × (slice_get (first ∷ others) place ≡ Some item) × Gives (find item) (Ok value)
-    at_place zero one more stands found_first rest =
-        (first, refl, subst (λ one. Gives (find first) (Ok one)) (same_Some one value stands) found_first)
-    at_place (suc place) one more stands found_first rest = rest place stands
+    → Met (each find items) (Ok found) → slice_get found place ≡ Some value
+    → (item : A) × (slice_get items place ≡ Some item) × Met (find item) (Ok value)
+each-at find [] found place value is there =
+    absurd (let none = ap (λ list. slice_get list place) (sym is) ∙ there in cc)
+each-at find (first ∷ others) found zero value (here, is_here, (more, are_more, is)) there =
+    let same : here ≡ value = same_Some here value (ap (λ list. slice_get list 0) (sym is) ∙ there) in
+    (first, refl, subst (λ one. Met (find first) (Ok one)) same is_here)
+each-at find (first ∷ others) found (suc place) value (here, is_here, (more, are_more, is)) there =
+    each-at find others more place value are_more (ap (λ list. slice_get list (suc place)) (sym is) ∙ there)
 
 -- a session has a flag for each attribute of its edition
 abbrev HasFlags : Published → SessionRow → Type 0
@@ -159,10 +143,9 @@ length-shown bound session answer (Fix certain dissent) =
 length-shown bound session answer Conflict = length-map session.confirmed confirmed_cell
 
 assessment-cells : (published : Published) (edition : ℕ) (session : SessionRow) (assessment : Assessment)
-    → (session.edition ≡ edition) × HasFlags published session → Gives (assessment_of published session) (Ok assessment)
+    → (session.edition ≡ edition) × HasFlags published session → Met (assessment_of published session) (Ok assessment)
     → IfSome (width_at published edition) (λ width. length assessment.cells ≡ width)
-assessment-cells published edition session assessment on gives =
-    let (bound, binds, (answer, answers, is)) = Met-Gives (assessment_of published session) (Ok assessment) gives in
+assessment-cells published edition session assessment on (bound, binds, (answer, answers, is)) =
     let cells : length assessment.cells ≡ length session.confirmed =
     ap (λ (one : Assessment). length one.cells) is ∙ length-shown bound session answer answer.verdict in
     as_wide (width_at published edition) cells
@@ -202,15 +185,12 @@ line-adds published edition all wide = record {
 
 -- a report over sessions that have their flags adds up
 report-adds : (published : Published) (clerk : Option (List ℕ)) (sessions : List SessionRow) (sheet : ReportSheet)
-    → All (HasFlags published) sessions → Gives (report_of published clerk sessions) (Ok sheet) → AddsUp published sheet
-report-adds published clerk sessions sheet flags gives =
+    → All (HasFlags published) sessions → Met (report_of published clerk sessions) (Ok sheet) → AddsUp published sheet
+report-adds published clerk sessions sheet flags (lines, are, is) =
     let places : List ℕ = range_with_len 0 (length published.editions) in
-    let made : List ReportLine → ReportSheet = λ lines.
-    record { clerk = clerk; lines = lines; total = sum_by (λ line. line.sessions) lines } in
-    let (lines, are, is) =
-    Gives-bind_ok (each (report_line published sessions) places) (λ lines. done (made lines)) sheet gives in
-    subst (AddsUp published) (sym (done-value (made lines) sheet is)) (record {
-      whole = each-length (report_line published sessions) places lines are
+    subst (AddsUp published) (sym is) (record {
+      whole = each-length (report_line published sessions) places lines
+          (Gives-Met (each (report_line published sessions) places) (Ok lines) are)
           ∙ length-range_with_len 0 (length published.editions);
       lines = λ place line stands.
           let found = each-at (report_line published sessions) places lines place line are stands in
@@ -223,27 +203,24 @@ report-adds published clerk sessions sheet flags gives =
           ) in
           let same : found.0 ≡ place = sym (slice_get-read places place found.0 0 found.1)
           ∙ get_or-range_with_len 0 (length published.editions) place 0 within ∙ omega arith in
-          at_edition place line (subst (λ one. Gives (report_line published sessions one) (Ok line)) same found.2);
+          at_edition place line (subst (λ one. Met (report_line published sessions one) (Ok line)) same found.2);
       total = refl;
     })
   where
-    at_edition : (edition : ℕ) (line : ReportLine) → Gives (report_line published sessions edition) (Ok line)
+    at_edition : (edition : ℕ) (line : ReportLine) → Met (report_line published sessions edition) (Ok line)
         → LineAddsUp published edition line
-    at_edition edition line given =
+    at_edition edition line (all, assessed, is) =
         let on : SessionRow → Bool = λ session. session.edition == edition in
         let ones : List SessionRow = filter on sessions in
         let Is : SessionRow → Type 0 = λ session. (session.edition ≡ edition) × HasFlags published session in
         let are : All Is ones = λ index past inside.
         let passes = filter_passes on sessions index past inside in
         (grind (arith, nat_tests, passes), All-filter on (HasFlags published) sessions flags index past inside) in
-        let (all, assessed, is) =
-        Gives-bind_ok (each (assessment_of published) ones) (λ all. done (line_over published edition all)) line given
-        in
         let wide : IfSome (width_at published edition) (λ width. All (λ one. length one.cells ≡ width) all) =
         turned (width_at published edition) all (each-all_of Is (λ one. IfSome (width_at published edition) (λ width.
         length one.cells ≡ width)) (assessment_of published) ones all are (assessment-cells published edition)
         assessed) in
-        subst (LineAddsUp published edition) (sym (done-value (line_over published edition all) line is))
+        subst (LineAddsUp published edition) (sym is)
         (line-adds published edition all wide)
       where
         turned : (found : Option ℕ) (all : List Assessment)
@@ -272,8 +249,7 @@ told-adds : (published : Published) (clerk : Option (List ℕ)) (sessions : List
     → reply.Report sheet ≡ reply.Report report → AddsUp published sheet
 told-adds published clerk sessions report sheet flags reports told =
     let same : report ≡ sheet = cc in
-    subst (AddsUp published) same (report-adds published clerk sessions report flags
-    (Gives-Met (report_of published clerk sessions) (Ok report) reports))
+    subst (AddsUp published) same (report-adds published clerk sessions report flags reports)
 
 -- a clerk's report does, and the desk's
 pub look-adds : (rows : Rows) (name : List ℕ) (sheet : ReportSheet) (changes : List Change) → AreValid rows

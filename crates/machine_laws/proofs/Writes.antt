@@ -20,7 +20,7 @@ use Rattle.desk_words.specs.declared.steward_work.StewardWork.{StewardWork}
 use Rattle.desk_words.specs.Changes.{changed}
 use Rattle.desk_words.specs.Tables.{Published, Rows, new_clerk, published_of}
 use Rattle.desk_valid.proofs.Named.{option_map-Some}
-use Rattle.machine_core.specs.Checked.{done, some_or, Gives, IsFound, run}
+use Rattle.machine_core.specs.Checked.{some_or, Gives, IsFound, run}
 use Rattle.machine_core.specs.Kept.{kept_made, kept_reply}
 use Rattle.machine_core.specs.Machine.{changes_if, clerk_of, clerk_write_at, deed_of, machine, IsStep, answered}
 use Rattle.machine_core.specs.Machine.{making_changes, making_of, steward_write}
@@ -30,9 +30,8 @@ use Rattle.machine_core.specs.declared.deed.Deed.{Deed}
 use Rattle.machine_core.specs.declared.ticket.Use.{Use}
 use Rattle.machine_core.specs.declared.ticket.Use.TheVariants.{Fresh, Repeated}
 use Rattle.machine_core.specs.Ticket.{use_of}
-use Rattle.machine_core.proofs.Chains.{Gives-bind_ok, done-value}
 use Rattle.machine_core.proofs.Tested.{some_or-ok}
-use Rattle.machine_core.proofs.Walks.{Gives-Met, Met-Gives}
+use Rattle.machine_core.proofs.Walks.{Gives-Met, Met, Met-Gives}
 use Rattle.desk_words.specs.declared.refusal.Refusal.{Refusal}
 use Rattle.desk_words.specs.declared.command.Command.{Command}
 
@@ -85,14 +84,11 @@ data IsWrite (published : Published) (own : Own) (work : ClerkWork) : Use → Re
       → IsWrite published own work Fresh answer (Some deed)
 
 write-found : (published : Published) (own : Own) (work : ClerkWork) (turn : Use) (both : Reply × Option Deed)
-    → Gives (clerk_write_at published own work turn) (Ok both) → IsWrite published own work turn both.0 both.1
-write-found published own work Repeated both gives =
-    let (answer, kept, is) = Gives-bind_ok (kept_reply published own own.row.act own.row.target)
-    (λ answer. done (answer, None)) both gives in
-    subst (λ (one : Reply × Option Deed). IsWrite published own work Repeated one.0 one.1)
-    (sym (done-value (answer, None) both is)) (again answer kept)
-write-found published own work Fresh both gives =
-    let (deed, does, (answer, kept, is)) = Met-Gives (clerk_write_at published own work Fresh) (Ok both) gives in
+    → Met (clerk_write_at published own work turn) (Ok both) → IsWrite published own work turn both.0 both.1
+write-found published own work Repeated both (answer, kept, is) =
+    subst (λ (one : Reply × Option Deed). IsWrite published own work Repeated one.0 one.1) (sym is)
+    (again answer (Gives-Met (kept_reply published own own.row.act own.row.target) (Ok answer) kept))
+write-found published own work Fresh both (deed, does, (answer, kept, is)) =
     subst (λ (one : Reply × Option Deed). IsWrite published own work Fresh one.0 one.1) (sym is)
     (anew answer deed (Gives-Met (deed_of published own work) (Ok deed) does)
     (Gives-Met (kept_reply published (after own deed) deed.act deed.target) (Ok answer) kept))
@@ -109,8 +105,7 @@ clerk-written rows name ticket work made gives =
     (sym is) (whole place turn both.0 both.1
     (clerk_of-ok rows.clerks name place (Gives-Met (clerk_of rows.clerks name) (Ok place) is_place))
     (Gives-Met (use_of (own_of rows place).row ticket) (Ok turn) used)
-    (write-found (published_of rows) (own_of rows place) work turn both
-    (Gives-Met (clerk_write_at (published_of rows) (own_of rows place) work turn) (Ok both) at_turn)))
+    (write-found (published_of rows) (own_of rows place) work turn both at_turn))
   where
     whole : (place : ℕ) (turn : Use) (answer : Reply) (deed : Option Deed) → IsPlaceOf rows.clerks name place
         → Gives (use_of (own_of rows place).row ticket) (Ok turn)
@@ -149,38 +144,31 @@ pub record IsStewardsNew (rows : Rows) (ticket : Ticket) (work : StewardWork) (a
 
 -- what the steward's write comes to, at its turn
 steward-found : (rows : Rows) (ticket : Ticket) (work : StewardWork) (turn : Use) (both : Reply × List Change)
-    → Gives (use_of (own_of rows 0).row ticket) (Ok turn) → Gives (steward_write rows ticket work turn) (Ok both)
+    → Gives (use_of (own_of rows 0).row ticket) (Ok turn) → Met (steward_write rows ticket work turn) (Ok both)
     → IsStewardsRepeat rows ticket both.0 both.1 ⊎ IsStewardsNew rows ticket work both.0 both.1
-steward-found rows ticket work Repeated both used gives =
-    let (made, kept, is) = Gives-bind_ok (kept_made rows (own_of rows 0).row.act (own_of rows 0).row.target) (λ made.
-    done (reply.Made made, [])) both gives in
-    let same : both ≡ (reply.Made made, []) = done-value (reply.Made made, []) both is in
-    inl (record {
-      use_made = used;
-      made = made;
-      kept = kept;
-      answered = ap (λ (one : Reply × List Change). one.0) same;
-      unchanged = ap (λ (one : Reply × List Change). one.1) same;
-    })
-steward-found rows ticket work Fresh both used gives =
-    let (making, makes, (made, kept, is)) = Met-Gives (steward_write rows ticket work Fresh) (Ok both) gives in
-    inr (record {
-      use_made = used;
-      making = making;
-      makes = Gives-Met (making_of rows work) (Ok making) makes;
-      made = made;
-      kept = Gives-Met (kept_made (changed rows making.change) making.act making.target) (Ok made) kept;
-      answered = ap (λ (one : Reply × List Change). one.0) is;
-      changed_so = ap (λ (one : Reply × List Change). one.1) is;
-    })
+steward-found rows ticket work Repeated both used (made, kept, is) = inl (record {
+  use_made = used;
+  made = made;
+  kept = Gives-Met (kept_made rows (own_of rows 0).row.act (own_of rows 0).row.target) (Ok made) kept;
+  answered = ap (λ (one : Reply × List Change). one.0) is;
+  unchanged = ap (λ (one : Reply × List Change). one.1) is;
+})
+steward-found rows ticket work Fresh both used (making, makes, (made, kept, is)) = inr (record {
+  use_made = used;
+  making = making;
+  makes = Gives-Met (making_of rows work) (Ok making) makes;
+  made = made;
+  kept = Gives-Met (kept_made (changed rows making.change) making.act making.target) (Ok made) kept;
+  answered = ap (λ (one : Reply × List Change). one.0) is;
+  changed_so = ap (λ (one : Reply × List Change). one.1) is;
+})
 
 pub steward-written : (rows : Rows) (ticket : Ticket) (work : StewardWork) (made : Reply × List Change)
     → Gives (machine rows (Steward ticket work)) (Ok made)
     → IsStewardsRepeat rows ticket made.0 made.1 ⊎ IsStewardsNew rows ticket work made.0 made.1
 steward-written rows ticket work made gives =
-    let (turn, used, at_turn) =
-    Gives-bind_ok (use_of (own_of rows 0).row ticket) (steward_write rows ticket work) made gives in
-    steward-found rows ticket work turn made used at_turn
+    let (turn, used, at_turn) = Met-Gives (machine rows (Steward ticket work)) (Ok made) gives in
+    steward-found rows ticket work turn made (Gives-Met (use_of (own_of rows 0).row ticket) (Ok turn) used) at_turn
 
 -- a look changes nothing
 pub look-unchanged : (rows : Rows) (name : List ℕ) (look : LookOf) (made : Reply × List Change)
