@@ -30,6 +30,7 @@ use Rattle.machine_core.specs.Own.{Own, after, own_of}
 use Rattle.machine_core.specs.declared.ticket.Use.TheVariants.{Fresh, Repeated}
 use Rattle.machine_core.specs.Ticket.{ticketed, use_of, use_at}
 use Rattle.machine_core.proofs.Chains.{Gives-unique, Gives-found}
+use Rattle.machine_core.proofs.Walks.{Gives-Met, Met, Met-Gives}
 use Rattle.machine_laws.specs.Callers.{Caller, asks, clerk, steward}
 use Rattle.machine_laws.proofs.Accepted.{making-sound}
 use Rattle.machine_laws.proofs.Callers.{names_of}
@@ -41,7 +42,6 @@ use Rattle.machine_laws.proofs.Staying.{IsAccepted, IsLonger, after-clerk, after
 use Rattle.machine_laws.proofs.Staying.{names-set, own_of-with_same, step-cases, step-kept, step-longer, with_making}
 use Rattle.machine_laws.proofs.Valid.{good-row, own-rows, with_own}
 use Rattle.machine_laws.proofs.Writes.{clerk_of-ok}
-use Rattle.machine_core.proofs.Walks.{Gives-Met, Met, Met-Gives}
 use Rattle.machine_laws.proofs.More.{AreMore-same}
 
 -- a new number follows the last

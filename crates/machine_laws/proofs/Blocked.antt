@@ -6,16 +6,16 @@ use Rattle.desk_words.specs.declared.command.Command.{Command}
 use Rattle.desk_words.specs.declared.look.Look.TheVariants.{Blocked, Choices}
 use Rattle.desk_words.specs.Tables.{Rows, published_of}
 use Rattle.desk_valid.specs.Valid.{AreValid}
+use Rattle.fix_model.specs.Run.{end_of}
 use Rattle.machine_core.specs.Answers.{state_of}
 use Rattle.machine_core.specs.Look.Blocked.{blocked_at}
 use Rattle.machine_core.specs.Look.Choices.{choices_at}
 use Rattle.machine_core.specs.Own.{Own}
 use Rattle.machine_core.specs.OwnRows.{AreOwnRows}
 use Rattle.machine_core.specs.Causes.{AsksWith, Cause}
+use Rattle.machine_core.specs.Checked.{blocks, decides}
 use Rattle.machine_laws.proofs.Why.{conflict-why, session-named, session-why}
 use Rattle.machine_laws.proofs.Refusals.{HasCauses, causes-asked, causes-bind, causes-certainly, causes-done}
-use Rattle.machine_core.specs.Checked.{blocks, decides}
-use Rattle.fix_model.specs.Run.{end_of}
 use Rattle.machine_laws.proofs.Outcomes.{HasOutcome, outcome-bind, outcome-done}
 use Rattle.machine_laws.proofs.OwnOutcomes.{session-answered, session-blocked}
 use Rattle.machine_laws.proofs.DeedOutcomes.{outcome-found, outcome-not_in_conflict}

@@ -39,17 +39,17 @@ use Rattle.machine_core.specs.Look.View.{view_at}
 use Rattle.machine_core.specs.Machine.{IsStep, clerk_of}
 use Rattle.machine_core.specs.Own.{Own, after, changes_of, own_of, puts}
 use Rattle.machine_core.specs.Views.{edition_at, view_of, view_with}
+use Rattle.machine_core.specs.Look.{look_reply}
 use Rattle.machine_core.proofs.Chains.{Gives-bind, Gives-unique}
-use Rattle.machine_laws.specs.Carries.{CarriesOne, IsCarried, row_after}
 use Rattle.machine_core.proofs.Commands.{IsCarryOf, carry_row-ok}
+use Rattle.machine_core.proofs.Walks.{Gives-Met, Met-Gives}
+use Rattle.machine_laws.specs.Carries.{CarriesOne, IsCarried, row_after}
 use Rattle.machine_laws.proofs.Deeds.{changed-caller, put-within}
 use Rattle.machine_laws.proofs.Isolating.{write-cases}
 use Rattle.machine_laws.proofs.Lists.{slice_get-set_same}
 use Rattle.machine_laws.proofs.Sessions.{session_at-found, IsActiveAt-session}
 use Rattle.machine_laws.proofs.Told.{look-told, told-again}
 use Rattle.machine_laws.proofs.Writes.{IsNew}
-use Rattle.machine_core.proofs.Walks.{Gives-Met, Met-Gives}
-use Rattle.machine_core.specs.Look.{look_reply}
 
 -- an edition stands under the name and the version by which it was found
 edition-named : (published : Published) (name : List ℕ) (version place : ℕ)

@@ -1,8 +1,8 @@
 -- A check tells what publishing the same next is answered.
 use Rattle.std.proofs.Common.{◌≡◌, ◌∙◌, ℕ, ◌+◌, List, map, refl, sym, ap, subst, inl, inr, Option, Some, None}
 use Rattle.std.specs.Prelude.{Result, Ok, Err}
-use Rattle.desk_base.proofs.Lists.{slice_get-end}
 use Rattle.std.proofs.lemmas.Option.{same_Some}
+use Rattle.desk_base.proofs.Lists.{slice_get-end}
 use Rattle.desk_words.specs.declared.change.Change.{Change}
 use Rattle.desk_words.specs.declared.change.Change.TheVariants as change
 use Rattle.desk_words.specs.declared.command.Command.TheVariants.{Steward}
@@ -53,8 +53,8 @@ use Rattle.machine_core.proofs.Chains.{Gives-bind, Gives-bind_err, Gives-bind_ok
 use Rattle.machine_core.proofs.Chains.{Gives-unique, done-not_refused, Gives-same}
 use Rattle.machine_core.proofs.Trying.{tried-gives}
 use Rattle.machine_core.proofs.Walks.{Gives-Met, Met, Met-Gives}
-use Rattle.machine_laws.proofs.Makings.{edition_making, master_making, rulebook_making, schema_making}
 use Rattle.machine_laws.specs.Checking.{IsToldBy, TellsPublishing, made_for, publishing_next}
+use Rattle.machine_laws.proofs.Makings.{edition_making, master_making, rulebook_making, schema_making}
 use Rattle.machine_laws.proofs.Tried.{edition-binds, outcome-fits, rulebook-reads}
 use Rattle.machine_laws.proofs.DeskLooks.{desk-answered}
 use Rattle.machine_laws.proofs.RowByRow.{use-next}

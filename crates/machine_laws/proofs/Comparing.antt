@@ -26,8 +26,8 @@ use Rattle.machine_core.specs.Own.{Own}
 use Rattle.machine_core.specs.Views.{view_cell, view_with}
 use Rattle.machine_core.proofs.EditionWords.{words-apart}
 use Rattle.machine_core.proofs.Widths.{kit-width}
-use Rattle.machine_laws.proofs.Lists.{slice_get-there}
 use Rattle.machine_core.proofs.Walks.{Met}
+use Rattle.machine_laws.proofs.Lists.{slice_get-there}
 
 -- whether two values came to be alike
 decide_shown : (one other : Shown) → Decided (one ≡ other)

@@ -12,6 +12,8 @@ use Rattle.desk_words.specs.declared.rows.session.SessionRow.{SessionRow}
 use Rattle.desk_words.specs.Tables.{Rows, published_of}
 use Rattle.desk_valid.specs.Readings.{width_at}
 use Rattle.desk_valid.specs.Valid.{AreValid}
+use Rattle.desk_valid.specs.Bindings.{bound_at}
+use Rattle.desk_valid.specs.declared.bound.Bound.{Bound}
 use Rattle.fix_engine.specs.declared.verdict.Verdict.{Verdict}
 use Rattle.fix_engine.specs.declared.verdict.Verdict.TheVariants.{Fix, Conflict}
 use Rattle.fix_model.specs.States.{uncovered_count}
@@ -30,14 +32,12 @@ use Rattle.machine_core.specs.Views.{edition_at}
 use Rattle.machine_core.proofs.Carried.{carried-stands}
 use Rattle.machine_core.proofs.Widths.{length-confirmed_at, length-typed_over}
 use Rattle.machine_core.proofs.Commands.{carry_row-ok}
+use Rattle.machine_core.proofs.Walks.{Gives-Met, Met}
 use Rattle.machine_laws.proofs.Makings.{place_of-within}
 use Rattle.machine_laws.proofs.Outcomes.{HasOutcome, outcome-all, outcome-following, outcome-bind, outcome-done}
 use Rattle.machine_laws.proofs.Outcomes.{outcome-refused, outcome-some_or, outcome-unless, outcome-value_or}
 use Rattle.machine_laws.proofs.Outcomes.{plain_tests}
 use Rattle.machine_laws.proofs.OwnOutcomes.{found-of, outcome-bound, session-answered}
-use Rattle.desk_valid.specs.Bindings.{bound_at}
-use Rattle.desk_valid.specs.declared.bound.Bound.{Bound}
-use Rattle.machine_core.proofs.Walks.{Gives-Met, Met}
 
 -- a fix, or a conflict
 pub outcome-not_in_conflict : (verdict : Verdict) → HasOutcome (not_in_conflict verdict)

@@ -16,6 +16,7 @@ use Rattle.desk_words.specs.declared.reply.Reply.TheVariants as reply
 use Rattle.desk_words.specs.declared.rows.region.RegionRow.{RegionRow}
 use Rattle.desk_words.specs.declared.steward_work.StewardWork.TheVariants.{AddDerived}
 use Rattle.desk_words.specs.Tables.{Published, Rows, published_of}
+use Rattle.desk_words.specs.declared.command.Command.{Command}
 use Rattle.desk_valid.specs.declared.bound.Bound.{Bound}
 use Rattle.desk_valid.specs.Valid.{AreValid}
 use Rattle.master_rows.specs.declared.master.Master.{Master}
@@ -29,13 +30,12 @@ use Rattle.machine_core.specs.Steward.AddDerived.{derived_region, region_from}
 use Rattle.machine_core.specs.Steward.AddEdition.{master_name}
 use Rattle.machine_core.specs.Views.{edition_at, name_at}
 use Rattle.machine_core.proofs.Deriving.{derivation-derivable}
+use Rattle.machine_core.proofs.Walks.{Met, Met-Gives, Gives-Met}
 use Rattle.machine_laws.specs.Derivations.{AddsDerived, AreGiven, IsAskedOf, IsDerivedSheet}
 use Rattle.machine_laws.proofs.DerivedRegions.{derived_region-found}
 use Rattle.machine_laws.proofs.DerivingWhy.{pair-words}
 use Rattle.machine_laws.proofs.Lists.{find-Some}
 use Rattle.machine_laws.proofs.Told.{step-told}
-use Rattle.machine_core.proofs.Walks.{Met, Met-Gives, Gives-Met}
-use Rattle.desk_words.specs.declared.command.Command.{Command}
 use Rattle.machine_laws.proofs.Writes.{steward-cases}
 use Rattle.machine_laws.proofs.Makings.{region_making}
 

@@ -18,10 +18,10 @@ use Rattle.machine_core.specs.Steward.AddDerived.{derived_region, region_from}
 use Rattle.machine_core.specs.Steward.AddRegion.{region_count}
 use Rattle.machine_core.proofs.Deriving.{derivation-made, derived_rows-full}
 use Rattle.machine_core.proofs.Widths.{edition-stands, width-bound}
-use Rattle.machine_laws.proofs.Makings.{IsSoundMaking, region_making}
-use Rattle.machine_laws.proofs.Regions.{IsSoundMaking-region}
 use Rattle.machine_core.proofs.Walks.{Met-Gives, Gives-Met}
 use Rattle.machine_core.proofs.Commands.{few-stand}
+use Rattle.machine_laws.proofs.Makings.{IsSoundMaking, region_making}
+use Rattle.machine_laws.proofs.Regions.{IsSoundMaking-region}
 
 -- what the tests of an AddDerived found, and the region after them
 pub record IsRegionOfDerived (published : Published) (name : List ℕ) (version : ℕ) (master : List ℕ)

@@ -5,6 +5,7 @@ use Rattle.std.specs.Prelude.{◌==◌, All, Contains, Ok, find}
 use Rattle.std.specs.Str.{bytes_eq}
 use Rattle.std.proofs.lemmas.List.Elements.{All-weaker}
 use Rattle.std.proofs.lemmas.Slice.Eq.{bytes_eq-Decides}
+use Rattle.std.proofs.lemmas.Bool.Decides.{nat_tests}
 use Rattle.desk_words.specs.declared.command.Command.{Command}
 use Rattle.desk_words.specs.declared.refusal.Kind.TheVariants as kind
 use Rattle.desk_words.specs.declared.refusal.Refusal.{Refusal}
@@ -19,14 +20,13 @@ use Rattle.machine_core.specs.Deriving.{another_pair, derivation_of, derived_row
 use Rattle.machine_core.specs.Named.{attributes_in, columns_in, master_in, version_in}
 use Rattle.machine_core.specs.Steward.AddEdition.{master_name}
 use Rattle.machine_core.specs.Views.{edition_at}
+use Rattle.machine_core.proofs.Walks.{Met}
+use Rattle.machine_core.proofs.Tested.{IsRefusedAt}
 use Rattle.machine_laws.proofs.Lists.{find-None}
 use Rattle.machine_laws.proofs.Why.{edition-words, version-why}
 use Rattle.machine_laws.proofs.Refusals.{HasCauses, causes-asked, causes-bind, causes-certainly, causes-done}
 use Rattle.machine_laws.proofs.Refusals.{causes-following, causes-some_or, causes-unless, not-both}
 use Rattle.machine_laws.proofs.Twice.{another, another-word, placed-twice, any-taken, named-there, none-equal}
-use Rattle.machine_core.proofs.Walks.{Met}
-use Rattle.std.proofs.lemmas.Bool.Decides.{nat_tests}
-use Rattle.machine_core.proofs.Tested.{IsRefusedAt}
 
 -- an image is the image of an item
 image-of : {A B : Type 0} (image : A → B) (items : List A) (found : B) → Contains (map image items) found

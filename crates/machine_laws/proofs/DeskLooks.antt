@@ -17,9 +17,9 @@ use Rattle.desk_words.specs.declared.refusal.Refusal.TheVariants.{NoSuch}
 use Rattle.desk_words.specs.declared.reply.Reply.{Reply}
 use Rattle.desk_words.specs.Tables.{Rows, published_of}
 use Rattle.desk_valid.specs.Valid.{AreValid}
-use Rattle.machine_core.specs.Causes.{Cause}
 use Rattle.fix_model.specs.Regions.{row_state}
 use Rattle.fix_engine.proofs.Lists.{Contains-first}
+use Rattle.machine_core.specs.Causes.{Cause}
 use Rattle.machine_core.specs.Checked.{Checked, Gives, done, run, contradicts, decides}
 use Rattle.machine_core.specs.DeskLook.{desk_reply}
 use Rattle.machine_core.specs.DeskLook.Bodies.{body_at, body_of}

@@ -22,10 +22,10 @@ use Rattle.machine_core.specs.Steward.AddEdition.{AreOthers, another_master, bin
 use Rattle.machine_core.proofs.InOrder.{AreFolded-in_order}
 use Rattle.machine_core.proofs.Masters.{another-master}
 use Rattle.machine_core.proofs.Tested.{each_following-all, each_following-length}
-use Rattle.machine_laws.proofs.Makings.{IsSoundMaking, IsVersion-next, place_of-within, IsSoundMaking-published}
-use Rattle.machine_laws.proofs.Makings.{edition_making}
 use Rattle.machine_core.proofs.Walks.{Met-Gives, Gives-Met}
 use Rattle.machine_core.proofs.Commands.{few-stand}
+use Rattle.machine_laws.proofs.Makings.{IsSoundMaking, IsVersion-next, place_of-within, IsSoundMaking-published}
+use Rattle.machine_laws.proofs.Makings.{edition_making}
 
 module _ (rows : Rows) (valid : AreValid rows) where
   -- what it binds to is bounded

@@ -23,6 +23,7 @@ use Rattle.machine_core.specs.OwnRows.{HasOwnTarget}
 use Rattle.machine_core.specs.declared.ticket.Use.{Use}
 use Rattle.machine_core.specs.declared.ticket.Use.TheVariants.{Fresh, Repeated}
 use Rattle.machine_core.specs.Ticket.{IsNumbered, use_of, use_at}
+use Rattle.machine_core.proofs.Walks.{Gives-Met, Met, Met-Gives}
 use Rattle.machine_laws.proofs.Accepted.{deed-sound, making-sound}
 use Rattle.machine_laws.proofs.Callers.{IsDone}
 use Rattle.machine_laws.proofs.DeedOutcomes.{outcome-deed}
@@ -34,7 +35,6 @@ use Rattle.machine_laws.proofs.Outcomes.{outcome-some_or}
 use Rattle.machine_laws.proofs.OwnOutcomes.{outcome-kept}
 use Rattle.machine_laws.proofs.Valid.{good-row, own-rows}
 use Rattle.machine_laws.proofs.Writes.{IsPlaceOf, clerk_of-ok}
-use Rattle.machine_core.proofs.Walks.{Gives-Met, Met, Met-Gives}
 
 -- the number of a request is the last one, or follows it, or it is refused
 outcome-use : (row : ClerkRow) (ticket : Ticket) → HasOutcome (use_of row ticket)

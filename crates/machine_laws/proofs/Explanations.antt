@@ -1,6 +1,5 @@
 -- Why a run fixes an attribute is always told.
-use Rattle.std.proofs.Common.{◌≡◌, ◌+◌, ℕ, zero, suc, List, [], ◌∷◌, ◌++◌, inl, inr, refl, subst, sym, arith}
-use Rattle.std.specs.Prelude.{Ok}
+use Rattle.std.proofs.Common.{◌≡◌, ◌+◌, ℕ, zero, suc, List, [], ◌∷◌, ◌++◌, inl, inr, refl, subst, arith}
 use Rattle.std.proofs.lemmas.Bool.{cases_eq}
 use Rattle.fix_model.specs.declared.kit.Kit.{Kit}
 use Rattle.fix_model.specs.declared.pattern.Pat.{Pat}
@@ -11,18 +10,16 @@ use Rattle.fix_model.specs.Rules.{rule_at}
 use Rattle.fix_model.specs.Run.{IsFinal, IsRun, end_of}
 use Rattle.fix_model.specs.States.{Fits, cell_at}
 use Rattle.fix_model.specs.Valid.{IsValid}
-use Rattle.fix_model.proofs.Deciding.{Decided, both}
+use Rattle.fix_model.proofs.Deciding.{Decided, both, decide_any}
 use Rattle.fix_engine.specs.declared.verdict.Verdict.{Verdict}
 use Rattle.fix_engine.specs.declared.verdict.Verdict.TheVariants.{Fix, Conflict}
 use Rattle.fix_engine.specs.Verdicts.{IsAnswer}
 use Rattle.fix_explain.specs.Reasons.{IsFixed}
 use Rattle.fix_explain.specs.Uses.{IsUse, Reads}
-use Rattle.fix_model.proofs.Deciding.{decide_any}
 use Rattle.fix_explain.proofs.Finding.{IsReason-exists}
 use Rattle.fix_engine.proofs.Listing.{ListsBelow, ListsBelow-nil, ListsBelow-no, ListsBelow-yes}
 use Rattle.fix_explain.proofs.Used.{AreUses-listed}
-use Rattle.machine_core.specs.Checked.{Answer, Explanation, IsExplanation, answer_for, Gives}
-use Rattle.machine_core.proofs.Chains.{done-value}
+use Rattle.machine_core.specs.Checked.{Explanation, IsExplanation}
 use Rattle.machine_laws.proofs.Decisions.{decide_confirmed}
 
 -- whether a rule reads an attribute
@@ -76,14 +73,6 @@ some-explanation kit state run attribute valid fits runs fixed =
       record { steps = reason.0; uses = uses.0 },
       record { reason = reason.1; uses = AreUses-listed kit state fits reason.0 uses.0 uses.1 },
     )
-
--- the answer to a question to the engine is one
-pub answer-given : (kit : Kit) (state : State) (answer : Answer) → Gives (answer_for kit state) (Ok answer)
-    → IsAnswer kit state answer.first answer.second answer.verdict
-answer-given kit state answer gives =
-    subst (λ (one : Answer). IsAnswer kit state one.first one.second one.verdict)
-    (sym (done-value gives.0 answer gives.2))
-    gives.1
 
 -- whatever the answer is, nothing fires at the end of its first run
 pub answer-ended : (kit : Kit) (state : State) (first second : List Step) (verdict : Verdict)

@@ -32,6 +32,7 @@ use Rattle.machine_core.specs.Ticket.{ticketed, use_of}
 use Rattle.machine_core.specs.Kept.{kept_reply}
 use Rattle.machine_core.proofs.Chains.{Gives-bind, Gives-bind_refused, Gives-same, Gives-unique, and_then-assoc}
 use Rattle.machine_core.proofs.Chains.{Gives-found}
+use Rattle.machine_core.proofs.Walks.{Gives-Met, Met-Gives}
 use Rattle.machine_laws.specs.Alike.{LookAlike}
 use Rattle.machine_laws.specs.Callers.{clerk, own_by, place_of}
 use Rattle.machine_laws.proofs.Callers.{names_of}
@@ -40,7 +41,6 @@ use Rattle.machine_laws.proofs.Names.{clerk_of-same}
 use Rattle.machine_laws.proofs.Staying.{after-clerk, chain-done, names-set, own_of-with_same, step-kept}
 use Rattle.machine_laws.proofs.Valid.{with_own}
 use Rattle.machine_laws.proofs.Writes.{IsNew, IsPlaceOf, clerk-written, clerk_of-ok, step-holds}
-use Rattle.machine_core.proofs.Walks.{Gives-Met, Met-Gives}
 
 -- the reply alone
 abbrev replied : {C : Type 0} → Checked (Reply × C) → Checked Reply

@@ -19,6 +19,7 @@ use Rattle.machine_core.specs.Look.Report.{assessment_of, report_of}
 use Rattle.machine_core.specs.Look.Suggest.{regions_of}
 use Rattle.machine_core.specs.Own.{Own}
 use Rattle.machine_core.specs.OwnRows.{AreOwnRows}
+use Rattle.machine_core.specs.Answers.{state_of}
 use Rattle.machine_laws.proofs.Blocked.{blocked_at-why, choices_at-why, outcome-blocked, outcome-choices}
 use Rattle.machine_laws.proofs.Comparing.{view_at-apart}
 use Rattle.machine_laws.proofs.DeedOutcomes.{carried-of, confirmed-of, outcome-active, outcome-carry, outcome-confirm}
@@ -30,7 +31,6 @@ use Rattle.machine_laws.proofs.OwnOutcomes.{session-advised, sessions-of}
 use Rattle.machine_laws.proofs.Why.{active-why, carry_row-why, confirm-why, version-why, view-why, view_at-why}
 use Rattle.machine_laws.proofs.Refusals.{HasCauses, causes-asked, causes-bind, causes-certainly, causes-done}
 use Rattle.machine_laws.proofs.Refusals.{causes-each}
-use Rattle.machine_core.specs.Answers.{state_of}
 
 -- what comes to a result is told
 pub outcome-told : {A : Type 0} {found : Checked A} {as_reply : A → Reply} → HasOutcome found

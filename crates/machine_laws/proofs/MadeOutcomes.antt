@@ -39,9 +39,9 @@ use Rattle.machine_core.proofs.Deriving.{derivation-derivable}
 use Rattle.machine_core.proofs.Masters.{another-master}
 use Rattle.machine_core.proofs.Tested.{each_following-all}
 use Rattle.machine_core.proofs.Widths.{edition-stands, named-kit}
+use Rattle.machine_core.proofs.Walks.{Gives-Met, Met}
 use Rattle.machine_laws.proofs.Callers.{IsDone}
 use Rattle.machine_laws.proofs.DeedOutcomes.{outcome-version}
-use Rattle.machine_core.proofs.Walks.{Gives-Met, Met}
 use Rattle.machine_laws.proofs.Lists.{find-Some, slice_get-read, slice_get-there}
 use Rattle.machine_laws.proofs.Makings.{place_of-within}
 use Rattle.machine_laws.proofs.Outcomes.{HasOutcome, outcome-all, outcome-answer, outcome-following, outcome-bind}

@@ -19,6 +19,9 @@ use Rattle.desk_words.specs.declared.steward_work.StewardWork.TheVariants.{AddCl
 use Rattle.desk_words.specs.Changes.{Fits, changed}
 use Rattle.desk_words.specs.Tables.{AreTables, Published, Rows, new_clerk, published_of}
 use Rattle.desk_words.proofs.Changes.{AreTables-changed, put-end, with_clerk-end}
+use Rattle.desk_words.specs.declared.change.Change.{Change}
+use Rattle.desk_words.specs.declared.rows.edition.EditionRow.{EditionRow}
+use Rattle.desk_words.specs.declared.rows.region.RegionRow.{RegionRow}
 use Rattle.desk_valid.specs.Readings.{read, rules_over}
 use Rattle.desk_valid.specs.Rows.Clerk.{IsClerkRow, HasTarget, IsStewardsAct}
 use Rattle.desk_valid.specs.Rows.Master.{IsMasterRow}
@@ -26,6 +29,8 @@ use Rattle.desk_valid.specs.Rows.Rulebook.{IsRulebookRow}
 use Rattle.desk_valid.specs.Rows.Schema.{IsSchemaRow}
 use Rattle.desk_valid.specs.Valid.{AreValid}
 use Rattle.desk_valid.specs.Versions.{IsVersion}
+use Rattle.desk_valid.specs.Rows.Edition.{IsEditionRow}
+use Rattle.desk_valid.specs.Rows.Region.{IsRegionRow}
 use Rattle.machine_core.specs.Checked.{Gives}
 use Rattle.machine_core.specs.Finding.{next_version, place_of}
 use Rattle.machine_core.specs.Limits.{within}
@@ -33,16 +38,11 @@ use Rattle.machine_core.specs.Machine.{making_of}
 use Rattle.machine_core.specs.declared.making.Making.{Making}
 use Rattle.machine_core.specs.Own.{Own, own_of}
 use Rattle.machine_core.proofs.Masters.{not-any}
-use Rattle.machine_laws.proofs.Callers.{IsDone, IsDone-steward, names_of}
-use Rattle.desk_words.specs.declared.change.Change.{Change}
-use Rattle.desk_words.specs.declared.rows.edition.EditionRow.{EditionRow}
-use Rattle.desk_words.specs.declared.rows.region.RegionRow.{RegionRow}
-use Rattle.desk_valid.specs.Rows.Edition.{IsEditionRow}
-use Rattle.desk_valid.specs.Rows.Region.{IsRegionRow}
-use Rattle.machine_laws.proofs.Lists.{Begins, Begins-same, list_at-push, nothing-following, pushed}
-use Rattle.machine_laws.proofs.Valid.{AreValid-new, AreValid-published, with_new, with_published}
 use Rattle.machine_core.proofs.Walks.{Met-Gives}
 use Rattle.machine_core.proofs.Commands.{few-stand}
+use Rattle.machine_laws.proofs.Callers.{IsDone, IsDone-steward, names_of}
+use Rattle.machine_laws.proofs.Lists.{Begins, Begins-same, list_at-push, nothing-following, pushed}
+use Rattle.machine_laws.proofs.Valid.{AreValid-new, AreValid-published, with_new, with_published}
 use Rattle.machine_laws.proofs.More.{AreMore-changed}
 
 -- what is a new clerk's own

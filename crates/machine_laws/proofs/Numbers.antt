@@ -19,11 +19,11 @@ use Rattle.machine_core.specs.Machine.{IsStep, answered, clerk_of, machine, stew
 use Rattle.machine_core.specs.Own.{Own, own_of}
 use Rattle.machine_core.specs.Ticket.{use_of}
 use Rattle.machine_core.proofs.Chains.{Gives-bind_refused, Gives-unique, Gives-found, Gives-IsRefused}
+use Rattle.machine_core.proofs.Walks.{Gives-Met, Met-Gives}
 use Rattle.machine_laws.specs.Callers.{Caller, asks, clerk, number_of, place_of, steward}
 use Rattle.machine_laws.specs.Events.{Event, has_changes, is_accepted, is_write_of}
 use Rattle.machine_laws.proofs.Again.{use-fresh, use-stale}
 use Rattle.machine_laws.proofs.Staying.{IsLonger, IsTicketed, place_of-begins, step-kept, step-longer, step-ticketed}
-use Rattle.machine_core.proofs.Walks.{Gives-Met, Met-Gives}
 
 -- there are changes, or none
 pub has_changes-none : (changes : List Change) → has_changes changes ≡ false → changes ≡ []

@@ -19,6 +19,7 @@ use Rattle.fix_model.specs.Run.{end_of}
 use Rattle.fix_model.specs.States.{Fits}
 use Rattle.fix_model.specs.Valid.{IsValid}
 use Rattle.fix_model.proofs.States.{Fits-confirmed}
+use Rattle.fix_engine.specs.Verdicts.{IsAnswer}
 use Rattle.machine_core.specs.Answers.{state_of}
 use Rattle.machine_core.specs.Checked.{Answer, advice_for, answer_for, blockers_for, certainly, explanation_for}
 use Rattle.machine_core.specs.Finding.{session_at}
@@ -32,7 +33,6 @@ use Rattle.machine_core.specs.Views.{view_of}
 use Rattle.machine_core.proofs.Widths.{kit-width, named-kit, width-bound}
 use Rattle.machine_laws.proofs.Explanations.{answer-ended, answer-run}
 use Rattle.machine_laws.proofs.Lists.{slice_get-there}
-use Rattle.fix_engine.specs.Verdicts.{IsAnswer}
 use Rattle.machine_laws.proofs.Outcomes.{HasOutcome, outcome-advice, outcome-answer, outcome-bind, outcome-blockers}
 use Rattle.machine_laws.proofs.Outcomes.{outcome-certainly, outcome-done, outcome-each, outcome-all}
 use Rattle.machine_laws.proofs.Outcomes.{outcome-explanation, outcome-some_or, there-and}

@@ -35,9 +35,11 @@ use Rattle.machine_core.specs.Own.{Own, after, own_of}
 use Rattle.machine_core.specs.declared.ticket.Use.{Use}
 use Rattle.machine_core.specs.declared.ticket.Use.TheVariants.{Fresh, Repeated}
 use Rattle.machine_core.specs.Ticket.{use_of, use_at}
+use Rattle.machine_core.specs.OwnRows.{HasOwnTarget}
+use Rattle.machine_core.specs.Named.{clerk_in}
 use Rattle.machine_core.proofs.DeskLooks.{desk-found}
 use Rattle.machine_core.proofs.Looks.{look-found}
-use Rattle.machine_core.specs.OwnRows.{HasOwnTarget}
+use Rattle.machine_core.proofs.Walks.{Gives-Met, Met-Gives}
 use Rattle.machine_laws.proofs.Accepted.{deed-sound}
 use Rattle.machine_laws.proofs.DeskLooks.{desk-why}
 use Rattle.machine_laws.proofs.Lists.{slice_get-there}
@@ -50,8 +52,6 @@ use Rattle.machine_laws.proofs.Why.{deed-why, view-why}
 use Rattle.machine_laws.proofs.Refusals.{HasCauses, causes-asked, causes-bind, causes-certainly, causes-done}
 use Rattle.machine_laws.proofs.Refusals.{causes-each, causes-never, causes-some_or, causes-unless, never_refused}
 use Rattle.machine_laws.proofs.Refusals.{not-both}
-use Rattle.machine_core.specs.Named.{clerk_in}
-use Rattle.machine_core.proofs.Walks.{Gives-Met, Met-Gives}
 use Rattle.machine_laws.proofs.Writes.{IsPlaceOf, clerk-written, clerk_of-ok, steward-written, step-holds, IsPlaceOf}
 
 -- a session whose place is within the list is there

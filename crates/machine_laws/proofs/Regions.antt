@@ -17,6 +17,7 @@ use Rattle.desk_words.specs.declared.steward_work.StewardWork.TheVariants.{AddRe
 use Rattle.desk_words.specs.Tables.{Published, Rows, published_of}
 use Rattle.desk_valid.specs.Rows.Region.{IsRegionRow}
 use Rattle.desk_valid.specs.Valid.{AreValid}
+use Rattle.desk_valid.proofs.Few.{editions-few}
 use Rattle.machine_core.specs.Checked.{each, each_following, Gives}
 use Rattle.machine_core.specs.Limits.{within}
 use Rattle.machine_core.specs.Machine.{making_of}
@@ -25,13 +26,12 @@ use Rattle.machine_core.specs.Steward.AddRegion.{full_rows, region_count, short_
 use Rattle.machine_core.specs.Tests.{another_attribute}
 use Rattle.machine_core.proofs.Distinct.{AreDistinct, another-place, no-places}
 use Rattle.machine_core.proofs.Tested.{each-length, each_following-all, each_following-length}
-use Rattle.machine_laws.proofs.Lists.{slice_get-read, slice_get-there}
-use Rattle.machine_laws.proofs.Makings.{IsGoodNew, IsSoundMaking, IsSoundMaking-published, region_making}
-use Rattle.machine_laws.proofs.Sessions.{distinct-below}
 use Rattle.machine_core.proofs.Widths.{edition-stands, width-bound}
 use Rattle.machine_core.proofs.Walks.{Met, Met-Gives, Gives-Met}
 use Rattle.machine_core.proofs.Commands.{few-stand}
-use Rattle.desk_valid.proofs.Few.{editions-few}
+use Rattle.machine_laws.proofs.Lists.{slice_get-read, slice_get-there}
+use Rattle.machine_laws.proofs.Makings.{IsGoodNew, IsSoundMaking, IsSoundMaking-published, region_making}
+use Rattle.machine_laws.proofs.Sessions.{distinct-below}
 
 -- each row has a text for each attribute, and there are as many as were given
 full_rows-ok : (attributes : List (List ℕ)) (number : ℕ) (rows found : List (List (List ℕ)))

@@ -47,6 +47,8 @@ use Rattle.machine_core.specs.Tests.{attribute_of, typed_cell}
 use Rattle.machine_core.specs.Ticket.{use_of}
 use Rattle.machine_core.specs.declared.ticket.Use.TheVariants.{Fresh}
 use Rattle.machine_core.proofs.Chains.{done-value}
+use Rattle.machine_core.proofs.Commands.{batch_sessions, enter_batch-ok}
+use Rattle.machine_core.proofs.Walks.{Gives-Met, Met-Gives}
 use Rattle.machine_laws.specs.Callers.{clerk, own_by, place_of}
 use Rattle.machine_laws.specs.Events.{AreAnswered, Event, tables_after}
 use Rattle.machine_laws.specs.OneByOne.{EnterAll, IsOneByOne, cells_of, is_vouched, single, vouched}
@@ -59,8 +61,6 @@ use Rattle.machine_laws.proofs.Refusing.{kept-why, session-own}
 use Rattle.machine_laws.proofs.Refusals.{HasCauses, causes-bind, causes-done}
 use Rattle.machine_laws.proofs.Staying.{chain-done}
 use Rattle.machine_laws.proofs.Writes.{IsNew, IsPlaceOf, clerk_of-ok}
-use Rattle.machine_core.proofs.Commands.{batch_sessions, enter_batch-ok}
-use Rattle.machine_core.proofs.Walks.{Gives-Met, Met-Gives}
 
 -- a test that is known to pass
 within-done : (which : Which) (count : ℕ) → count ≤ limit_of which → IsFound (within which count) tt

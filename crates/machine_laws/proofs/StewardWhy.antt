@@ -24,6 +24,7 @@ use Rattle.desk_words.specs.declared.steward_work.StewardWork.TheVariants.{AddEd
 use Rattle.desk_words.specs.Tables.{Published, Rows, published_of}
 use Rattle.desk_valid.specs.Bindings.{binding}
 use Rattle.desk_valid.specs.Readings.{all_of}
+use Rattle.desk_valid.specs.declared.parts.Parts.{Parts}
 use Rattle.machine_core.specs.Causes.{AreWords, Cause, IsAbout, RefusesBody}
 use Rattle.machine_core.specs.Checked.{each_following, Checked}
 use Rattle.machine_core.specs.Faults.{bind_refusal}
@@ -39,16 +40,15 @@ use Rattle.machine_core.specs.Steward.AddRegion.{full_rows, region_row}
 use Rattle.machine_core.specs.Steward.AddRulebook.{rulebook_row}
 use Rattle.machine_core.specs.Steward.AddSchema.{schema_row}
 use Rattle.machine_core.specs.Tests.{another_attribute, proper_name}
+use Rattle.machine_core.specs.Named.{attributes_in, new_name_in}
 use Rattle.machine_core.proofs.Masters.{master-named}
+use Rattle.machine_core.proofs.Walks.{Met, Gives-Met}
 use Rattle.machine_laws.proofs.Derived.{IsAskedOf-found}
 use Rattle.machine_laws.proofs.DerivingWhy.{derivation-why, derived_rows-why}
 use Rattle.machine_laws.proofs.Why.{edition-words, limit-why, sheet-why, version-why, word-why}
 use Rattle.machine_laws.proofs.Refusals.{HasCauses, causes-bind, causes-certainly, causes-done, causes-each}
 use Rattle.machine_laws.proofs.Refusals.{causes-following, causes-some_or, causes-unless, causes-value_or, not-both}
 use Rattle.machine_laws.proofs.Twice.{Contains-between, another-word, any-taken, free-why, named-there, named-twice}
-use Rattle.machine_core.proofs.Walks.{Met, Gives-Met}
-use Rattle.desk_valid.specs.declared.parts.Parts.{Parts}
-use Rattle.machine_core.specs.Named.{attributes_in, new_name_in}
 use Rattle.machine_laws.proofs.Wrong.{bind-why, rules-why, schema-why}
 
 -- the places of masters that are found

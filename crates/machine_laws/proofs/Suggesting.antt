@@ -16,12 +16,12 @@ use Rattle.fix_model.proofs.Lengths.{Fits-end_of}
 use Rattle.fix_engine.specs.declared.verdict.Verdict.{Verdict}
 use Rattle.fix_engine.specs.declared.verdict.Verdict.TheVariants.{Fix, Conflict}
 use Rattle.fix_engine.specs.Verdicts.{IsAnswer}
+use Rattle.fix_engine.proofs.Rows.{Fits-row}
 use Rattle.region_suggest.specs.declared.suggestion.Suggestion.{Suggestion}
 use Rattle.region_suggest.specs.Offers.{AreOffers, HoldsConfirmed, IsOffer, IsPlace, ListsExactly, attributes_at}
 use Rattle.region_suggest.specs.Offers.{region_at, texts_at}
 use Rattle.region_suggest.specs.Suggestions.{IsSuggestion}
 use Rattle.region_suggest.proofs.Pairs.{ListsExactly-none, ListsExactly-push, ListsExactly-same}
-use Rattle.fix_engine.proofs.Rows.{Fits-row}
 use Rattle.region_suggest.proofs.Wider.{IsCovered-within, decide_listed}
 use Rattle.machine_laws.proofs.Advising.{some-gains, some-need}
 use Rattle.machine_laws.proofs.Answering.{some-answer, decide_certain}

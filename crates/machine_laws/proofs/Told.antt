@@ -14,8 +14,8 @@ use Rattle.machine_core.specs.Look.{look_reply}
 use Rattle.machine_core.specs.Machine.{IsStep, answered, clerk_of, machine}
 use Rattle.machine_core.specs.Own.{own_of}
 use Rattle.machine_core.proofs.Chains.{Gives-found, Gives-unique}
-use Rattle.machine_laws.proofs.Writes.{clerk_of-ok, step-holds}
 use Rattle.machine_core.proofs.Walks.{Gives-Met, Met-Gives}
+use Rattle.machine_laws.proofs.Writes.{clerk_of-ok, step-holds}
 
 pub step-told : (rows : Rows) (command : Command) (answer : Reply) (changes : List Change)
     → ((refusal : Refusal) → answer ≢ reply.Refused refusal) → IsStep rows command answer changes

@@ -45,9 +45,9 @@ use Rattle.machine_core.specs.Look.Report.{is_uncovered_cell, line_over, report_
 use Rattle.machine_core.specs.Machine.{IsStep, machine}
 use Rattle.machine_core.specs.Own.{own_of}
 use Rattle.machine_core.proofs.Tested.{each-length}
+use Rattle.machine_core.proofs.Walks.{Gives-Met, Met, Met-Gives}
 use Rattle.machine_laws.specs.Sums.{AddsUp, LineAddsUp}
 use Rattle.machine_laws.proofs.Lists.{slice_get-read}
-use Rattle.machine_core.proofs.Walks.{Gives-Met, Met, Met-Gives}
 use Rattle.machine_laws.proofs.Told.{step-told}
 
 -- three sums are the sum of the three

@@ -9,6 +9,7 @@ use Rattle.std.proofs.lemmas.List.{get_or-map, length-map, map-append}
 use Rattle.std.proofs.lemmas.List.Folds.{Any-from_list_any}
 use Rattle.std.proofs.lemmas.List.Quantifiers.{position-Some}
 use Rattle.std.proofs.lemmas.Slice.Eq.{bytes_eq-Decides}
+use Rattle.std.proofs.lemmas.List.Elements.{Contains-append_right}
 use Rattle.desk_words.specs.declared.refusal.Refusal.{Refusal}
 use Rattle.desk_words.specs.declared.refusal.Refusal.TheVariants.{Twice}
 use Rattle.machine_core.specs.Causes.{StandsTwice}
@@ -17,7 +18,6 @@ use Rattle.machine_core.proofs.Tested.{IsRefusedAt, each_following-found}
 use Rattle.machine_core.proofs.Walks.{Met, Met-Gives}
 use Rattle.machine_laws.proofs.Names.{none-passes}
 use Rattle.machine_laws.proofs.Refusals.{HasCauses, causes-unless}
-use Rattle.std.proofs.lemmas.List.Elements.{Contains-append_right}
 
 -- the image of an item is among the images
 pub Contains-image : {A B : Type 0} (image : A → B) (items : List A) (item : A) → Contains items item

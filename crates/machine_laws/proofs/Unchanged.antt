@@ -14,8 +14,8 @@ use Rattle.machine_core.specs.Checked.{Gives}
 use Rattle.machine_core.specs.Kept.{kept_reply}
 use Rattle.machine_core.specs.Machine.{IsStep, answered, machine}
 use Rattle.machine_core.specs.Own.{Own, after, own_of}
-use Rattle.machine_laws.proofs.Writes.{clerk-written, desk-unchanged, look-unchanged, steward-written, step-holds}
 use Rattle.machine_core.proofs.Walks.{Met-Gives}
+use Rattle.machine_laws.proofs.Writes.{clerk-written, desk-unchanged, look-unchanged, steward-written, step-holds}
 
 -- where what is answered changes nothing, a step does not
 pub step-unchanged : (rows : Rows) (command : Command) (answer : Reply) (changes : List Change)

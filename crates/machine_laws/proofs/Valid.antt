@@ -17,10 +17,10 @@ use Rattle.desk_valid.specs.Rows.Rulebook.{IsRulebookRow}
 use Rattle.desk_valid.specs.Rows.Schema.{IsSchemaRow}
 use Rattle.desk_valid.specs.Valid.{AreValid, EachAt}
 use Rattle.machine_core.specs.Own.{Own, own_of}
+use Rattle.machine_core.specs.OwnRows.{AreOwnRows}
 use Rattle.machine_laws.proofs.Lists.{slice_get-read, slice_get-there, Begins-push, EachAt-begins, EachAt-set}
 use Rattle.machine_laws.proofs.Lists.{length-begins, list_at-push, list_at-set_other, list_at-set_same, map-set_same}
 use Rattle.machine_laws.proofs.Lists.{pushed}
-use Rattle.machine_core.specs.OwnRows.{AreOwnRows}
 use Rattle.machine_laws.proofs.Callers.{AreNoFewer, IsClerkRow-more, names_of}
 use Rattle.machine_laws.proofs.More.{AreMore, AreOwnRows-more, IsEditionRow-more, IsMasterRow-more, IsRegionRow-more}
 use Rattle.machine_laws.proofs.More.{IsRulebookRow-more, IsSchemaRow-more}

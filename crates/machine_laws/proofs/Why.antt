@@ -25,6 +25,7 @@ use Rattle.desk_words.specs.declared.rows.session.SessionRow.{SessionRow}
 use Rattle.desk_words.specs.declared.rows.session.Stage.{Stage}
 use Rattle.desk_words.specs.declared.rows.session.Stage.TheVariants.{Active, Committed, Abandoned}
 use Rattle.desk_words.specs.Tables.{Published, Rows, published_of}
+use Rattle.desk_words.specs.declared.limit.Which.{Which}
 use Rattle.desk_valid.specs.declared.bound.Bound.{Bound}
 use Rattle.desk_valid.specs.Bindings.{bound_at}
 use Rattle.desk_valid.specs.Tallies.{bytes_in, is_active, text_bytes}
@@ -35,7 +36,6 @@ use Rattle.fix_model.specs.States.{uncovered_count}
 use Rattle.machine_core.specs.Answers.{state_of}
 use Rattle.machine_core.specs.Causes.{HoldsBytes, AreWords, AsksWith, Cause, Commits, MakesSessions, Names, RefusesBody}
 use Rattle.machine_core.specs.Causes.{IsAbout, WouldStand}
-use Rattle.machine_laws.proofs.Twice.{Contains-image, free-why, named-there, none-equal, word-at}
 use Rattle.machine_core.specs.Checked.{decides, Answer, Checked, each, each_following, IsFound, some_or}
 use Rattle.machine_core.specs.declared.column.Column.{Column}
 use Rattle.machine_core.specs.Clerk.Batch.{another_column, enter_batch, word_of}
@@ -53,13 +53,13 @@ use Rattle.machine_core.specs.Named.{version_in}
 use Rattle.machine_core.specs.Own.{Own, own_of}
 use Rattle.machine_core.specs.Tests.{active_session, attribute_of, session_of, typed_cell}
 use Rattle.machine_core.specs.Views.{view_of}
+use Rattle.machine_core.specs.Look.View.{view_at}
 use Rattle.machine_core.proofs.Chains.{refused-refusal}
 use Rattle.machine_core.proofs.Walks.{Gives-Met, Met}
+use Rattle.machine_laws.proofs.Twice.{Contains-image, free-why, named-there, none-equal, word-at}
 use Rattle.machine_laws.proofs.Refusals.{HasCauses, causes-asked, causes-bind, causes-certainly, causes-done}
 use Rattle.machine_laws.proofs.Refusals.{causes-each, causes-following, causes-some_or, causes-unless, causes-value_or}
 use Rattle.machine_laws.proofs.Refusals.{causes-within, never_refused}
-use Rattle.desk_words.specs.declared.limit.Which.{Which}
-use Rattle.machine_core.specs.Look.View.{view_at}
 
 -- a session that is shown is not refused
 pub view-why : (P : Refusal → Type 0) (published : Published) (number : ℕ) (session : SessionRow)

@@ -19,6 +19,8 @@ use Rattle.desk_words.specs.declared.rows.clerk.ClerkRow.{ClerkRow}
 use Rattle.desk_words.specs.declared.steward_work.StewardWork.{StewardWork}
 use Rattle.desk_words.specs.Changes.{changed}
 use Rattle.desk_words.specs.Tables.{Published, Rows, new_clerk, published_of}
+use Rattle.desk_words.specs.declared.refusal.Refusal.{Refusal}
+use Rattle.desk_words.specs.declared.command.Command.{Command}
 use Rattle.desk_valid.proofs.Named.{option_map-Some}
 use Rattle.machine_core.specs.Checked.{some_or, Gives, IsFound, run}
 use Rattle.machine_core.specs.Kept.{kept_made, kept_reply}
@@ -32,8 +34,6 @@ use Rattle.machine_core.specs.declared.ticket.Use.TheVariants.{Fresh, Repeated}
 use Rattle.machine_core.specs.Ticket.{use_of}
 use Rattle.machine_core.proofs.Tested.{some_or-ok}
 use Rattle.machine_core.proofs.Walks.{Gives-Met, Met, Met-Gives}
-use Rattle.desk_words.specs.declared.refusal.Refusal.{Refusal}
-use Rattle.desk_words.specs.declared.command.Command.{Command}
 
 -- the place of the clerk of a name: after the steward
 pub record IsPlaceOf (clerks : List ClerkRow) (name : List ℕ) (place : ℕ) : Type 0 where
