@@ -1,9 +1,10 @@
-//! Sheets of master data.
+//! Sheets of master data, and what is said of those that are none.
 ghost use Rattle.master_rows.specs.Master.{IsMaster};
 
-use crate::schemas::add_lines;
-use desk_base::Duplicate;
+use crate::schemas::{add_lines, says};
+use desk_base::{Duplicate, MAX_ROWS};
 use desk_cases::{Answer, Case};
+use fault_sentences::sheet_sentence;
 use master_rows::{Master, Outline, SheetFault};
 use std::alloc::AllocError;
 use std::test::Fail;
@@ -75,4 +76,16 @@ fn add_fault(fault: SheetFault, answer: &mut Answer) -> Result<(), Fail> {
         return Err(Fail::new("there was no memory"));
     }
     answer.shown("wanted", &fault)
+}
+
+/// What is said of a sheet that is no master.
+pub fn sheet_said(case: &Case, answer: &mut Answer) -> Result<(), Fail> {
+    let sheet = case.bytes("sheet")?;
+    match Master::read(answer.alloc(), sheet) {
+        Ok(_) => answer.text("says", "a master"),
+        Err(fault) => says(
+            &sheet_sentence(answer.alloc(), fault, MAX_ROWS, sheet)?,
+            answer,
+        ),
+    }
 }

@@ -1,22 +1,22 @@
-//! Texts of rules over the attributes that a case lists.
-ghost use Rattle.std.specs.Prelude.{IfOk};
+//! Texts of rules over a schema, and what is said of those that do not read.
 ghost use Rattle.schema_core.specs.Schemas.{IsSchema};
 ghost use Rattle.rule_text.specs.Rulebooks.{IsRulebook};
 
+use crate::schemas::{says, schema_of};
 use desk_base::Duplicate;
 use desk_cases::{Answer, Case};
+use fault_sentences::rules_sentence;
 use rule_text::{Rulebook, print, read};
 use schema_core::Schema;
-use std::alloc::{AllocError, Global};
 use std::test::Fail;
 
 /// What the text reads as: a rulebook, whose copy is printed where the case has a print, or a fault.
-pub fn told(case: &Case, answer: &mut Answer) -> Result<(), Fail> {
+pub fn rules(case: &Case, answer: &mut Answer) -> Result<(), Fail> {
     let schema = schema_of(answer.alloc(), case)?;
-    told_of(case, &schema, answer)
+    rules_over(case, &schema, answer)
 }
 
-fn told_of(case: &Case, schema: &Schema, answer: &mut Answer) -> Result<(), Fail>
+fn rules_over(case: &Case, schema: &Schema, answer: &mut Answer) -> Result<(), Fail>
     requires { IsSchema schema.now }
 {
     match read(answer.alloc(), case.bytes("text")?, schema) {
@@ -42,23 +42,21 @@ fn add_rulebook(
     answer.bytes("printed", printed.as_slice())
 }
 
-/// The schema of the attributes of a case, which are parted by blanks.
-fn schema_of(alloc: Global, case: &Case) -> Result<Schema, Fail>
-    ensures { IfOk result IsSchema }
-{
-    let Some(words) = case.text("attributes") else {
-        return Err(Fail::new("a case has no attributes"));
-    };
-    let mut text = String::new(alloc);
-    tell(&mut text, words)?;
-    Ok(Schema::read(alloc, text.as_bytes())?)
+/// What is said of a text that is no rulebook.
+pub fn rules_said(case: &Case, answer: &mut Answer) -> Result<(), Fail> {
+    let schema = schema_of(answer.alloc(), case)?;
+    said_over(case, &schema, answer)
 }
 
-/// The text of a schema with these attributes.
-fn tell(text: &mut String, attributes: &str) -> Result<(), AllocError> {
-    text.push_str("name = \"person\"\nattributes = [")?;
-    for word in attributes.split(' ') {
-        write!(text, "\"{word}\",")?;
+fn said_over(case: &Case, schema: &Schema, answer: &mut Answer) -> Result<(), Fail>
+    requires { IsSchema schema.now }
+{
+    let text = case.bytes("text")?;
+    match read(answer.alloc(), text, schema) {
+        Ok(_) => answer.text("says", "a rulebook"),
+        Err(fault) => says(
+            &rules_sentence(answer.alloc(), fault, schema, text)?,
+            answer,
+        ),
     }
-    text.push_str("]\n")
 }

@@ -1,5 +1,5 @@
 //! What is said where something is not there, stands twice or is too much.
-use crate::reading::{ADDRESS, says};
+use crate::schemas::{ADDRESS, says};
 use desk_cases::{Answer, Case};
 use fault_sentences::{
     Published, Sentence, absent_sentence, bad_name_sentence, cells_sentence, folded_sentence,
@@ -43,13 +43,13 @@ fn absent(alloc: Global, what: &str, name: &str, case: &Case) -> Result<Sentence
         "absent edition" => Published::Edition,
         _ => return Err(Fail::new("a case names no sentence")),
     };
-    let (version, newest) = (number(case, "version")?, number(case, "newest")?);
+    let (version, newest) = (number(case, "version", 0)?, number(case, "newest", 0)?);
     Ok(absent_sentence(alloc, what, name, version, newest)?)
 }
 
-/// The number of a version, 0 where a case has none.
-fn number(case: &Case, part: &str) -> Result<u32, Fail> {
-    match u32::try_from(case.number(part).unwrap_or(0)) {
+/// The number of a version, and another where a case has none.
+pub fn number(case: &Case, part: &str, other: u64) -> Result<u32, Fail> {
+    match u32::try_from(case.number(part).unwrap_or(other)) {
         Ok(number) => Ok(number),
         Err(_) => Err(Fail::new("a version has no such number")),
     }

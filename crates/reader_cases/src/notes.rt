@@ -1,10 +1,11 @@
 //! Texts that read, and what is noted of them as likely slips.
-use crate::reading::ADDRESS;
+use crate::published::number;
+use crate::schemas::ADDRESS;
 use desk_base::{List, Str};
 use desk_cases::{Answer, Case};
-use fault_sentences::{absent_note, column_note, rules_told, schema_notes, sheet_notes};
+use fault_sentences::{Sentence, absent_note, column_note, rules_told, schema_notes, sheet_notes};
 use master_rows::Master;
-use rule_text::read;
+use rule_text::{RuleLine, read};
 use schema_core::Schema;
 use std::alloc::Global;
 use std::test::Fail;
@@ -31,27 +32,29 @@ fn notes_of(alloc: Global, case: &Case) -> Result<List<Str>, Fail> {
     Ok(sheet_notes(alloc, &Master::read(alloc, case.bytes("sheet")?)?)?)
 }
 
-/// The notes on rules: the newest sheet of each of their masters is that of the case, or there is none.
+/// The notes on rules over the schema of addresses.
 fn rules_notes(alloc: Global, case: &Case, text: &[u8]) -> Result<List<Str>, Fail> {
     let schema = Schema::read(alloc, ADDRESS)?;
     let rulebook = read(alloc, text, &schema)?;
+    notes_on(alloc, case, rulebook.lines.as_slice())
+}
+
+fn notes_on(alloc: Global, case: &Case, lines: &[RuleLine]) -> Result<List<Str>, Fail> {
     let mut sentences = List::new(alloc);
-    for line in rulebook.lines.as_slice() {
-        let Some(sheet) = case.part("sheet") else {
-            sentences.push(absent_note(alloc, line)?)?;
-            continue;
-        };
-        if let Some(note) = column_note(alloc, line, version(case)?, sheet)? {
-            sentences.push(note)?;
-        }
+    for line in lines {
+        add_note(&mut sentences, case, line)?;
     }
     Ok(rules_told(alloc, sentences.as_slice())?)
 }
 
-/// The version of the sheet of a case.
-fn version(case: &Case) -> Result<u32, Fail> {
-    match u32::try_from(case.number("version").unwrap_or(1)) {
-        Ok(version) => Ok(version),
-        Err(_) => Err(Fail::new("a version has no such number")),
+/// Adds the note on a rule: the newest sheet of its master is that of the case, or there is none.
+fn add_note(sentences: &mut List<Sentence>, case: &Case, line: &RuleLine) -> Result<(), Fail> {
+    let alloc = sentences.allocator();
+    let Some(sheet) = case.part("sheet") else {
+        return Ok(sentences.push(absent_note(alloc, line)?)?);
+    };
+    if let Some(note) = column_note(alloc, line, number(case, "version", 1)?, sheet)? {
+        sentences.push(note)?;
     }
+    Ok(())
 }
