@@ -4,10 +4,9 @@ ghost use Rattle.fix_model.specs.Run.{end_of, IsRun};
 ghost use Rattle.fix_model.specs.States.{Fits};
 ghost use Rattle.fix_explain.specs.Reasons.{IsFixed};
 
-use crate::record::record_of;
+use crate::record::{Booked, record_of};
 use crate::runs::add_steps;
 use crate::telling::{add_words, work_for};
-use case_json::Case as Record;
 use desk_base::{Duplicate, Steps, Text, place_of};
 use desk_cases::{Answer, Case};
 use fix_engine::{apply, least};
@@ -17,34 +16,25 @@ use std::test::Fail;
 
 /// The steps of the reason and the attributes that they use, or that the attribute is not fixed.
 pub fn told(case: &Case, answer: &mut Answer) -> Result<(), Fail> {
-    let Record {
-        attributes,
-        kit,
-        mut state,
-    } = record_of(answer.alloc(), case)?;
-    reasoned(
-        case,
-        attributes.as_slice(),
-        &ListBook::new(kit),
-        &mut state,
-        answer,
-    )
+    let mut given = Booked::new(record_of(answer.alloc(), case)?);
+    let told = reasoned(case, &mut given, answer);
+    drop(given);
+    told
 }
 
-/// The same of the attribute that the case names, over a book.
-fn reasoned(
-    case: &Case,
-    attributes: &[Text],
-    book: &ListBook,
-    state: &mut State,
-    answer: &mut Answer,
-) -> Result<(), Fail>
-    requires { Fits book.now state.old }
+/// The same of the attribute that the case names.
+fn reasoned(case: &Case, given: &mut Booked, answer: &mut Answer) -> Result<(), Fail>
+    requires { Fits given.old.book given.old.state }
 {
-    let attribute = attribute_of(case, attributes)?;
-    let mut work = work_for(answer.alloc(), book)?;
-    least::<(), ListBook>(&mut work, book, state, &mut Steps::new(()));
-    explained(attributes, book, state, work.first(), attribute, answer)
+    let attribute = attribute_of(case, given.attributes.as_slice())?;
+    let mut work = work_for(answer.alloc(), &given.book)?;
+    least::<(), ListBook>(
+        &mut work,
+        &given.book,
+        &mut given.state,
+        &mut Steps::new(()),
+    );
+    explained(given, work.first(), attribute, answer)
 }
 
 /// The attribute that the case names.
@@ -59,24 +49,19 @@ fn attribute_of(case: &Case, attributes: &[Text]) -> Result<u16, Fail> {
 }
 
 /// Why the first run from the state fixes the attribute, or that it does not.
-fn explained(
-    attributes: &[Text],
-    book: &ListBook,
-    state: &State,
-    run: &[Step],
-    attribute: u16,
-    answer: &mut Answer,
-) -> Result<(), Fail>
-    requires fits { Fits book.now state.now }
-    requires run { IsRun book.now state.now run.now }
+fn explained(given: &Booked, run: &[Step], attribute: u16, answer: &mut Answer) -> Result<(), Fail>
+    requires fits { Fits given.now.book given.now.state }
+    requires run { IsRun given.now.book given.now.state run.now }
 {
+    let book = &given.book;
+    let state = &given.state;
     if !is_fixed(book, state, run, attribute)? {
         return answer.text("reason", "not fixed");
     }
     let steps = reason::<(), ListBook>(answer.alloc(), book, state, run, attribute)?;
     add_steps("reason", steps.as_slice(), answer)?;
     let uses = uses::<(), ListBook>(answer.alloc(), book, state, steps.as_slice())?;
-    add_words("uses", attributes, uses.as_slice(), answer)
+    add_words("uses", given.attributes.as_slice(), uses.as_slice(), answer)
 }
 
 /// Whether the run fixes the attribute.

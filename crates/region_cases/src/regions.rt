@@ -1,6 +1,6 @@
 //! The regions of a case.
-ghost use Rattle.std.specs.Prelude.{◌<◌, ◌^◌, All, length, IsTrue};
-ghost use Rattle.fix_model.specs.Regions.{IsRegionOf};
+ghost use Rattle.std.specs.Prelude.{IsTrue};
+ghost use Rattle.region_cases.specs.Regions.{AreRegionsOf};
 
 use desk_base::{List, Text, place_of};
 use desk_cases::Case;
@@ -60,9 +60,7 @@ fn texts(alloc: Global, row: &str) -> Result<List<Text>, Fail> {
 
 /// Whether these are regions of the kit, and neither they nor their rows are too many.
 pub fn are_regions_of(kit: &Kit, regions: &[Region]) -> bool
-    ensures regions { IsTrue result → All (IsRegionOf kit.now) regions.now }
-    ensures few { IsTrue result → length regions.now < 2 ^ 32 }
-    ensures few_rows { IsTrue result → All (λ region. length region.rows < 2 ^ 32) regions.now }
+    ensures { IsTrue result → AreRegionsOf kit.now regions.now }
 {
     regions.len() < MOST
         && regions.iter().all(|region| is_region_of(kit, region))

@@ -2,58 +2,39 @@
 ghost use Rattle.fix_model.specs.States.{Fits};
 ghost use Rattle.fix_engine.specs.WorkSeen.{IsRoomFor};
 
-use crate::record::record_of;
+use crate::record::{Booked, record_of};
 use crate::telling::{add_word, or_none, work_for};
-use case_json::Case as Record;
-use desk_base::{Steps, Text};
+use desk_base::Steps;
 use desk_cases::{Answer, Case};
 use fix_engine::{Work, apply, least};
-use fix_model::{ListBook, State, Step};
+use fix_model::{ListBook, Step};
 use std::test::Fail;
 
 /// The steps of the first run, and the attributes that are covered before and after they are made.
 pub fn told(case: &Case, answer: &mut Answer) -> Result<(), Fail> {
-    let Record {
-        attributes,
-        kit,
-        mut state,
-    } = record_of(answer.alloc(), case)?;
-    run_over(
-        attributes.as_slice(),
-        &ListBook::new(kit),
-        &mut state,
-        answer,
-    )
+    let mut given = Booked::new(record_of(answer.alloc(), case)?);
+    let told = run_over(&mut given, answer);
+    drop(given);
+    told
 }
 
-/// The same over a book, from a state.
-fn run_over(
-    attributes: &[Text],
-    book: &ListBook,
-    state: &mut State,
-    answer: &mut Answer,
-) -> Result<(), Fail>
-    requires { Fits book.now state.old }
+/// The same of a record with its book.
+fn run_over(given: &mut Booked, answer: &mut Answer) -> Result<(), Fail>
+    requires { Fits given.old.book given.old.state }
 {
-    let mut work = work_for(answer.alloc(), book)?;
-    run(&mut work, attributes, book, state, answer)
+    let mut work = work_for(answer.alloc(), &given.book)?;
+    run(&mut work, given, answer)
 }
 
 /// The same with room for the work.
-fn run(
-    work: &mut Work,
-    attributes: &[Text],
-    book: &ListBook,
-    state: &mut State,
-    answer: &mut Answer,
-) -> Result<(), Fail>
-    requires room { IsRoomFor work.old book.now }
-    requires fits { Fits book.now state.old }
+fn run(work: &mut Work, given: &mut Booked, answer: &mut Answer) -> Result<(), Fail>
+    requires room { IsRoomFor work.old given.old.book }
+    requires fits { Fits given.old.book given.old.state }
 {
-    least::<(), ListBook>(work, book, state, &mut Steps::new(()));
-    add_covered("searched", attributes, state, answer)?;
-    apply::<(), ListBook>(book, state, work.first());
-    add_covered("made", attributes, state, answer)?;
+    least::<(), ListBook>(work, &given.book, &mut given.state, &mut Steps::new(()));
+    add_covered("searched", given, answer)?;
+    apply::<(), ListBook>(&given.book, &mut given.state, work.first());
+    add_covered("made", given, answer)?;
     add_steps("first", work.first(), answer)
 }
 
@@ -68,15 +49,11 @@ pub fn add_steps(name: &str, run: &[Step], answer: &mut Answer) -> Result<(), Fa
 }
 
 /// Adds the words of the covered attributes.
-fn add_covered(
-    name: &str,
-    attributes: &[Text],
-    state: &State,
-    answer: &mut Answer,
-) -> Result<(), Fail> {
+fn add_covered(name: &str, given: &Booked, answer: &mut Answer) -> Result<(), Fail> {
     let mut line = String::new(answer.alloc());
+    let attributes = given.attributes.as_slice();
     for attribute in 0..u16::try_from(attributes.len()).unwrap_or(u16::MAX) {
-        if state.covers(attribute) {
+        if given.state.covers(attribute) {
             add_word(&mut line, attributes, attribute)?;
         }
     }

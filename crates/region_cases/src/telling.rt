@@ -1,17 +1,18 @@
 //! What is told of the regions and the record of a case.
-ghost use Rattle.std.specs.Prelude.{◌<◌, ◌^◌, All, length, IfOk};
+ghost use Rattle.std.specs.Prelude.{All, IfOk};
 ghost use Rattle.fix_model.specs.Regions.{IsRegionOf};
 ghost use Rattle.fix_model.specs.States.{Fits};
 ghost use Rattle.fix_model.specs.Valid.{IsValid};
 ghost use Rattle.fix_engine.specs.WorkSeen.{IsRoomFor};
+ghost use Rattle.region_cases.specs.Regions.{AreRegionsOf};
 
-use crate::record::record_of;
+use crate::record::{Booked, record_of};
 use crate::regions::{are_regions_of, regions_of};
 use case_json::Case as Record;
 use desk_base::{List, Steps, Text};
 use desk_cases::{Answer, Case};
 use fix_engine::Work;
-use fix_model::{Book, ListBook, Region, RowVerdict, State};
+use fix_model::{Book, ListBook, Region, RowVerdict};
 use region_suggest::{Suggestion, check, suggest};
 use std::alloc::{AllocError, Global};
 use std::test::Fail;
@@ -32,36 +33,20 @@ fn told_of(given: Record, regions: &[Region], answer: &mut Answer) -> Result<(),
     if !are_regions_of(&given.kit, regions) {
         return Err(Fail::new("a region is none of the kit's"));
     }
-    let Record {
-        attributes,
-        kit,
-        mut state,
-    } = given;
-    told_over(
-        attributes.as_slice(),
-        &ListBook::new(kit),
-        &mut state,
-        regions,
-        answer,
-    )
+    let mut given = Booked::new(given);
+    let told = told_over(&mut given, regions, answer);
+    drop(given);
+    told
 }
 
-/// The same over a book.
-fn told_over(
-    attributes: &[Text],
-    book: &ListBook,
-    state: &mut State,
-    regions: &[Region],
-    answer: &mut Answer,
-) -> Result<(), Fail>
-    requires fits { Fits book.now state.old }
-    requires regions { All (IsRegionOf book.now) regions.now }
-    requires few { length regions.now < 2 ^ 32 }
-    requires few_rows { All (λ region. length region.rows < 2 ^ 32) regions.now }
+/// The same with the book.
+fn told_over(given: &mut Booked, regions: &[Region], answer: &mut Answer) -> Result<(), Fail>
+    requires fits { Fits given.old.book given.old.state }
+    requires regions { AreRegionsOf given.old.book regions.now }
 {
-    add_verdicts(book, regions, answer)?;
-    let suggestion = suggestion(answer.alloc(), book, state, regions)?;
-    add_suggestion(attributes, &suggestion, answer)
+    add_verdicts(&given.book, regions, answer)?;
+    let suggestion = suggestion(answer.alloc(), given, regions)?;
+    add_suggestion(given.attributes.as_slice(), &suggestion, answer)
 }
 
 /// Adds the verdicts of the rows of all regions, a line a region.
@@ -125,20 +110,19 @@ fn tell_verdicts(lines: &mut String, verdicts: &[RowVerdict]) -> Result<(), Fail
 }
 
 /// What is suggested for the record.
-fn suggestion(
-    alloc: Global,
-    book: &ListBook,
-    state: &mut State,
-    regions: &[Region],
-) -> Result<Suggestion, Fail>
-    requires fits { Fits book.now state.old }
-    requires regions { All (IsRegionOf book.now) regions.now }
-    requires few { length regions.now < 2 ^ 32 }
-    requires few_rows { All (λ region. length region.rows < 2 ^ 32) regions.now }
+fn suggestion(alloc: Global, given: &mut Booked, regions: &[Region]) -> Result<Suggestion, Fail>
+    requires fits { Fits given.old.book given.old.state }
+    requires regions { AreRegionsOf given.old.book regions.now }
 {
-    let mut work = work_for(alloc, book)?;
-    let mut counts = Steps::new(());
-    Ok(suggest::<(), ListBook>(alloc, &mut work, book, state, regions, &mut counts)?)
+    let mut work = work_for(alloc, &given.book)?;
+    Ok(suggest::<(), ListBook>(
+        alloc,
+        &mut work,
+        &given.book,
+        &mut given.state,
+        regions,
+        &mut Steps::new(()),
+    )?)
 }
 
 /// Room for work over the book.
