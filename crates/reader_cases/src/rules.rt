@@ -52,9 +52,9 @@ fn said_over(case: &Case, schema: &Schema, answer: &mut Answer) -> Result<(), Fa
     requires { IsSchema schema.now }
 {
     let text = case.bytes("text")?;
-    match read(answer.alloc(), text, schema) {
-        Ok(_) => answer.text("says", "a rulebook"),
-        Err(fault) => says(
+    match read(answer.alloc(), text, schema).err() {
+        None => answer.text("says", "a rulebook"),
+        Some(fault) => says(
             &rules_sentence(answer.alloc(), fault, schema, text)?,
             answer,
         ),

@@ -47,9 +47,9 @@ pub fn add_line(lines: &mut String, text: &Text) -> Result<(), AllocError> {
 /// What is said of a text that is no schema.
 pub fn schema_said(case: &Case, answer: &mut Answer) -> Result<(), Fail> {
     let text = case.bytes("toml")?;
-    match Schema::read(answer.alloc(), text) {
-        Ok(_) => answer.text("says", "a schema"),
-        Err(fault) => says(&schema_sentence(answer.alloc(), fault, text)?, answer),
+    match Schema::read(answer.alloc(), text).err() {
+        None => answer.text("says", "a schema"),
+        Some(fault) => says(&schema_sentence(answer.alloc(), fault, text)?, answer),
     }
 }
 

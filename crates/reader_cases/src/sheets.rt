@@ -81,9 +81,9 @@ fn add_fault(fault: SheetFault, answer: &mut Answer) -> Result<(), Fail> {
 /// What is said of a sheet that is no master.
 pub fn sheet_said(case: &Case, answer: &mut Answer) -> Result<(), Fail> {
     let sheet = case.bytes("sheet")?;
-    match Master::read(answer.alloc(), sheet) {
-        Ok(_) => answer.text("says", "a master"),
-        Err(fault) => says(
+    match Master::read(answer.alloc(), sheet).err() {
+        None => answer.text("says", "a master"),
+        Some(fault) => says(
             &sheet_sentence(answer.alloc(), fault, MAX_ROWS, sheet)?,
             answer,
         ),
