@@ -13,7 +13,6 @@ mod steps;
 mod trace;
 
 use crate::beginnings::Beginnings;
-use crate::ends::tell_end;
 use crate::steps::{is_step, make_steps};
 use desk_base::List;
 use desk_cases::{Answer, Case, Part, Subject, try_files};
@@ -48,7 +47,7 @@ impl Desks {
         case: &Case,
         answer: &mut Answer,
     ) -> Result<(), Fail> {
-        let told = tell(&self.routes, &mut desk, case, answer);
+        let told = make_steps(&self.routes, &mut desk, case, answer);
         let keeper = desk.into_keeper();
         match told {
             Ok(()) => self.beginnings.keep(answer.alloc(), case, keeper),
@@ -58,17 +57,6 @@ impl Desks {
             }
         }
     }
-}
-
-/// Makes the steps of a case over a desk, and tells what is asked in the end.
-fn tell(
-    routes: &Routes,
-    desk: &mut KeptDesk,
-    case: &Case,
-    answer: &mut Answer,
-) -> Result<(), Fail> {
-    make_steps(routes, desk, case, answer)?;
-    tell_end(desk, case, answer)
 }
 
 impl Subject for Desks {

@@ -9,24 +9,30 @@ use machine_core::is_numbered;
 use std::alloc::Global;
 use std::test::Fail;
 
-/// The reply to a request: its target, and after a space or the end of the line its body. The first word of the
-/// step's name stands for the digest.
+/// A step: its name and its request, and the table in which its route is found.
+#[derive(Clone, Copy)]
+pub struct Step<'s> {
+    pub routes: &'s Routes,
+    pub name: &'s str,
+    pub request: &'s [u8],
+}
+
+/// The reply to the request of a step: its target, and after a space or the end of the line its body. The first word of
+/// the step's name stands for the digest.
 pub fn tell_reply(
     text: &mut String,
     alloc: Global,
-    routes: &Routes,
     desk: &mut KeptDesk,
-    name: &str,
-    request: &[u8],
+    step: Step<'_>,
 ) -> Result<(), Fail> {
-    let (target, body) = target_and_body(request);
-    let Some(found) = routes.find(target) else {
+    let (target, body) = target_and_body(step.request);
+    let Some(found) = step.routes.find(target) else {
         return Err(Fail::new("a step has a target without a route"));
     };
     let Ok(route) = route_in(alloc, &found) else {
         return Err(Fail::new("a step has a target whose parameters are none"));
     };
-    let told = tell_reply_to(text, alloc, desk, &route, digest_of(name), body);
+    let told = tell_reply_to(text, alloc, desk, &route, digest_of(step.name), body);
     drop(route);
     told
 }

@@ -1,6 +1,7 @@
 //! The steps of a case: each part that is a request, in their order.
+use crate::ends::tell_end;
 use crate::numbering::tell_numbered;
-use crate::requests::tell_reply;
+use crate::requests::{Step, tell_reply};
 use crate::trace::Trace;
 use desk_cases::{Answer, Case, Part};
 use desk_trials::KeptDesk;
@@ -8,7 +9,7 @@ use http_cut::Routes;
 use std::alloc::Global;
 use std::test::Fail;
 
-/// Makes the steps of a case in their order, and tells the reply to each.
+/// Makes the steps of a case in their order, and tells the reply to each, and what is asked in the end.
 pub fn make_steps(
     routes: &Routes,
     desk: &mut KeptDesk,
@@ -20,7 +21,7 @@ pub fn make_steps(
             make_step(routes, desk, part, answer)?;
         }
     }
-    Ok(())
+    tell_end(desk, case, answer)
 }
 
 /// Whether a part is a step: it begins with a target.
@@ -38,14 +39,12 @@ fn make_step(
     let name = part.name.as_str();
     let before = Trace::of(desk.tables());
     let mut reply = String::new(answer.alloc());
-    tell_last(
-        &mut reply,
-        answer.alloc(),
+    let step = Step {
         routes,
-        desk,
         name,
-        part.content.as_slice(),
-    )?;
+        request: part.content.as_slice(),
+    };
+    tell_last(&mut reply, answer.alloc(), desk, step)?;
     let is_same = Trace::of(desk.tables()) == before;
     add_reply(name, is_same, reply.as_str(), answer)
 }
@@ -60,20 +59,23 @@ fn add_reply(name: &str, is_same: bool, reply: &str, answer: &mut Answer) -> Res
 fn tell_last(
     reply: &mut String,
     alloc: Global,
-    routes: &Routes,
     desk: &mut KeptDesk,
-    name: &str,
-    request: &[u8],
+    step: Step<'_>,
 ) -> Result<(), Fail> {
-    let Some((count, word)) = name.split_once(" times ") else {
-        return tell_reply(reply, alloc, routes, desk, name, request);
+    let Some((count, word)) = step.name.split_once(" times ") else {
+        return tell_reply(reply, alloc, desk, step);
     };
     let Ok(count) = count.parse::<u64>() else {
         return Err(Fail::new("a step is not made a number of times"));
     };
+    let repeated = Step {
+        routes: step.routes,
+        name: word,
+        request: step.request,
+    };
     for turn in 0..count {
         reply.clear();
-        tell_turn(reply, alloc, routes, desk, word, request, turn)?;
+        tell_turn(reply, alloc, desk, repeated, turn)?;
     }
     Ok(())
 }
@@ -82,13 +84,16 @@ fn tell_last(
 fn tell_turn(
     reply: &mut String,
     alloc: Global,
-    routes: &Routes,
     desk: &mut KeptDesk,
-    name: &str,
-    request: &[u8],
+    step: Step<'_>,
     turn: u64,
 ) -> Result<(), Fail> {
     let mut numbered = String::new(alloc);
-    tell_numbered(&mut numbered, request, turn)?;
-    tell_reply(reply, alloc, routes, desk, name, numbered.as_bytes())
+    tell_numbered(&mut numbered, step.request, turn)?;
+    let made = Step {
+        routes: step.routes,
+        name: step.name,
+        request: numbered.as_bytes(),
+    };
+    tell_reply(reply, alloc, desk, made)
 }
