@@ -23,24 +23,15 @@ fn told_over(
     keeper: &mut MemKeeper,
     answer: &mut Answer,
 ) -> Result<(), Fail> {
-    add_call(called, case, keeper, answer)?;
+    let words = case.bytes("words")?;
+    let served = call(answer.alloc(), called, case, words, keeper)?;
+    add_served(case, served, answer)?;
     Script::new(answer.alloc()).add_tables(case, keeper, answer)
 }
 
-/// Makes the call of a case, and adds what it left of the output and of the door.
-fn add_call(
-    called: Called,
-    case: &Case,
-    keeper: &mut MemKeeper,
-    answer: &mut Answer,
-) -> Result<(), Fail> {
-    let Served { status, out, door } = call(
-        answer.alloc(),
-        called,
-        case,
-        case.bytes("words")?,
-        keeper,
-    )?;
+/// Adds what a call left of the output and of the door.
+fn add_served(case: &Case, served: Served, answer: &mut Answer) -> Result<(), Fail> {
+    let Served { status, out, door } = served;
     let accepted = door.accepted();
     let closed = door.into_closed();
     tell_call(
