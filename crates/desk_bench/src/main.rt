@@ -41,7 +41,7 @@ fn main(rt: HostRuntime) -> Result<(), Fail> {
 /// Makes the kit, looks into the three books over it, and enters the sessions.
 fn measure<R: Print + Eprint + CpuClock>(rt: &R, alloc: Global, sizes: Sizes) -> Result<(), Fail> {
     let kit = kit_of(rt, alloc, sizes)?;
-    let looked = look_into_all(rt, alloc, &kit, sizes);
+    let looked = Looking { rt, alloc, sizes }.look_into_all(&kit);
     drop(kit);
     looked?;
     contradict(rt, alloc, sizes.rows)?;
@@ -73,64 +73,62 @@ fn contradictions_of<R: Print + Eprint + CpuClock>(
     Ok(println!(rt; "contradictions: {count} among {rows} rows")?)
 }
 
-/// Looks into the three books over a kit.
-fn look_into_all<R: Print + Eprint + CpuClock>(
-    rt: &R,
+/// What looks into books: where it tells, what it allocates by, and how many looks are made.
+#[derive(Drop)]
+struct Looking<'r, R> {
+    rt: &'r R,
     alloc: Global,
-    kit: &Kit,
     sizes: Sizes,
-) -> Result<(), Fail>
-    requires { IsValid kit.now }
-{
-    look_into_plain(rt, alloc, kit, sizes)?;
-    look_into_map(rt, alloc, kit, sizes)?;
-    look_into_sorted(rt, alloc, kit, sizes)
 }
 
-/// Looks into the plain book.
-fn look_into_plain<R: Print + Eprint + CpuClock>(
-    rt: &R,
-    alloc: Global,
-    kit: &Kit,
-    sizes: Sizes,
-) -> Result<(), Fail>
-    requires { IsValid kit.now }
-{
-    let book = ListBook::new(kit.copy()?);
-    let few = sizes.records / PLAIN_SHARE;
-    let looked = look_up(rt, alloc, "plain", &book, sizes.rows, few);
-    drop(book);
-    looked
-}
+impl<R: Print + Eprint + CpuClock> Looking<'_, R> {
+    /// Looks into the three books over a kit.
+    fn look_into_all(&self, kit: &Kit) -> Result<(), Fail>
+        requires { IsValid kit.now }
+    {
+        self.look_into_plain(kit)?;
+        self.look_into_map(kit)?;
+        self.look_into_sorted(kit)
+    }
 
-/// Looks into the book over maps.
-fn look_into_map<R: Print + Eprint + CpuClock>(
-    rt: &R,
-    alloc: Global,
-    kit: &Kit,
-    sizes: Sizes,
-) -> Result<(), Fail>
-    requires { IsValid kit.now }
-{
-    let book = map_of(rt, alloc, kit.copy()?)?;
-    let looked = look_up(rt, alloc, "map", &book, sizes.rows, sizes.records);
-    drop(book);
-    looked
-}
+    /// Looks into the plain book.
+    fn look_into_plain(&self, kit: &Kit) -> Result<(), Fail>
+        requires { IsValid kit.now }
+    {
+        let book = ListBook::new(kit.copy()?);
+        let looked = self.look_up("plain", &book, self.sizes.records / PLAIN_SHARE);
+        drop(book);
+        looked
+    }
 
-/// Looks into the book over a sorted index.
-fn look_into_sorted<R: Print + Eprint + CpuClock>(
-    rt: &R,
-    alloc: Global,
-    kit: &Kit,
-    sizes: Sizes,
-) -> Result<(), Fail>
-    requires { IsValid kit.now }
-{
-    let book = sorted_of(rt, alloc, kit.copy()?)?;
-    let looked = look_up(rt, alloc, "sorted", &book, sizes.rows, sizes.records);
-    drop(book);
-    looked
+    /// Looks into the book over maps.
+    fn look_into_map(&self, kit: &Kit) -> Result<(), Fail>
+        requires { IsValid kit.now }
+    {
+        let book = map_of(self.rt, self.alloc, kit.copy()?)?;
+        let looked = self.look_up("map", &book, self.sizes.records);
+        drop(book);
+        looked
+    }
+
+    /// Looks into the book over a sorted index.
+    fn look_into_sorted(&self, kit: &Kit) -> Result<(), Fail>
+        requires { IsValid kit.now }
+    {
+        let book = sorted_of(self.rt, self.alloc, kit.copy()?)?;
+        let looked = self.look_up("sorted", &book, self.sizes.records);
+        drop(book);
+        looked
+    }
+
+    /// Looks so many records up, and tells how many looks found a row.
+    fn look_up<B: Book<()>>(&self, name: &str, book: &B, records: u32) -> Result<(), Fail> {
+        let start = clock(self.rt)?;
+        let found = rows_found(self.alloc, book, self.sizes.rows, records)?;
+        tell(self.rt, name, start)?;
+        let looks = u64::from(records) * LOOKS;
+        Ok(println!(self.rt; "{name}: {found} of {looks} looks found a row")?)
+    }
 }
 
 /// The book over maps of the kit's masters.
@@ -151,20 +149,4 @@ fn sorted_of<R: Eprint + CpuClock>(rt: &R, alloc: Global, kit: Kit) -> Result<So
     let book = SortedBook::build(alloc, kit)?;
     tell(rt, "building the sorted index", start)?;
     Ok(book)
-}
-
-/// Looks so many records up, and tells how many looks found a row.
-fn look_up<R: Print + Eprint + CpuClock, B: Book<()>>(
-    rt: &R,
-    alloc: Global,
-    name: &str,
-    book: &B,
-    rows: u32,
-    records: u32,
-) -> Result<(), Fail> {
-    let start = clock(rt)?;
-    let found = rows_found(alloc, book, rows, records)?;
-    tell(rt, name, start)?;
-    let looks = u64::from(records) * LOOKS;
-    Ok(println!(rt; "{name}: {found} of {looks} looks found a row")?)
 }

@@ -28,8 +28,8 @@ pub fn enter_sessions<R: Print + Eprint + CpuClock>(
     entered
 }
 
-/// Publishes the edition, and enters the sessions. The desk is lent, since a function with many ways out that lets it
-/// go takes minutes to prove.
+/// Publishes the edition, and enters all sessions but the last fifty, and then those, or all where there are fewer. The
+/// desk is lent, since a function with many ways out that lets it go takes minutes to prove.
 fn publish_and_enter<R: Print + Eprint + CpuClock>(
     rt: &R,
     alloc: Global,
@@ -37,35 +37,14 @@ fn publish_and_enter<R: Print + Eprint + CpuClock>(
     sizes: Sizes,
 ) -> Result<(), Fail> {
     publish_edition(alloc, desk, sizes)?;
-    enter_first(rt, alloc, desk, sizes)?;
-    enter_last(rt, alloc, desk, sizes)?;
-    tell_count(rt, desk.turn())
-}
-
-/// Enters all sessions but the last fifty.
-fn enter_first<R: Eprint + CpuClock>(
-    rt: &R,
-    alloc: Global,
-    desk: &mut KeptDesk,
-    sizes: Sizes,
-) -> Result<(), Fail> {
-    let count = sizes.sessions.saturating_sub(TIMED);
-    let start = clock(rt)?;
-    enter_all(alloc, desk, sizes.rows, 0, count)?;
-    Ok(tell(rt, "the sessions before the last 50", start)?)
-}
-
-/// Enters the last fifty sessions, or all where there are fewer.
-fn enter_last<R: Eprint + CpuClock>(
-    rt: &R,
-    alloc: Global,
-    desk: &mut KeptDesk,
-    sizes: Sizes,
-) -> Result<(), Fail> {
     let first = sizes.sessions.saturating_sub(TIMED);
     let start = clock(rt)?;
+    enter_all(alloc, desk, sizes.rows, 0, first)?;
+    tell(rt, "the sessions before the last 50", start)?;
+    let start = clock(rt)?;
     enter_all(alloc, desk, sizes.rows, first, sizes.sessions)?;
-    Ok(tell(rt, "the last 50 sessions", start)?)
+    tell(rt, "the last 50 sessions", start)?;
+    tell_count(rt, desk.turn())
 }
 
 /// Tells how many sessions were entered, by the number of requests that were accepted.
