@@ -67,22 +67,22 @@ pub fn reads(case: &Case, name: &str) -> bool {
 
 /// What the request of a case is answered in a stream of its own, over the tables that the script left so far.
 pub fn next(script: &Script, case: &Case, answer: &mut Answer) -> Result<(), Fail> {
+    let request = case.bytes("request")?;
     let mut keeper = fresh(answer.alloc())?;
-    let told = next_over(script, case, &mut keeper, answer);
+    let told = told_next(answer.alloc(), script, &mut keeper, request);
     drop(keeper);
-    told
+    told?.add_response(answer)
 }
 
-/// The same over a keeper.
-fn next_over(
+/// What a request is answered over a keeper to which the requests of the script were sent.
+fn told_next(
+    alloc: Global,
     script: &Script,
-    case: &Case,
     keeper: &mut MemKeeper,
-    answer: &mut Answer,
-) -> Result<(), Fail> {
-    send(answer.alloc(), script, keeper)?;
-    let told = serve(answer.alloc(), keeper, case.bytes("request")?)?;
-    told.add_response(answer)
+    request: &[u8],
+) -> Result<Told, Fail> {
+    send(alloc, script, keeper)?;
+    serve(alloc, keeper, request)
 }
 
 /// Sends the requests of the script to a keeper.

@@ -109,11 +109,36 @@ fn line_over(
     keeper: &mut MemKeeper,
 ) -> Result<(String, bool), Fail> {
     let told = call.make(alloc, keeper)?;
-    let line = match end {
-        End::Source => taken(alloc, script, keeper, &told),
-        End::Sink => written(alloc, script, keeper, &told),
-    };
+    let line = line_of(alloc, end, script, keeper, &told);
     Ok((line?, told.status == 0))
+}
+
+fn line_of(
+    alloc: Global,
+    end: End,
+    script: &Script,
+    keeper: &mut MemKeeper,
+    told: &Told,
+) -> Result<String, Fail> {
+    let whole = whole_of(script, told);
+    match end {
+        End::Source => {
+            let same = is_left(alloc, script, keeper, whole)?;
+            taken(alloc, script, told, same)
+        }
+        End::Sink => {
+            let same = is_answered_again(alloc, script, keeper, whole)?;
+            written(alloc, script, told, same)
+        }
+    }
+}
+
+/// How many responses were written in full, none where something else was.
+fn whole_of(script: &Script, told: &Told) -> usize {
+    match script.progress(told.output.as_slice()) {
+        Some((whole, _)) => whole,
+        None => 0,
+    }
 }
 
 /// The status, and how many responses were written, where nothing else was.
@@ -126,18 +151,9 @@ fn ended(alloc: Global, script: &Script, told: &Told) -> Result<String, Fail> {
 }
 
 /// The same, and whether the tables are those that so many requests leave.
-fn taken(
-    alloc: Global,
-    script: &Script,
-    keeper: &mut MemKeeper,
-    told: &Told,
-) -> Result<String, Fail> {
-    let whole = match script.progress(told.output.as_slice()) {
-        Some((whole, _)) => whole,
-        None => 0,
-    };
-    let same = yes_or_no(is_left(alloc, script, keeper, whole)?);
+fn taken(alloc: Global, script: &Script, told: &Told, same: bool) -> Result<String, Fail> {
     let mut line = ended(alloc, script, told)?;
+    let same = yes_or_no(same);
     write!(line, " {same}")?;
     Ok(line)
 }
@@ -156,12 +172,7 @@ fn is_left(
 
 /// The status, how many responses were written in full, and how many bytes of the next. Where a write failed, also
 /// whether the request of that one is answered as in the script when it is sent again in a stream of its own.
-fn written(
-    alloc: Global,
-    script: &Script,
-    keeper: &mut MemKeeper,
-    told: &Told,
-) -> Result<String, Fail> {
+fn written(alloc: Global, script: &Script, told: &Told, same: bool) -> Result<String, Fail> {
     let status = told.status;
     let Some((whole, bytes)) = script.progress(told.output.as_slice()) else {
         return Ok(format!(in alloc; "{status} otherwise")?);
@@ -169,7 +180,7 @@ fn written(
     if status == 0 {
         return Ok(format!(in alloc; "{status} {whole} {bytes}")?);
     }
-    let same = yes_or_no(is_answered_again(alloc, script, keeper, whole)?);
+    let same = yes_or_no(same);
     Ok(format!(in alloc; "{status} {whole} {bytes} {same}")?)
 }
 
