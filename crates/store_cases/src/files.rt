@@ -38,6 +38,13 @@ pub fn told(
     remove(rt, path)
 }
 
+/// What a keeper of its own is asked: a stream, or whether it loads the tables that the case wants.
+#[derive(Clone, Copy)]
+enum Asked {
+    Stream(Stream),
+    Tables,
+}
+
 /// What is tried: the streams of a case over the file at a path.
 #[derive(Drop)]
 struct Trial<'t> {
@@ -59,11 +66,11 @@ impl<'t> Trial<'t> {
         self.lay("log stands", log)?;
         for stream in IN_TURN {
             if stream.is_in(self.case) {
-                self.add_stream(stream, Unknown, answer)?;
+                self.ask(Asked::Stream(stream), log, Unknown, answer)?;
             }
         }
         if self.case.part("tables").is_some() {
-            self.add_tables(Unknown, answer)?;
+            self.ask(Asked::Tables, log, Unknown, answer)?;
         }
         self.add_left("left", self.path, answer)?;
         self.add_left("log left", log, answer)
@@ -113,46 +120,43 @@ impl<'t> Trial<'t> {
         }
     }
 
-    /// Sends a stream to a keeper of its own, and beside the first one, while that keeper has its file open, the stream
-    /// that is for a second keeper.
-    fn add_stream<S: Start>(
+    /// Asks a keeper of its own, and ends it. The log of a file from which tables were loaded, which has this name, is
+    /// removed then: nothing of it is needed.
+    fn ask<S: Start>(
         &self,
-        stream: Stream,
+        asked: Asked,
+        log: &str,
         start: S,
         answer: &mut Answer,
     ) -> Result<(), Fail> {
         let mut keeper = self.keeper(start)?;
-        let sent = self.send_all(stream, &mut keeper, answer);
-        match sent {
-            Ok(()) => self.end(keeper),
-            Err(fail) => {
-                drop(keeper);
-                Err(fail)
-            }
+        let told = self.tell_asked(asked, &mut keeper, answer);
+        let ended = close(keeper);
+        told?;
+        match ended {
+            End::Loaded => remove_one(self.rt, log),
+            End::Unloaded => Ok(()),
+            End::Failed => Err(Fail::new("the keeper of a case did not end")),
         }
     }
 
-    /// Sends a stream to a keeper, and beside the first one that for a second keeper.
-    fn send_all<K: Keeper>(
+    /// Asks a keeper, and where it is sent the first stream, sends the one beside to a second keeper.
+    fn tell_asked<K: Keeper>(
         &self,
-        stream: Stream,
+        asked: Asked,
         keeper: &mut K,
         answer: &mut Answer,
     ) -> Result<(), Fail> {
-        self.send(stream, keeper, answer)?;
-        if stream == Stream::First && Stream::Beside.is_in(self.case) {
-            self.add_beside(Unknown, answer)?;
+        match asked {
+            Asked::Tables => self.script.add_tables(self.case, keeper, answer),
+            Asked::Stream(stream) => {
+                self.send(stream, keeper, answer)?;
+                if stream == Stream::First && Stream::Beside.is_in(self.case) {
+                    self.add_beside(Unknown, answer)?;
+                }
+                Ok(())
+            }
         }
-        Ok(())
-    }
-
-    /// Ends a keeper, and removes the log of a file from which tables were loaded: nothing of it is needed.
-    fn end<S: Start>(&self, keeper: Keeping<'t, S>) -> Result<(), Fail> {
-        if !has_loaded(keeper)? {
-            return Ok(());
-        }
-        let log = log_of(self.rt, self.path)?;
-        remove_one(self.rt, log.as_str())
     }
 
     /// Sends the stream beside to a second keeper at the same path.
@@ -175,29 +179,36 @@ impl<'t> Trial<'t> {
         stream.add_told(self.script, self.case, &told, answer)
     }
 
-    /// Adds whether a keeper of its own loads the tables that the case wants.
-    fn add_tables<S: Start>(&self, start: S, answer: &mut Answer) -> Result<(), Fail> {
-        let mut keeper = self.keeper(start)?;
-        let added = self.script.add_tables(self.case, &mut keeper, answer);
-        drop(keeper);
-        added
-    }
-
     fn keeper<S: Start>(&self, start: S) -> Result<Keeping<'t, S>, Fail> {
         let path = Str::new(self.rt.alloc(), self.path)?;
         Ok(FileKeeper::over(self.rt, path, start))
     }
 }
 
-/// Ends a keeper, and says whether tables were loaded.
-fn has_loaded<S: Start>(keeper: Keeping<'_, S>) -> Result<bool, Fail> {
+/// How a keeper ended.
+#[derive(Clone, Copy)]
+enum End {
+    /// It had loaded tables.
+    Loaded,
+    /// It had loaded none.
+    Unloaded,
+    /// Its files were not closed.
+    Failed,
+}
+
+/// Ends a keeper.
+fn close<S: Start>(keeper: Keeping<'_, S>) -> End {
     match keeper.close() {
         Ok(files) => {
             let has_loaded = files.is_some();
             drop(files);
-            Ok(has_loaded)
+            if has_loaded {
+                End::Loaded
+            } else {
+                End::Unloaded
+            }
         }
-        Err(_) => Err(Fail::new("the keeper of a case did not end")),
+        Err(_) => End::Failed,
     }
 }
 
