@@ -24,7 +24,16 @@ impl Subject for Runs {
     fn reads(&self, _kind: &str, _case: &Case, part: &Part) -> bool {
         matches!(
             part.name.as_str(),
-            "word" | "words" | "input" | "cut" | "triples" | "keys" | "sought" | "put" | "get"
+            "word"
+                | "words"
+                | "input"
+                | "cut"
+                | "triples"
+                | "keys"
+                | "sought"
+                | "stem"
+                | "put"
+                | "get"
         )
     }
 
