@@ -8,9 +8,12 @@ ghost use Rattle.fix_model.specs.Application.{AreMatched, IsEnabled, covers_left
 ghost use Rattle.fix_model.specs.Valid.{IsValid, IsValidRule};
 ghost use Rattle.fix_model.specs.Waits.{NoneWaitsBefore};
 
+use crate::kit::Kit;
 use crate::pattern::matches;
 use crate::rule::Rule;
+use crate::sharing::earliest_for;
 use crate::state::{State, Step};
+use crate::waiting::first_waiting;
 use desk_base::{Duplicate, MAX_TEXT, NoMemory, Steps, Text};
 
 /// What a look for master rows found: the least usable row that agrees with the record at the rule's
@@ -26,37 +29,60 @@ pub trait Book<L> {
     /// The kit that is looked into.
     ghost kit: { Self → KitOf };
 
+    /// That kit.
+    fn inside(&self) -> &Kit
+        ensures inside { result.now ≡ kit self.now }
+        ensures valid { IsValid (kit self.now) };
+
     /// How many attributes there are, 1 to 48.
     fn width(&self) -> u16
         ensures width { result ≡ (kit self.now).width }
-        ensures valid { IsValid (kit self.now) };
+        ensures valid { IsValid (kit self.now) }
+    {
+        self.inside().width
+    }
 
     /// The rules of the kit.
     fn rules(&self) -> &[Rule]
         ensures rules { result.now ≡ (kit self.now).rules }
-        ensures valid { IsValid (kit self.now) };
+        ensures valid { IsValid (kit self.now) }
+    {
+        self.inside().rules.as_slice()
+    }
 
     /// Whether keys and conditions compare this attribute without regard to ASCII case.
     fn folds(&self, attribute: u16) -> bool
         requires { attribute < (kit self.now).width }
-        ensures { result ≡ is_folded (kit self.now) attribute };
+        ensures { result ≡ is_folded (kit self.now) attribute }
+    {
+        self.inside().folds(attribute)
+    }
 
     /// The text that the step gives to the head of its rule, of at most 200 bytes.
     fn text(&self, step: Step) -> &str
         requires { IsStepOf (kit self.now) step }
         ensures text { result.now ≡ step_text (kit self.now) step }
-        ensures fits { length result.now ≤ MAX_TEXT };
+        ensures fits { length result.now ≤ MAX_TEXT }
+    {
+        self.inside().step_text(step)
+    }
 
     /// The rule itself, or an earlier one with the same keys, conditions, master and `from`, so that one look serves
     /// both. How early it is stays open.
     fn earliest(&self, rule: u16) -> u16
         requires { rule < length (kit self.now).rules }
-        ensures { SharesLook (kit self.now) rule result };
+        ensures { SharesLook (kit self.now) rule result }
+    {
+        earliest_for(self.inside(), rule)
+    }
 
     /// A rule before which none waits for the attribute: none has it among its keys or conditions. How late it is stays
     /// open.
     fn first_waiting(&self, attribute: u16) -> u16
-        ensures { NoneWaitsBefore (kit self.now) attribute result };
+        ensures { NoneWaitsBefore (kit self.now) attribute result }
+    {
+        first_waiting(self.inside(), attribute)
+    }
 
     /// Looks for the usable rows of the rule that agree with the state at all its keys, and counts one
     /// look. There is nothing exactly where no row agrees.

@@ -10,9 +10,7 @@ use crate::book::{Book, Hit};
 use crate::kit::Kit;
 use crate::rows::Sought;
 use crate::rule::Rule;
-use crate::sharing::earliest_for;
-use crate::state::{State, Step};
-use crate::waiting::first_waiting;
+use crate::state::State;
 use desk_base::{Grid, Steps};
 use std::marker::Model;
 
@@ -46,28 +44,8 @@ impl Kit {
 impl<'a, L> Book<L> for LentBook<'a> {
     ghost kit = { λ b. b };
 
-    fn width(&self) -> u16 {
-        self.inside.width
-    }
-
-    fn rules(&self) -> &[Rule] {
-        self.inside.rules.as_slice()
-    }
-
-    fn folds(&self, attribute: u16) -> bool {
-        self.inside.folds(attribute)
-    }
-
-    fn text(&self, step: Step) -> &str {
-        self.inside.step_text(step)
-    }
-
-    fn earliest(&self, rule: u16) -> u16 {
-        earliest_for(self.inside, rule)
-    }
-
-    fn first_waiting(&self, attribute: u16) -> u16 {
-        first_waiting(self.inside, attribute)
+    fn inside(&self) -> &Kit {
+        self.inside
     }
 
     fn find(&self, rule: u16, state: &State, counts: &mut Steps<L>) -> Option<Hit> {

@@ -7,7 +7,7 @@ use crate::error::BuildFault;
 use crate::index::Index;
 use crate::looks::{first_among, hit_among};
 use desk_base::{MAX_ENTRIES, Steps};
-use fix_model::{Book, Hit, Kit, Rule, Sought, State, Step, first_waiting, some_row_agrees};
+use fix_model::{Book, Hit, Kit, Sought, State, some_row_agrees};
 use std::alloc::Global;
 use std::marker::Model;
 
@@ -54,28 +54,12 @@ impl MapBook {
 impl<L> Book<L> for MapBook {
     ghost kit = { λ b. b };
 
-    fn width(&self) -> u16 {
-        self.inside.width
-    }
-
-    fn rules(&self) -> &[Rule] {
-        self.inside.rules.as_slice()
-    }
-
-    fn folds(&self, attribute: u16) -> bool {
-        self.inside.folds(attribute)
-    }
-
-    fn text(&self, step: Step) -> &str {
-        self.inside.step_text(step)
+    fn inside(&self) -> &Kit {
+        &self.inside
     }
 
     fn earliest(&self, rule: u16) -> u16 {
         rule
-    }
-
-    fn first_waiting(&self, attribute: u16) -> u16 {
-        first_waiting(&self.inside, attribute)
     }
 
     fn find(&self, rule: u16, state: &State, counts: &mut Steps<L>) -> Option<Hit> {

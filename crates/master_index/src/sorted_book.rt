@@ -16,7 +16,7 @@ use crate::search::entry_at;
 use crate::triples::Triples;
 use crate::waits::waits_of;
 use desk_base::{List, MAX_ENTRIES, NoMemory, Steps};
-use fix_model::{Book, Hit, Kit, Rule, State, Step, has_covered_keys, some_row_agrees};
+use fix_model::{Book, Hit, Kit, State, has_covered_keys, some_row_agrees};
 use std::alloc::Global;
 use std::marker::Model;
 
@@ -121,20 +121,8 @@ fn sorted_parts(alloc: Global, kit: &Kit, owners: &[u16]) -> Result<List<Part>, 
 impl<L> Book<L> for SortedBook {
     ghost kit = { λ b. b };
 
-    fn width(&self) -> u16 {
-        self.inside.width
-    }
-
-    fn rules(&self) -> &[Rule] {
-        self.inside.rules.as_slice()
-    }
-
-    fn folds(&self, attribute: u16) -> bool {
-        self.inside.folds(attribute)
-    }
-
-    fn text(&self, step: Step) -> &str {
-        self.inside.step_text(step)
+    fn inside(&self) -> &Kit {
+        &self.inside
     }
 
     fn earliest(&self, rule: u16) -> u16 {
