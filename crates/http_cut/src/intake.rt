@@ -88,6 +88,11 @@ impl Intake {
         &self.routes
     }
 
+    /// The allocator that the intake was made with.
+    pub fn allocator(&self) -> Global {
+        self.window.allocator()
+    }
+
     /// The bytes that were taken and are not done with.
     pub fn bytes(&self) -> &[u8]
         ensures { result.now ≡ self.now }

@@ -41,6 +41,11 @@ impl Window {
         &self.bytes[self.start..]
     }
 
+    /// The allocator that the window was made with.
+    pub fn allocator(&self) -> Global {
+        *self.bytes.allocator()
+    }
+
     /// Has done with the first bytes.
     pub fn skip(&mut self, count: usize)
         requires { count ≤ length self.old }
