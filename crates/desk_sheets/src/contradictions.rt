@@ -4,8 +4,8 @@ ghost use Rattle.desk_base.specs.Texts.{bytes_of};
 ghost use Rattle.desk_sheets.specs.Contradictions.{contradictions_text, fields_of, header};
 ghost use Rattle.desk_sheets.specs.Writing.{HasWritten};
 
-use crate::writing::write;
-use csv::{Writer, WriterBuilder};
+use crate::writing::{begun, finished, write};
+use csv::Writer;
 use desk_base::{List, NoMemory};
 use desk_words::{ContradictionLine, ContradictionSheet};
 use std::alloc::Global;
@@ -14,15 +14,11 @@ use std::alloc::Global;
 pub fn contradictions_text(alloc: Global, sheet: &ContradictionSheet) -> Result<List<u8>, NoMemory>
     ensures { IfOk result (λ text. text ≡ contradictions_text sheet.now) }
 {
-    let mut writer = WriterBuilder::new().from_writer(Vec::new(alloc));
-    write(&mut writer, &header())?;
+    let mut writer = begun(alloc, &header())?;
     'lines: for line in sheet.lines.as_slice() {
         write_line(alloc, &mut writer, sheet, line)?;
     }
-    match writer.into_inner() {
-        Ok(bytes) => Ok(List::from_vec(bytes)),
-        Err(_) => Err(NoMemory),
-    }
+    finished(writer)
 }
 
 /// The fields of the header.

@@ -4,8 +4,8 @@ ghost use Rattle.desk_sheets.specs.Derived.{IsFull, derived_text, fields_of};
 ghost use Rattle.desk_base.specs.Texts.{bytes_of};
 ghost use Rattle.desk_sheets.specs.Writing.{HasWritten};
 
-use crate::writing::{push_texts, write};
-use csv::{Writer, WriterBuilder};
+use crate::writing::{begun, finished, push_texts, write};
+use csv::Writer;
 use desk_base::{List, NoMemory, Text};
 use desk_words::DerivedSheet;
 use std::alloc::Global;
@@ -15,16 +15,12 @@ pub fn derived_text(alloc: Global, sheet: &DerivedSheet) -> Result<List<u8>, NoM
     requires full { IsFull sheet.now }
     ensures { IfOk result (λ text. text ≡ derived_text sheet.now) }
 {
-    let mut writer = WriterBuilder::new().from_writer(Vec::new(alloc));
     let header = fields(alloc, "row", sheet.attributes.as_slice())?;
-    write(&mut writer, header.as_slice())?;
+    let mut writer = begun(alloc, header.as_slice())?;
     'rows: for row in sheet.rows.as_slice() {
         write_row(alloc, &mut writer, row)?;
     }
-    match writer.into_inner() {
-        Ok(bytes) => Ok(List::from_vec(bytes)),
-        Err(_) => Err(NoMemory),
-    }
+    finished(writer)
 }
 
 /// Writes a row of the master.

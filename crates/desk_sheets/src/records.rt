@@ -4,8 +4,8 @@ ghost use Rattle.desk_sheets.specs.Records.{IsFull, certain_word, fields_of, rec
 ghost use Rattle.desk_base.specs.Texts.{bytes_of};
 ghost use Rattle.desk_sheets.specs.Writing.{HasWritten};
 
-use crate::writing::{push_texts, write};
-use csv::{Writer, WriterBuilder};
+use crate::writing::{begun, finished, push_texts, write};
+use csv::Writer;
 use desk_base::{List, NoMemory, Text};
 use desk_words::{RecordLine, RecordSheet};
 use std::alloc::Global;
@@ -15,7 +15,6 @@ pub fn records_text(alloc: Global, sheet: &RecordSheet) -> Result<List<u8>, NoMe
     requires full { IsFull sheet.now }
     ensures { IfOk result (λ text. text ≡ records_text sheet.now) }
 {
-    let mut writer = WriterBuilder::new().from_writer(Vec::new(alloc));
     let header = fields(
         alloc,
         "record",
@@ -23,14 +22,11 @@ pub fn records_text(alloc: Global, sheet: &RecordSheet) -> Result<List<u8>, NoMe
         "certain",
         sheet.attributes.as_slice(),
     )?;
-    write(&mut writer, header.as_slice())?;
+    let mut writer = begun(alloc, header.as_slice())?;
     'lines: for line in sheet.lines.as_slice() {
         write_line(alloc, &mut writer, line)?;
     }
-    match writer.into_inner() {
-        Ok(bytes) => Ok(List::from_vec(bytes)),
-        Err(_) => Err(NoMemory),
-    }
+    finished(writer)
 }
 
 /// Writes the row of a record.
