@@ -1,6 +1,6 @@
 //! What stands in tables, as texts.
 use desk_base::{Room, Text};
-use desk_words::{SessionRow, Stage, Tables};
+use desk_words::{SessionRow, Tables};
 use std::alloc::AllocError;
 
 /// How many rows each table has, in the order of the tables, with a space between.
@@ -38,7 +38,7 @@ pub fn tell_sessions(lines: &mut String, tables: &Tables) -> Result<(), AllocErr
 
 fn tell_own(lines: &mut String, clerk: &str, rows: &[SessionRow]) -> Result<(), AllocError> {
     for row in rows {
-        let (edition, batch, stage) = (row.edition, row.batch, stage(row.stage));
+        let (edition, batch, stage) = (row.edition, row.batch, row.stage.word());
         write!(lines, "{clerk} {edition} ")?;
         tell_texts(lines, row.typed.as_slice())?;
         lines.push_str(" ")?;
@@ -65,12 +65,4 @@ fn tell_flags(line: &mut String, items: &[bool]) -> Result<(), AllocError> {
         line.push_str(if *flag { "y" } else { "n" })?;
     }
     Ok(())
-}
-
-fn stage(stage: Stage) -> &'static str {
-    match stage {
-        Stage::Active => "active",
-        Stage::Committed => "committed",
-        Stage::Abandoned => "abandoned",
-    }
 }

@@ -8,15 +8,12 @@ use desk_cases::{Answer, Case, Part};
 use std::alloc::Global;
 use std::test::Fail;
 
-/// How many bytes a call of a device moves at most, where a case does not say.
-const USUAL_CUT: usize = 65_536;
-
 /// What a case's run told.
 pub fn told(case: &Case, files: &MemFiles, answer: &mut Answer) -> Result<(), Fail> {
     let alloc = answer.alloc();
     let words = words(alloc, case)?;
     let plan = Plan {
-        cut: cut_of(case),
+        cut: case.cut(),
         fails: None,
     };
     match task_of(alloc, files, words.as_slice()) {
@@ -33,14 +30,6 @@ pub fn told(case: &Case, files: &MemFiles, answer: &mut Answer) -> Result<(), Fa
 /// Adds what a run told.
 fn add(told: Result<Told, Fail>, answer: &mut Answer) -> Result<(), Fail> {
     told?.add(answer)
-}
-
-/// How many bytes a call of a device moves at most.
-pub fn cut_of(case: &Case) -> usize {
-    match case.number("cut") {
-        Some(cut) => usize::try_from(cut).unwrap_or(usize::MAX),
-        None => USUAL_CUT,
-    }
 }
 
 /// The name of the file that a part is, if it is one.

@@ -2,7 +2,7 @@
 ghost use Rattle.clean_run.specs.Prepared.{IsPrepared};
 
 use crate::devices::{Device, Plan};
-use crate::runs::{cleaned, cut_of, words};
+use crate::runs::{cleaned, words};
 use crate::told::Told;
 use clean_run::{Job, MemFiles, Status, Task, task_of};
 use desk_cases::{Answer, Case};
@@ -51,7 +51,7 @@ fn add_reads(case: &Case, job: &Job<'_>, answer: &mut Answer) -> Result<(), Fail
 {
     for read in 1..u64::MAX {
         let fails = Some((Device::Source, read));
-        let told = cleaned(answer.alloc(), case, job, &plan(cut_of(case), fails))?;
+        let told = cleaned(answer.alloc(), case, job, &plan(case.cut(), fails))?;
         told.add(answer)?;
         if told.ended.status != Status::ReadFault {
             break;

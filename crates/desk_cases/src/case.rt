@@ -3,6 +3,9 @@ use desk_base::NoMemory;
 use std::alloc::Global;
 use std::test::Fail;
 
+/// How many bytes a call of a device moves at most, where a case does not say.
+pub const USUAL_CUT: usize = 65_536;
+
 /// A part of a case.
 #[derive(Debug, Drop)]
 pub struct Part {
@@ -52,6 +55,14 @@ impl Case {
         match self.part(name) {
             Some(content) => Ok(content),
             None => Err(Fail::new("a case has not a part that is wanted")),
+        }
+    }
+
+    /// How many bytes a call of a device moves at most: what the part `cut` says, or 65,536.
+    pub fn cut(&self) -> usize {
+        match self.number("cut") {
+            Some(cut) => usize::try_from(cut).unwrap_or(usize::MAX),
+            None => USUAL_CUT,
         }
     }
 

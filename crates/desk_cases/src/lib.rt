@@ -13,7 +13,7 @@ mod reading;
 mod trying;
 
 pub use answer::Answer;
-pub use case::{Case, Part};
+pub use case::{Case, Part, USUAL_CUT};
 pub use fault::CaseFault;
 pub use judging::{Difference, differences};
 pub use reading::cases;

@@ -2,7 +2,7 @@
 use crate::keeping::fresh;
 use crate::words::words_of;
 use desk_base::{Both, List, MemLink, MemSink, MemSource};
-use desk_cases::{Answer, Case};
+use desk_cases::{Answer, USUAL_CUT};
 use fixdesk_run::{Said, run};
 use keeper_core::Keeper;
 use session_machine::Desk;
@@ -11,9 +11,6 @@ use std::test::Fail;
 
 /// How many bytes a sink has room for, where a call does not say.
 const USUAL_ROOM: usize = 100_000;
-
-/// How many bytes a call of an end of a link moves at most, where a case does not say.
-const USUAL_CUT: usize = 65_536;
 
 /// An end of a link.
 #[derive(Clone, Copy, PartialEq, Eq)]
@@ -109,14 +106,6 @@ impl Told {
             answer.number("status", u64::from(self.status))?;
         }
         answer.bytes("response", self.output.as_slice())
-    }
-}
-
-/// How many bytes a call of an end of the link of a case moves at most: what its part `cut` says, or 65,536.
-pub fn cut_of(case: &Case) -> usize {
-    match case.number("cut") {
-        Some(cut) => usize::try_from(cut).unwrap_or(usize::MAX),
-        None => USUAL_CUT,
     }
 }
 

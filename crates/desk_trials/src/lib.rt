@@ -12,7 +12,7 @@ mod script;
 mod table;
 mod words;
 
-pub use calls::{Call, End, Told, call_words, cut_of, serve};
+pub use calls::{Call, End, Told, call_words, serve};
 pub use keeping::{fresh, keeper_of, shown};
 pub use kept_desk::KeptDesk;
 pub use leaving::leave;

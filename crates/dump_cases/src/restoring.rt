@@ -2,7 +2,7 @@
 use crate::desks::desk_of;
 use desk_base::{Both, List, MemLink, MemSink, MemSource};
 use desk_cases::{Answer, Case};
-use desk_trials::{cut_of, keeper_of, serve, shown, words_of};
+use desk_trials::{keeper_of, serve, shown, words_of};
 use keeper_core::MemKeeper;
 use restore_run::{RestoreEnd, restore_desk};
 use std::alloc::Global;
@@ -83,7 +83,7 @@ fn link_of(alloc: Global, case: &Case) -> Result<MemLink, Fail> {
 fn source_of(alloc: Global, case: &Case) -> Result<MemSource, Fail> {
     let fails = List::from_vec(case.numbers(alloc, "reads")?);
     let dump = List::from_vec(Vec::from_slice(alloc, case.bytes("dump")?)?);
-    Ok(MemSource::new(dump, cut_of(case).max(1), fails))
+    Ok(MemSource::new(dump, case.cut().max(1), fails))
 }
 
 fn sink_of(alloc: Global, case: &Case) -> Result<MemSink, Fail> {
@@ -92,5 +92,5 @@ fn sink_of(alloc: Global, case: &Case) -> Result<MemSink, Fail> {
         Some(room) => usize::try_from(room).unwrap_or(usize::MAX),
         None => USUAL_ROOM,
     };
-    Ok(MemSink::new(alloc, cut_of(case).max(1), room, fails)?)
+    Ok(MemSink::new(alloc, case.cut().max(1), room, fails)?)
 }

@@ -2,14 +2,14 @@
 use crate::indexes::{line_over_map, line_over_sorted};
 use case_json::pointer_of;
 use desk_cases::{Answer, Case, Part};
-use desk_trials::{Call, Told, cut_of};
+use desk_trials::{Call, Told};
 use std::alloc::Global;
 use std::test::Fail;
 
 /// The call of a case with its words, in which no call of the link fails.
 pub fn call_of<'a>(case: &'a Case, words: &'a [String]) -> Result<Call<'a>, Fail> {
     let mut call = Call::new(words, case.bytes("input")?);
-    call.cut = cut_of(case);
+    call.cut = case.cut();
     Ok(call)
 }
 

@@ -3,7 +3,7 @@ ghost use Rattle.std.specs.Prelude.{◌≡◌, length};
 
 use desk_base::{MemLink, MemSource, Source};
 use desk_cases::{Answer, Case, Part};
-use desk_trials::{Call, Script, Told, cut_of, fresh, keeper_of, serve, shown, words_of};
+use desk_trials::{Call, Script, Told, fresh, keeper_of, serve, shown, words_of};
 use keeper_core::MemKeeper;
 use std::alloc::Global;
 use std::test::Fail;
@@ -186,7 +186,7 @@ fn add_call(
     let sent = case.text(names.sent).unwrap_or("");
     let sent = script.named(answer.alloc(), case, sent)?;
     let mut call = Call::new(words.as_slice(), sent.as_slice());
-    call.cut = cut_of(case);
+    call.cut = case.cut();
     make_call(script, case, keeper, names, &call, answer)
 }
 

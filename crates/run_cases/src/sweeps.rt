@@ -1,7 +1,7 @@
 //! The script, cut off after each of its first bytes, and over links of which each call fails in turn.
 use crate::streams::alone;
 use desk_cases::{Answer, Case};
-use desk_trials::{Call, End, Script, Table, Told, cut_of, fresh, leave, serve, shown, words_of};
+use desk_trials::{Call, End, Script, Table, Told, fresh, leave, serve, shown, words_of};
 use keeper_core::MemKeeper;
 use std::alloc::Global;
 use std::test::Fail;
@@ -60,7 +60,7 @@ fn each_fails(
     let words = words_of(answer.alloc(), b"pipe")?;
     let requests = script.first(answer.alloc(), requests)?;
     let mut call = Call::new(words.as_slice(), requests.as_slice());
-    call.cut = cut_of(case);
+    call.cut = case.cut();
     add_lines(end, script, &mut call, answer)
 }
 
