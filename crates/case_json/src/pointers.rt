@@ -305,11 +305,7 @@ fn is_unread_at<C, T: Part<C> + Drop>(
 ) -> Result<bool, NoMemory>
     ensures { IfOk result (λ unread. unread ≡ is_none (field key.now (T.part_in context.now) (view value.now))) }
 {
-    match read_field::<C, T>(alloc, context, key, value) {
-        Ok(_) => Ok(false),
-        Err(PartFault::WrongForm) => Ok(true),
-        Err(PartFault::NoMemory) => Err(NoMemory),
-    }
+    is_unread(read_field::<C, T>(alloc, context, key, value))
 }
 
 /// The place of the first value of which nothing is read.
