@@ -90,10 +90,6 @@ done-not_refused value refusal gives = cc
 pub done-value : {A : Type 0} (value found : A) → Gives (done value) (Ok found) → found ≡ value
 done-value value found gives = cc
 
--- what is refused gives no value
-pub refused-not_done : {A : Type 0} (refusal : Refusal) (found : A) → Gives {A = A} (refused refusal) (Ok found) → ⊥
-refused-not_done refusal found gives = cc
-
 -- what is refused is refused so
 pub refused-refusal : {A : Type 0} (refusal other : Refusal) → Gives {A = A} (refused refusal) (Err other)
     → other ≡ refusal

@@ -27,3 +27,4 @@ pub mod Pairs
 pub mod ReadRows
 pub mod SheetCells
 pub mod Carried
+pub mod Rooms

@@ -1,6 +1,6 @@
 -- Rows as they are read, and the masters of an edition of valid tables.
 use Rattle.std.proofs.Common.{◌≡◌, ◌∙◌, ℕ, ◌<◌, Bool, true, List, [], ◌∷◌, length, get_or, Option, Some, inl, inr, refl}
-use Rattle.std.proofs.Common.{subst}
+use Rattle.std.proofs.Common.{ap, arith, subst}
 use Rattle.std.specs.Prelude.{All, find, is_some, option_map, slice_get, Result, Ok, Err}
 use Rattle.std.specs.Str.{bytes_eq}
 use Rattle.std.proofs.lemmas.Bool.{cases_Bool}
@@ -12,6 +12,7 @@ use Rattle.desk_words.specs.declared.rows.master.MasterRow.{MasterRow}
 use Rattle.desk_words.specs.Tables.{Published, Rows, published_of}
 use Rattle.desk_valid.specs.Readings.{read}
 use Rattle.desk_valid.specs.Valid.{AreValid}
+use Rattle.desk_valid.proofs.First.{slice_get-read}
 use Rattle.master_rows.specs.declared.error.SheetFault.{SheetFault}
 use Rattle.master_rows.specs.declared.master.Master.{Master}
 use Rattle.master_rows.specs.Sheet.{read_sheet}
@@ -25,6 +26,11 @@ use Rattle.machine_core.specs.Views.{edition_at}
 pub edition-read : (published : Published) (place : ℕ) (row : EditionRow) → place < length published.editions
     → row ≡ get_or published.editions place row → row ≡ edition_at published place
 edition-read published place row within is = is ∙ get_or_default published.editions place row _ within
+
+-- a row that is read at the place of one stands there
+pub row-stands : {T : Type 0} {rows items : List T} {place : ℕ} {row : T} → items ≡ rows → place < length rows
+    → row ≡ get_or items place row → slice_get rows place ≡ Some row
+row-stands same within is = slice_get-read same (omega (arith, within, ap length same)) is
 
 -- what is found is one of those that were looked through
 pub find-all : (P : ℕ → Type 0) (test : ℕ → Bool) (items : List ℕ) (found : ℕ) → find test items ≡ Some found

@@ -9,11 +9,9 @@ use Rattle.desk_words.specs.declared.limit.Which.{Which}
 use Rattle.desk_words.specs.declared.refusal.Refusal.{Refusal}
 use Rattle.desk_words.specs.declared.refusal.Refusal.TheVariants.{Limit}
 use Rattle.machine_core.specs.Checked.{Checked, done, ◌>>=◌, certainly, each, each_following, some_or, unless, value_or}
-use Rattle.machine_core.specs.Checked.{IsFound, ComesTo, Outcome, and_then, run}
-use Rattle.machine_core.specs.Checked.{Gives}
+use Rattle.machine_core.specs.Checked.{Gives, IsFound}
 use Rattle.machine_core.specs.Limits.{limit_of, within}
 use Rattle.machine_core.proofs.Chains.{Gives-bind, Gives-bind_err, Gives-bind_ok, done-not_refused, done-value}
-use Rattle.machine_core.proofs.Chains.{and_then-err}
 
 -- the test passed
 pub unless-ok : (test : Bool) (refusal : Refusal) (passed : Unit {0}) → Gives (unless test refusal) (Ok passed)
@@ -56,12 +54,6 @@ pub certainly-some : {A : Type 0} (option : Option A) (found : A) → option ≡
     → IsFound (certainly option) found
 certainly-some None found is = absurd (cc)
 certainly-some (Some other) found is = cc
-
--- there was no fault
-pub value_or-ok : {A E : Type 0} (result : Result A E) (refusal_of : E → Refusal) (found : A)
-    → Gives (value_or result refusal_of) (Ok found) → result ≡ Ok found
-value_or-ok (Ok value) refusal_of found gives = cc
-value_or-ok (Err fault) refusal_of found gives = absurd (cc)
 
 -- what is said of the fault
 pub value_or-err : {A E : Type 0} (result : Result A E) (refusal_of : E → Refusal) (other : Refusal)
@@ -136,18 +128,6 @@ each_following-length find (first ∷ others) before found gives =
       length-append before (here ∷ []),
     )
 
--- what holds of each refusal of the parts holds of that of the chain
-pub chain-why : {A B : Type 0} (P : Refusal → Type 0) (checked : Checked A) (next : A → Outcome B)
-    → ((refusal : Refusal) → Gives checked (Err refusal) → P refusal)
-    → ((found : A) → Gives checked (Ok found) → (refusal : Refusal) → ComesTo (next found) (Err refusal) → P refusal)
-    → (refusal : Refusal) → ComesTo (and_then (run checked) next) (Err refusal) → P refusal
-chain-why P checked next first rest refusal comes = elim (and_then-err (run checked) next refusal comes) [
-  | inl here ↦ first refusal here
-  | inr there ↦
-      let (found, is_found, left) = there in
-      rest found is_found refusal left
-]
-
 -- what holds of the refusal where the test fails holds of that of the test
 pub unless-why : (P : Refusal → Type 0) (test : Bool) (refusal : Refusal) → (test ≡ false → P refusal)
     → (other : Refusal)
@@ -163,10 +143,6 @@ some_or-why P option refusal why other gives =
     let says = some_or-err option refusal other gives in
     subst P (sym says.1) (why says.0)
 
-pub certainly-why : {A : Type 0} (P : Refusal → Type 0) (option : Option A) (refusal : Refusal)
-    → Gives (certainly option) (Err refusal) → P refusal
-certainly-why P option refusal gives = absurd (certainly-err option refusal gives)
-
 pub value_or-why : {A E : Type 0} (P : Refusal → Type 0) (result : Result A E) (refusal_of : E → Refusal)
     → ((fault : E) → result ≡ Err fault → P (refusal_of fault)) → (other : Refusal)
     → Gives (value_or result refusal_of) (Err other) → P other
@@ -180,10 +156,6 @@ pub within-why : (P : Refusal → Type 0) (which : Which) (count : ℕ)
 within-why P which count why other gives =
     let says = within-err which count other gives in
     subst P (sym says.1) (why says.0)
-
-pub done-why : {A : Type 0} (P : Refusal → Type 0) (value : A) (refusal : Refusal) → Gives (done value) (Err refusal)
-    → P refusal
-done-why P value refusal gives = absurd (done-not_refused value refusal gives)
 
 pub each-why : {A B : Type 0} (P : Refusal → Type 0) (find : A → Checked B) (items : List A)
     → ((item : A) → Contains items item → (refusal : Refusal) → Gives (find item) (Err refusal) → P refusal)

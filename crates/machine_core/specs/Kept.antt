@@ -1,7 +1,7 @@
 -- The kept reply: what the reply of a caller's act is over the tables, one equation an act. It is the reply of an
 -- accepted write, over the rows after it, and the reply of its repeat. An act that a caller can't have has no reply:
 -- valid tables rule it out.
-use Rattle.std.specs.Prelude.{ℕ, ◌+◌, ◌-◌, count_by, drop, slice_get, take}
+use Rattle.std.specs.Prelude.{ℕ, ◌+◌, ◌-◌, List, count_by, drop, slice_get, take}
 use Rattle.desk_words.specs.declared.made.Made.{Made}
 use Rattle.desk_words.specs.declared.made.Made.TheVariants as made
 use Rattle.desk_words.specs.declared.reply.Reply.{Reply}
@@ -15,7 +15,7 @@ use Rattle.desk_words.specs.Tables.{Published, Rows, published_of}
 use Rattle.desk_valid.specs.Bindings.{bound_at}
 use Rattle.fix_model.specs.Regions.{row_state}
 use Rattle.machine_core.specs.Checked.{Checked, ◌>>=◌, answer_for, done, each, certainly, never}
-use Rattle.machine_core.specs.Look.Report.{is_certain_fix, is_conflict, is_partial_fix, assessment_of}
+use Rattle.machine_core.specs.Look.Report.{Assessment, is_certain_fix, is_conflict, is_partial_fix, assessment_of}
 use Rattle.machine_core.specs.Look.View.{view_at}
 use Rattle.machine_core.specs.Own.{Own}
 use Rattle.machine_core.specs.Steward.AddRegion.{region_count}
@@ -52,18 +52,22 @@ kept_made rows Region place = do
   region_made (published_of rows) place row
 kept_made rows _ place = never
 
+-- a batch of this number, with these verdicts on its sessions
+abbrev pub batch_with : ℕ → BatchRow → List Assessment → Reply
+batch_with number row sessions = reply.Batched (record {
+  batch = number;
+  first = row.first;
+  rows = row.count;
+  certain = count_by (λ one. is_certain_fix one.verdict) sessions;
+  partial = count_by (λ one. is_partial_fix one.verdict) sessions;
+  conflict = count_by (λ one. is_conflict one.verdict) sessions;
+})
+
 -- the batch of this number, with its sessions' verdicts
 abbrev pub batch_reply : Published → Own → ℕ → BatchRow → Checked Reply
 batch_reply published own number row = do
   sessions ← each (assessment_of published) (take row.count (drop (row.first - 1) own.sessions))
-  done (reply.Batched (record {
-    batch = number;
-    first = row.first;
-    rows = row.count;
-    certain = count_by (λ one. is_certain_fix one.verdict) sessions;
-    partial = count_by (λ one. is_partial_fix one.verdict) sessions;
-    conflict = count_by (λ one. is_conflict one.verdict) sessions;
-  }))
+  done (batch_with number row sessions)
 
 -- the reply of a clerk's act, whose target is a place from 0
 abbrev pub kept_reply : Published → Own → Act → ℕ → Checked Reply

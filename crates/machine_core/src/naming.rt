@@ -1,11 +1,12 @@
 //! Names of what is new.
-ghost use Rattle.std.specs.Prelude.{◌≤◌, OnOk, length};
+ghost use Rattle.std.specs.Prelude.{◌≡◌, ◌≤◌, IfOk, OnOk, length};
 ghost use Rattle.machine_core.specs.Outcomes.{Finds};
 ghost use Rattle.machine_core.specs.Tests.{proper_name};
 
 use crate::stop::Stop;
-use desk_base::{Duplicate, Str, is_name};
+use desk_base::{Duplicate, NoMemory, Str, Text, is_name};
 use desk_words::Refusal;
+use std::alloc::Global;
 
 /// The text is a name.
 pub(crate) fn proper_name(text: &Str) -> Result<(), Stop>
@@ -17,4 +18,12 @@ pub(crate) fn proper_name(text: &Str) -> Result<(), Stop>
     } else {
         Err(Stop::Refused(Refusal::BadName(text.copy()?)))
     }
+}
+
+/// The text of a name.
+pub(crate) fn name_text(alloc: Global, name: &Str) -> Result<Text, NoMemory>
+    requires { length name.now ≤ 32 }
+    ensures { IfOk result (λ text. text ≡ name.now) }
+{
+    Text::of(alloc, name.as_str())
 }

@@ -61,6 +61,12 @@ batch_deed own edition count sessions = record {
   target = length own.batches;
 }
 
+-- the last limit, of the bytes, and the deed of so many sessions
+abbrev pub batch_of : Own → ℕ → ℕ → List SessionRow → Checked Deed
+batch_of own edition count sessions = do
+  within which.Bytes (text_bytes own.sessions own.records + typed_bytes sessions)
+  done (batch_deed own edition count sessions)
+
 -- the limits, in their order, and the deed: a session for each row after the others, and the batch of them
 abbrev pub batch_rows : Own → ℕ → ℕ → List Column → List (List (List ℕ)) → Checked Deed
 batch_rows own edition width columns rows = do
@@ -68,9 +74,7 @@ batch_rows own edition width columns rows = do
   within which.ActiveSessions (active_count own.sessions + length rows)
   within which.Sessions (length own.sessions + length rows)
   within which.Batches (length own.batches + 1)
-  let sessions = map (row_session edition width (length own.batches + 1) columns) rows
-  within which.Bytes (text_bytes own.sessions own.records + typed_bytes sessions)
-  done (batch_deed own edition (length rows) sessions)
+  batch_of own edition (length rows) (map (row_session edition width (length own.batches + 1) columns) rows)
 
 -- the tests of the edition and the sheet, in their order, and the deed of its rows
 abbrev pub enter_batch : Published → Own → List ℕ → List ℕ → Checked Deed

@@ -25,13 +25,18 @@ with_cells session cells = record session {
   confirmed = confirmed_at session.confirmed (map (λ cell. cell.0) cells);
 }
 
+-- the tests of cells of these attributes, and the session with them typed and confirmed
+abbrev pub cells_confirmed : List (List ℕ) → SessionRow → List (List ℕ × List ℕ) → Checked SessionRow
+cells_confirmed attributes session cells = do
+  texts ← each (typed_cell attributes) cells
+  done (with_cells session texts)
+
 -- the tests on the session and the cells, in their order, and the session after them
 abbrev pub confirm_row : Published → Own → ℕ → List (List ℕ × List ℕ) → Checked SessionRow
 confirm_row published own number cells = do
   session ← active_session own.sessions number
   bound ← bound_for published session
-  texts ← each (typed_cell bound.names.attributes) cells
-  done (with_cells session texts)
+  cells_confirmed bound.names.attributes session cells
 
 -- the bytes of a clerk's texts, once a session of this number is in place of the one that stands there
 abbrev pub bytes_with : Own → ℕ → SessionRow → ℕ

@@ -32,18 +32,23 @@ new_session edition width cells confirmed batch = record {
   batch = batch;
 }
 
--- the tests, in their order, and the new session
+-- the tests of the cells and of the limits, in their order, and the new session on an edition of these attributes
+abbrev pub entered : Own → ℕ → List (List ℕ) → List (List ℕ × List ℕ) → List (List ℕ) → Checked SessionRow
+entered own edition attributes cells confirmed = do
+  texts ← each (typed_cell attributes) cells
+  places ← each (attribute_of attributes) confirmed
+  within which.ActiveSessions (active_count own.sessions + 1)
+  within which.Sessions (length own.sessions + 1)
+  let session = new_session edition (length attributes) texts places 0
+  within which.Bytes (text_bytes own.sessions own.records + bytes_in session.typed)
+  done session
+
+-- the new session on the newest version of an edition
 abbrev pub enter_row : Published → Own → List ℕ → List (List ℕ × List ℕ) → List (List ℕ) → Checked SessionRow
 enter_row published own edition_name cells confirmed = do
   edition ← some_or (newest_edition published.editions edition_name) (NoSuch kind.Edition)
   bound ← certainly (bound_at published edition)
-  texts ← each (typed_cell bound.names.attributes) cells
-  places ← each (attribute_of bound.names.attributes) confirmed
-  within which.ActiveSessions (active_count own.sessions + 1)
-  within which.Sessions (length own.sessions + 1)
-  let session = new_session edition (length bound.names.attributes) texts places 0
-  within which.Bytes (text_bytes own.sessions own.records + bytes_in session.typed)
-  done session
+  entered own edition bound.names.attributes cells confirmed
 
 -- the deed: the new session comes after the others
 abbrev pub enter : Published → Own → List ℕ → List (List ℕ × List ℕ) → List (List ℕ) → Checked Deed

@@ -60,6 +60,12 @@ bindable published row = do
   parts ← certainly (parts_of published row)
   narrow parts row.folded
 
+-- the row of an edition whose parts bind
+abbrev pub bound_row : Published → EditionRow → Checked EditionRow
+bound_row published row = do
+  bindable published row
+  done row
+
 -- those of so many attributes that are among these, in their order
 abbrev pub in_order : List ℕ → ℕ → List ℕ
 in_order attributes width = filter (is_listed attributes) (range_with_len 0 width)
@@ -85,5 +91,4 @@ edition_row published name rulebook masters folded = do
   places ← each_following [] (another_master published.masters) masters
   within which.Editions (length published.editions + 1)
   let row = next_edition published.editions name book places (in_order attributes (length rules.schema.attributes))
-  bindable published row
-  done row
+  bound_row published row

@@ -6,9 +6,9 @@ ghost use Rattle.machine_core.specs.Outcomes.{Finds};
 ghost use Rattle.machine_core.specs.Steward.AddClerk.{clerk_row};
 
 use crate::limits::within;
-use crate::naming::proper_name;
+use crate::naming::{name_text, proper_name};
 use crate::stop::Stop;
-use desk_base::{Duplicate, Str, Text};
+use desk_base::{Duplicate, Str};
 use desk_words::{ClerkRow, Refusal, Which};
 use std::alloc::Global;
 
@@ -21,7 +21,7 @@ pub fn clerk_row(alloc: Global, clerks: &[ClerkRow], name: &Str) -> Result<Clerk
         return Err(Stop::Refused(Refusal::Taken(name.copy()?)));
     }
     within(Which::Clerks, clerks.len() as u64)?;
-    Ok(ClerkRow::new(Text::of(alloc, name.as_str())?))
+    Ok(ClerkRow::new(name_text(alloc, name)?))
 }
 
 fn is_taken(clerks: &[ClerkRow], name: &str) -> bool

@@ -1,5 +1,5 @@
 //! AddEdition: the next version of an edition's name, of a rulebook and masters that bind.
-ghost use Rattle.std.specs.Prelude.{◌≡◌, ◌<◌, ◌≤◌, ◌^◌, nat_le, All, IfOk, [], Some, length};
+ghost use Rattle.std.specs.Prelude.{◌≡◌, ◌<◌, ◌≤◌, ◌^◌, nat_le, IfOk, [], Some, length};
 ghost use Rattle.std.specs.List.{list_any};
 ghost use Rattle.std.specs.Str.{bytes_eq};
 ghost use Rattle.desk_base.specs.declared.limits.TheConstants.{MAX_ENTRIES};
@@ -15,16 +15,16 @@ ghost use Rattle.desk_valid.specs.Valid.{AreValid};
 ghost use Rattle.machine_core.specs.Checked.{each_following, unless};
 ghost use Rattle.machine_core.specs.Outcomes.{Finds, WantsNone};
 ghost use Rattle.machine_core.specs.DeskLook.Check.{entries_of};
-ghost use Rattle.machine_core.specs.Steward.AddEdition.{AreOthers, HasParts, another_master, bindable, edition_row, in_order};
+ghost use Rattle.machine_core.specs.Steward.AddEdition.{AreOthers, HasParts, another_master, bound_row, edition_row, in_order};
 ghost use Rattle.machine_core.specs.Steward.AddEdition.{next_edition, master_name, narrow};
 
 use crate::attributes::{another_attributes, is_among};
 use crate::faults::bind_stop;
 use crate::finding::{named, next_version};
 use crate::limits::within;
-use crate::naming::proper_name;
+use crate::naming::{name_text, proper_name};
 use crate::stop::Stop;
-use desk_base::{Duplicate, List, MAX_ENTRIES, NoMemory, Str, Text};
+use desk_base::{Duplicate, List, MAX_ENTRIES, NoMemory, Str};
 use desk_valid::{Parts, Rules, masters_of, rules_of};
 use desk_words::{EditionRow, Kind, MasterRow, Reader, Refusal, Tables, Which};
 use rule_text::bind;
@@ -62,8 +62,7 @@ pub fn edition_row(
         rules.schema.attributes.len() as u16,
     )?;
     let row = next_edition(alloc, tables, name, book, places, folded)?;
-    bindable(alloc, tables, rules, &row)?;
-    Ok(row)
+    bound_row(alloc, tables, rules, row)
 }
 
 /// How many entries the index of an edition has.
@@ -101,7 +100,7 @@ fn next_edition(
         (λ row. row ≡ next_edition tables.now.editions.items name.now rulebook masters folded) }
 {
     let version = next_version(tables.editions.as_slice(), name.as_str());
-    let name = Text::of(alloc, name.as_str())?;
+    let name = name_text(alloc, name)?;
     Ok(EditionRow {
         name,
         version,
@@ -172,19 +171,26 @@ fn in_order(alloc: Global, attributes: &[u16], width: u16) -> Result<List<u16>, 
     Ok(made)
 }
 
-/// The edition binds to a kit whose index is not too wide.
-fn bindable(alloc: Global, tables: &Tables, rules: Rules, row: &EditionRow) -> Result<(), Stop>
+/// The edition, where it binds to a kit whose index is not too wide.
+fn bound_row(
+    alloc: Global,
+    tables: &Tables,
+    rules: Rules,
+    row: EditionRow,
+) -> Result<EditionRow, Stop>
     requires valid { AreValid (rows_of tables.now) }
-    requires rules { rules_at (published_of (rows_of tables.now)) row.now.rulebook ≡ Some rules }
+    requires rules { rules_at (published_of (rows_of tables.now)) row.rulebook ≡ Some rules }
     requires schema { IsSchema rules.schema }
     requires rulebook { IsRulebook rules.schema rules.rulebook }
-    requires masters { AreOthers (published_of (rows_of tables.now)) row.now.masters }
-    requires few { length row.now.masters ≤ 8 }
-    requires folded { AreFolded rules.schema row.now.folded }
-    ensures { Finds result (bindable (published_of (rows_of tables.now)) row.now) }
+    requires masters { AreOthers (published_of (rows_of tables.now)) row.masters }
+    requires few { length row.masters ≤ 8 }
+    requires folded { AreFolded rules.schema row.folded }
+    ensures binds { Finds result (bound_row (published_of (rows_of tables.now)) row) }
+    ensures same { IfOk result (λ bound. bound ≡ row) }
 {
     let masters = masters_of(alloc, tables, row.masters.as_slice())?;
-    narrow(alloc, &Parts { rules, masters }, row.folded.as_slice())
+    narrow(alloc, &Parts { rules, masters }, row.folded.as_slice())?;
+    Ok(row)
 }
 
 /// The parts bind to a kit whose index is not too wide.

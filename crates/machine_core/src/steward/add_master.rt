@@ -8,9 +8,9 @@ ghost use Rattle.machine_core.specs.Versions.{AreVersions};
 use crate::faults::sheet_stop;
 use crate::finding::next_version;
 use crate::limits::within;
-use crate::naming::proper_name;
+use crate::naming::{name_text, proper_name};
 use crate::stop::Stop;
-use desk_base::{Duplicate, List, Str, Text};
+use desk_base::{Duplicate, List, Str};
 use desk_words::{MasterRow, Which};
 use master_rows::Master;
 use std::alloc::Global;
@@ -35,7 +35,7 @@ pub fn master_row(
     within(Which::MasterCells, cells + brought)?;
     let version = next_version(masters, name.as_str());
     Ok(MasterRow {
-        name: Text::of(alloc, name.as_str())?,
+        name: name_text(alloc, name)?,
         version,
         body: body.copy()?,
     })

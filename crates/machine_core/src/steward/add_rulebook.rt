@@ -8,9 +8,9 @@ ghost use Rattle.machine_core.specs.Steward.AddRulebook.{rulebook_row};
 use crate::faults::read_rulebook;
 use crate::finding::{named, next_version};
 use crate::limits::within;
-use crate::naming::proper_name;
+use crate::naming::{name_text, proper_name};
 use crate::stop::Stop;
-use desk_base::{Duplicate, List, Str, Text};
+use desk_base::{Duplicate, List, Str};
 use desk_valid::schema_of;
 use desk_words::{Kind, RulebookRow, Tables, Which};
 use std::alloc::Global;
@@ -37,7 +37,7 @@ pub fn rulebook_row(
     within(Which::Rulebooks, rulebooks.len() as u64 + 1)?;
     let next = next_version(rulebooks, name.as_str());
     Ok(RulebookRow {
-        name: Text::of(alloc, name.as_str())?,
+        name: name_text(alloc, name)?,
         version: next,
         schema: place,
         body: body.copy()?,

@@ -1,9 +1,10 @@
-use Rattle.std.proofs.Common.{arith, refl, subst}
+use Rattle.std.proofs.Common.{refl, subst}
 use Rattle.std.specs.Prelude.{IfSome}
 use Rattle.std.proofs.lemmas.Result.{IfOk-weaker}
 use Rattle.desk_words.specs.Tables.{published_of, rows_of}
 use Rattle.region_derive.specs.Derived.{AreDerived, ArePairs}
 use Rattle.machine_core.specs.Shelves.{bound_on}
+use Rattle.machine_core.proofs.Rooms.{IsFullRoom-for}
 use Rattle.machine_core.proofs.Widths.{named-kit}
 use Rattle.machine_core.proofs.derived.derived_rows.Goals as goal
 
@@ -18,11 +19,8 @@ pub derive-requires-clause-room : goal.derive-requires-clause-room
 derive-requires-clause-room c =
     let rows = rows_of c.args.tables.now in
     let bound = c.shelved.ensures.bound (published_of rows) c.in_ok-hold.ensures.held in
-    let named = named-kit rows c.args.derivation.now.edition (bound_on c.shelved.result.now) c.requires.valid bound in
-    record {
-      attributes = omega (arith, named.valid.narrow, c.requires.room.attributes);
-      rules = omega (arith, named.valid.few_rules, c.requires.room.rules);
-    }
+    IsFullRoom-for c.requires.room
+    (named-kit rows c.args.derivation.now.edition (bound_on c.shelved.result.now) c.requires.valid bound).valid
 
 pub returns-clause-rows : goal.returns-clause-rows
 returns-clause-rows c =

@@ -31,7 +31,6 @@ returns c =
       cells,
       c.next_version-version.ensures,
       c.as_str.ensures.text,
-      c.in_ok-of.ensures,
-      c.as_str-2.ensures.text,
+      c.in_ok-name_text.ensures,
       c.in_ok-copy.ensures.copied,
     ) refl

@@ -44,7 +44,6 @@ returns-clause-row c =
       c.next_version-next.ensures,
       c.as_slice-rulebooks.ensures,
       c.as_str.ensures.text,
-      c.in_ok-of.ensures,
-      c.as_str-2.ensures.text,
+      c.in_ok-name_text.ensures,
       c.in_ok-copy.ensures.copied,
     ) refl
