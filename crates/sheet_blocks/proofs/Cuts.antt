@@ -1,17 +1,19 @@
 -- Where the bytes of a sheet are cut, after one byte more.
-use Rattle.std.proofs.Common.{◌≡◌, ℕ, List, [], ◌∷◌, ◌++◌, ◌==◌, true, false, refl, sym, ap, ◌∙◌, inl, inr}
-use Rattle.std.proofs.Common.{append_assoc, subst}
-use Rattle.std.proofs.lemmas.Bool.{cases_Bool, eqb-true, ne_eqb}
-use Rattle.csv.specs.Machine.{ends_at_end, is_end, step}
+use Rattle.std.proofs.Common.{◌≡◌, ℕ, List, [], ◌∷◌, ◌++◌, ◌==◌, ◌||◌, Bool, true, false, refl, sym, ap, ◌∙◌}
+use Rattle.std.proofs.Common.{append_assoc, if◌then◌else◌, subst}
+use Rattle.std.proofs.lemmas.Bool.{eqb-true, ne_eqb}
+use Rattle.csv.specs.Machine.{ends_at_end, in_field, is_end, step}
+use Rattle.csv.specs.declared.parser.Action.{Action}
+use Rattle.csv.specs.declared.parser.Action.TheVariants as act
 use Rattle.csv.specs.declared.parser.Config.{Config}
 use Rattle.csv.specs.declared.parser.State.{State}
 use Rattle.csv.specs.declared.parser.State.TheVariants as st
 use Rattle.sheet_blocks.specs.declared.place.Place.{Place}
-use Rattle.sheet_blocks.specs.declared.place.Place.TheVariants.{Start}
+use Rattle.sheet_blocks.specs.declared.place.Place.TheVariants.{Start, Plain, Quoted, Closed}
 use Rattle.sheet_blocks.specs.Kept.{Follows, IsCutAt, reader_place}
 use Rattle.sheet_blocks.specs.declared.blocks.Kept.{Kept}
 use Rattle.std.proofs.lemmas.List.{append-nil}
-use Rattle.sheet_blocks.specs.Places.{ends_line, next_place}
+use Rattle.sheet_blocks.specs.Places.{ends_line, is_line_end, next_place, place_outside}
 use Rattle.sheet_blocks.specs.Sheets.{IsDelimiter}
 use Rattle.master_rows.specs.Sheet.{delimited}
 use Rattle.sheet_blocks.specs.Whole.{AreWhole, EndsNone, state_after}
@@ -65,189 +67,104 @@ AreWhole-append delimiter one other first second =
     ap ends_at_end (state_after-append (delimited delimiter) st.StartRecord one other)
     ∙ whole-between delimiter (state_after (delimited delimiter) st.StartRecord one) other first second
 
--- what a byte does to the machine, by what it does to the place
-record Agrees (delimiter : ℕ) (state : State) (byte : ℕ) : Type 0 where
-  place : next_place delimiter (reader_place state) byte ≡ reader_place (step (delimited delimiter) state byte).0
-  ends : ends_line (reader_place state) byte ≡ true → ends_at_end (step (delimited delimiter) state byte).0 ≡ false
-  start : ends_line (reader_place state) byte ≡ true → next_place delimiter (reader_place state) byte ≡ Start
-  goes : ends_line (reader_place state) byte ≡ false → is_end (step (delimited delimiter) state byte).1 ≡ false
+-- what a step does, where it ends a line or not, and the place after it is this
+record Agrees (line : Bool) (next : Place) (after : State × Action) : Type 0 where
+  place : next ≡ reader_place after.0
+  ends : line ≡ true → ends_at_end after.0 ≡ false
+  start : line ≡ true → next ≡ Start
+  goes : line ≡ false → is_end after.1 ≡ false
 
--- a byte that is no line end ends no line
-ends_line-no : (state : State) (byte : ℕ) → (byte == 13) ≡ false → (byte == 10) ≡ false
-    → ends_line (reader_place state) byte ≡ false
-ends_line-no st.StartRecord byte no_return no_feed = rw (no_return, no_feed) refl
-ends_line-no st.StartField byte no_return no_feed = rw (no_return, no_feed) refl
-ends_line-no st.AfterCr byte no_return no_feed = rw (no_return, no_feed) refl
-ends_line-no st.InField byte no_return no_feed = rw (no_return, no_feed) refl
-ends_line-no st.AfterQuote byte no_return no_feed = rw (no_return, no_feed) refl
-ends_line-no st.InEscape byte no_return no_feed = rw (no_return, no_feed) refl
-ends_line-no st.InComment byte no_return no_feed = rw (no_return, no_feed) refl
-ends_line-no st.InQuoted byte no_return no_feed = refl
+-- one that ends a line
+Agrees-ends : (state : State) (action : Action) → Start ≡ reader_place state → ends_at_end state ≡ false
+    → Agrees true Start (state, action)
+Agrees-ends state action place apart = record {
+  place = place;
+  ends = λ _. apart;
+  start = λ _. refl;
+  goes = λ e. absurd (let f = e in cc);
+}
 
--- what such a byte does, by its step
-agrees_by : (delimiter byte : ℕ) (state : State) → (byte == 13) ≡ false → (byte == 10) ≡ false
-    → next_place delimiter (reader_place state) byte ≡ reader_place (step (delimited delimiter) state byte).0
-    → is_end (step (delimited delimiter) state byte).1 ≡ false → Agrees delimiter state byte
-agrees_by delimiter byte state no_return no_feed place goes =
-    let none = ends_line-no state byte no_return no_feed in
-    record {
-      place = place;
-      ends = λ e. absurd (let f = sym none ∙ e in cc);
-      start = λ e. absurd (let f = sym none ∙ e in cc);
-      goes = λ _. goes;
-    }
-
-agrees_within : (delimiter byte : ℕ) (state : State) → (byte == 13) ≡ false → (byte == 10) ≡ false
-    → IsReached state → Agrees delimiter state byte
-agrees_within delimiter byte st.StartRecord no_return no_feed reached = elim (cases_Bool (byte == 34)) [
-  | inl quote ↦
-      agrees_by delimiter byte st.StartRecord no_return no_feed (rw (no_return, no_feed, quote) refl)
-      (rw (no_return, no_feed, quote) refl)
-  | inr other ↦ elim (cases_Bool (byte == delimiter)) [
-    | inl parts ↦ agrees_by delimiter byte st.StartRecord no_return no_feed (rw (no_return, no_feed, other, parts) refl)
-        (rw (no_return, no_feed, other, parts) refl)
-    | inr copied ↦ agrees_by delimiter byte st.StartRecord no_return no_feed
-        (rw (no_return, no_feed, other, copied) refl) (rw (no_return, no_feed, other, copied) refl)
-  ]
-]
-agrees_within delimiter byte st.AfterCr no_return no_feed reached = elim (cases_Bool (byte == 34)) [
-  | inl quote ↦
-      agrees_by delimiter byte st.AfterCr no_return no_feed (rw (no_return, no_feed, quote) refl)
-      (rw (no_return, no_feed, quote) refl)
-  | inr other ↦ elim (cases_Bool (byte == delimiter)) [
-    | inl parts ↦ agrees_by delimiter byte st.AfterCr no_return no_feed (rw (no_return, no_feed, other, parts) refl)
-        (rw (no_return, no_feed, other, parts) refl)
-    | inr copied ↦ agrees_by delimiter byte st.AfterCr no_return no_feed
-        (rw (no_return, no_feed, other, copied) refl) (rw (no_return, no_feed, other, copied) refl)
-  ]
-]
-agrees_within delimiter byte st.StartField no_return no_feed reached = elim (cases_Bool (byte == 34)) [
-  | inl quote ↦
-      agrees_by delimiter byte st.StartField no_return no_feed (rw (quote) refl) (rw (quote) refl)
-  | inr other ↦ elim (cases_Bool (byte == delimiter)) [
-    | inl parts ↦ agrees_by delimiter byte st.StartField no_return no_feed (rw (other, parts) refl)
-        (rw (other, parts) refl)
-    | inr copied ↦ agrees_by delimiter byte st.StartField no_return no_feed
-        (rw (no_return, no_feed, other, copied) refl) (rw (no_return, no_feed, other, copied) refl)
-  ]
-]
-agrees_within delimiter byte st.AfterQuote no_return no_feed reached = elim (cases_Bool (byte == 34)) [
-  | inl quote ↦
-      agrees_by delimiter byte st.AfterQuote no_return no_feed (rw (quote) refl) (rw (quote) refl)
-  | inr other ↦ elim (cases_Bool (byte == delimiter)) [
-    | inl parts ↦ agrees_by delimiter byte st.AfterQuote no_return no_feed (rw (other, parts) refl)
-        (rw (other, parts) refl)
-    | inr copied ↦ agrees_by delimiter byte st.AfterQuote no_return no_feed
-        (rw (no_return, no_feed, other, copied) refl) (rw (no_return, no_feed, other, copied) refl)
-  ]
-]
-agrees_within delimiter byte st.InField no_return no_feed reached = elim (cases_Bool (byte == delimiter)) [
-  | inl parts ↦ agrees_by delimiter byte st.InField no_return no_feed (rw parts refl) (rw parts refl)
-  | inr copied ↦ agrees_by delimiter byte st.InField no_return no_feed (rw (no_return, no_feed, copied) refl)
-      (rw (no_return, no_feed, copied) refl)
-]
-agrees_within delimiter byte st.InQuoted no_return no_feed reached = elim (cases_Bool (byte == 34)) [
-  | inl quote ↦ agrees_by delimiter byte st.InQuoted no_return no_feed (rw quote refl) (rw quote refl)
-  | inr other ↦ agrees_by delimiter byte st.InQuoted no_return no_feed (rw other refl) (rw other refl)
-]
-agrees_within delimiter byte st.InEscape no_return no_feed reached = absurd reached
-agrees_within delimiter byte st.InComment no_return no_feed reached = absurd reached
-
--- a CR, which is no delimiter
-agrees_return : (delimiter : ℕ) (state : State) → (13 == delimiter) ≡ false → IsReached state
-    → Agrees delimiter state 13
-agrees_return delimiter st.StartRecord apart reached = record {
-  place = rw apart refl;
-  ends = λ _. refl;
-  start = λ _. rw apart refl;
-  goes = λ e. absurd (let f = e in cc);
-}
-agrees_return delimiter st.AfterCr apart reached = record {
-  place = rw apart refl;
-  ends = λ _. refl;
-  start = λ _. rw apart refl;
-  goes = λ e. absurd (let f = e in cc);
-}
-agrees_return delimiter st.StartField apart reached = record {
-  place = rw apart refl;
-  ends = λ _. rw apart refl;
-  start = λ _. rw apart refl;
-  goes = λ e. absurd (let f = e in cc);
-}
-agrees_return delimiter st.InField apart reached = record {
-  place = rw apart refl;
-  ends = λ _. rw apart refl;
-  start = λ _. rw apart refl;
-  goes = λ e. absurd (let f = e in cc);
-}
-agrees_return delimiter st.AfterQuote apart reached = record {
-  place = rw apart refl;
-  ends = λ _. rw apart refl;
-  start = λ _. rw apart refl;
-  goes = λ e. absurd (let f = e in cc);
-}
-agrees_return delimiter st.InQuoted apart reached = record {
-  place = refl;
+-- one that ends none
+Agrees-goes : (next : Place) (state : State) (action : Action) → next ≡ reader_place state → is_end action ≡ false
+    → Agrees false next (state, action)
+Agrees-goes next state action place goes = record {
+  place = place;
   ends = λ e. absurd (let f = e in cc);
   start = λ e. absurd (let f = e in cc);
-  goes = λ _. refl;
+  goes = λ _. goes;
 }
-agrees_return delimiter st.InEscape apart reached = absurd reached
-agrees_return delimiter st.InComment apart reached = absurd reached
 
--- a LF, which is no delimiter
-agrees_feed : (delimiter : ℕ) (state : State) → (10 == delimiter) ≡ false → IsReached state
-    → Agrees delimiter state 10
-agrees_feed delimiter st.StartRecord apart reached = record {
-  place = rw apart refl;
-  ends = λ _. refl;
-  start = λ _. rw apart refl;
-  goes = λ e. absurd (let f = e in cc);
-}
-agrees_feed delimiter st.AfterCr apart reached = record {
-  place = rw apart refl;
-  ends = λ _. refl;
-  start = λ _. rw apart refl;
-  goes = λ e. absurd (let f = e in cc);
-}
-agrees_feed delimiter st.StartField apart reached = record {
-  place = rw apart refl;
-  ends = λ _. rw apart refl;
-  start = λ _. rw apart refl;
-  goes = λ e. absurd (let f = e in cc);
-}
-agrees_feed delimiter st.InField apart reached = record {
-  place = rw apart refl;
-  ends = λ _. rw apart refl;
-  start = λ _. rw apart refl;
-  goes = λ e. absurd (let f = e in cc);
-}
-agrees_feed delimiter st.AfterQuote apart reached = record {
-  place = rw apart refl;
-  ends = λ _. rw apart refl;
-  start = λ _. rw apart refl;
-  goes = λ e. absurd (let f = e in cc);
-}
-agrees_feed delimiter st.InQuoted apart reached = record {
-  place = refl;
-  ends = λ e. absurd (let f = e in cc);
-  start = λ e. absurd (let f = e in cc);
-  goes = λ _. refl;
-}
-agrees_feed delimiter st.InEscape apart reached = absurd reached
-agrees_feed delimiter st.InComment apart reached = absurd reached
+-- the step of a byte in a field, by what the byte is: a delimiter, which ends no line, a line end, a CR
+Agrees-field : (parts line return : Bool) → (parts ≡ true → line ≡ false)
+    → Agrees line (if parts || line then Start else Plain)
+    (if parts then (st.StartField, act.EndField)
+    else if line then (if return then st.AfterCr else st.StartRecord, act.EndRecord)
+    else (st.InField, act.Copy))
+Agrees-field true true return apart = absurd (let e = apart refl in cc)
+Agrees-field true false return apart = Agrees-goes Start st.StartField act.EndField refl refl
+Agrees-field false true true apart = Agrees-ends st.AfterCr act.EndRecord refl refl
+Agrees-field false true false apart = Agrees-ends st.StartRecord act.EndRecord refl refl
+Agrees-field false false return apart = Agrees-goes Plain st.InField act.Copy refl refl
 
--- any byte
-agrees : (delimiter byte : ℕ) (state : State) → IsDelimiter delimiter → IsReached state → Agrees delimiter state byte
-agrees delimiter byte state delimits reached = elim (cases_Bool (byte == 13)) [
-  | inl return ↦ subst (λ b. Agrees delimiter state b) (sym (eqb-true byte 13 return))
-      (agrees_return delimiter state (ne_eqb 13 delimiter (λ e. delimits.no_return (sym e))) reached)
-  | inr no_return ↦ elim (cases_Bool (byte == 10)) [
-    | inl feed ↦ subst (λ b. Agrees delimiter state b) (sym (eqb-true byte 10 feed))
-        (agrees_feed delimiter state (ne_eqb 10 delimiter (λ e. delimits.no_feed (sym e))) reached)
-    | inr no_feed ↦ agrees_within delimiter byte state no_return no_feed reached
-  ]
-]
+-- that of a byte where a quote leads between quotes, and any other as it does in this step
+Agrees-quote : (quote line : Bool) (action : Action) (next : Place) (after : State × Action)
+    → (quote ≡ true → line ≡ false) → is_end action ≡ false → Agrees line next after
+    → Agrees line (if quote then Quoted else next) (if quote then (st.InQuoted, action) else after)
+Agrees-quote true true action next after apart goes does = absurd (let e = apart refl in cc)
+Agrees-quote true false action next after apart goes does = Agrees-goes Quoted st.InQuoted action refl goes
+Agrees-quote false line action next after apart goes does = does
+
+-- that of a byte between two records, where a line end is passed over
+Agrees-record : (line : Bool) (next : Place) (after : State × Action) → Agrees line next after
+    → Agrees line next (if line then (st.StartRecord, act.Skip) else after)
+Agrees-record true next after does = record {
+  place = does.start refl;
+  ends = λ _. refl;
+  start = does.start;
+  goes = λ e. absurd (let f = e in cc);
+}
+Agrees-record false next after does = does
+
+-- that of a byte between quotes
+Agrees-within : (quote : Bool) → Agrees false (if quote then Closed else Quoted)
+    (if quote then (st.AfterQuote, act.Skip) else (st.InQuoted, act.Copy))
+Agrees-within true = Agrees-goes Closed st.AfterQuote act.Skip refl refl
+Agrees-within false = Agrees-goes Quoted st.InQuoted act.Copy refl refl
+
+module _ (delimiter byte : ℕ) (delimits : IsDelimiter delimiter) where
+  -- a delimiter ends no line
+  no-line : (byte == delimiter) ≡ true → is_line_end byte ≡ false
+  no-line parts = rw (
+    eqb-true byte delimiter parts,
+    ne_eqb delimiter 13 delimits.no_return,
+    ne_eqb delimiter 10 delimits.no_feed,
+  ) refl
+
+  -- a byte that is no quote, or one
+  agrees_plain : Agrees (is_line_end byte) (place_outside delimiter byte) (in_field (delimited delimiter) byte)
+  agrees_plain = Agrees-field (byte == delimiter) (is_line_end byte) (byte == 13) no-line
+
+  agrees_quote : (action : Action) → is_end action ≡ false
+      → Agrees (is_line_end byte) (if byte == 34 then Quoted else place_outside delimiter byte)
+      (if byte == 34 then (st.InQuoted, action) else in_field (delimited delimiter) byte)
+  agrees_quote action goes = Agrees-quote (byte == 34) (is_line_end byte) action _ _
+      (λ quote. ap is_line_end (eqb-true byte 34 quote)) goes agrees_plain
+
+  agrees_start : Agrees (is_line_end byte) (if byte == 34 then Quoted else place_outside delimiter byte)
+      (step (delimited delimiter) st.StartRecord byte)
+  agrees_start = Agrees-record (is_line_end byte) _ _ (agrees_quote act.Skip refl)
+
+  -- what a byte does to the machine, by what it does to the place
+  agrees : (state : State) → IsReached state → Agrees (ends_line (reader_place state) byte)
+      (next_place delimiter (reader_place state) byte) (step (delimited delimiter) state byte)
+  agrees st.StartRecord reached = agrees_start
+  agrees st.AfterCr reached = subst (Agrees (is_line_end byte) _) (sym (step-return delimiter byte)) agrees_start
+  agrees st.StartField reached = agrees_quote act.Skip refl
+  agrees st.InField reached = agrees_plain
+  agrees st.InQuoted reached = Agrees-within (byte == 34)
+  agrees st.AfterQuote reached = agrees_quote act.Copy refl
+  agrees st.InEscape reached = absurd reached
+  agrees st.InComment reached = absurd reached
 
 -- the state after bytes of a record that was begun is one that is reached
 reached-after : (delimiter : ℕ) (text : List ℕ) → IsReached (state_after (delimited delimiter) st.StartRecord text)
@@ -261,7 +178,7 @@ pub IsCutAt-ends : (delimiter : ℕ) (block begun_bytes : List ℕ) (place : Pla
 IsCutAt-ends delimiter block begun_bytes place byte delimits cut ends =
     let cfg = delimited delimiter in
     let state = state_after cfg st.StartRecord begun_bytes in
-    let does = agrees delimiter byte state delimits (reached-after delimiter begun_bytes) in
+    let does = agrees delimiter byte delimits state (reached-after delimiter begun_bytes) in
     let here : ends_line (reader_place state) byte ≡ true = ap (λ p. ends_line p byte) (sym cut.at) ∙ ends in
     record {
       whole = ap (λ l. ends_at_end (state_after cfg st.StartRecord l)) (append_assoc block begun_bytes (byte ∷ []))
@@ -279,7 +196,7 @@ pub IsCutAt-goes : (delimiter : ℕ) (block begun_bytes : List ℕ) (place : Pla
 IsCutAt-goes delimiter block begun_bytes place byte delimits cut goes =
     let cfg = delimited delimiter in
     let state = state_after cfg st.StartRecord begun_bytes in
-    let does = agrees delimiter byte state delimits (reached-after delimiter begun_bytes) in
+    let does = agrees delimiter byte delimits state (reached-after delimiter begun_bytes) in
     let here : ends_line (reader_place state) byte ≡ false = ap (λ p. ends_line p byte) (sym cut.at) ∙ goes in
     record {
       whole = cut.whole;

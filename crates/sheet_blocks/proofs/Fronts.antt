@@ -1,16 +1,9 @@
 -- The front of a sheet, and the mark that may stand there.
-use Rattle.std.proofs.Common.{◌≡◌, ◌<◌, ◌≤◌, ℕ, List, [], ◌∷◌, ◌++◌, ◌==◌, ◌&&◌, Bool, true, false, drop, length, refl}
+use Rattle.std.proofs.Common.{◌≡◌, ◌≤◌, ℕ, List, [], ◌∷◌, ◌++◌, ◌==◌, ◌&&◌, Bool, true, false, drop, length, refl}
 use Rattle.std.proofs.Common.{arith, inl, inr, if◌then◌else◌}
 use Rattle.std.proofs.lemmas.Bool.{cases_Bool}
 use Rattle.csv.specs.Reading.{is_bom, strip_bom}
 use Rattle.sheet_blocks.specs.Front.{is_marked, is_partial_mark}
-
--- a part of a mark has fewer than three bytes
-pub partial-short : (bytes : List ℕ) → is_partial_mark bytes ≡ true → length bytes < 3
-partial-short [] partial = omega arith
-partial-short (one ∷ []) partial = omega arith
-partial-short (one ∷ two ∷ []) partial = omega arith
-partial-short (one ∷ two ∷ three ∷ rest) partial = absurd cc
 
 -- after bytes that are no part of a mark what follows makes none
 strip-pair : (one two : ℕ) (later : List ℕ) → (one == 0xEF) && (two == 0xBB) ≡ false

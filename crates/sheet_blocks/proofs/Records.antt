@@ -6,7 +6,7 @@ use Rattle.std.proofs.lemmas.Bool.{cases_Bool}
 use Rattle.std.proofs.lemmas.List.{append-nil}
 use Rattle.csv.specs.Machine.{step, is_end, next_record, fields_after, field_after, ends_at_end, in_field}
 use Rattle.csv.specs.Machine.{start_field, start_record}
-use Rattle.csv.specs.Reading.{records, records_from, records_next, default_config}
+use Rattle.csv.specs.Reading.{records, records_from, records_next}
 use Rattle.csv.specs.declared.parser.Config.{Config}
 use Rattle.csv.specs.declared.parser.State.{State}
 use Rattle.csv.specs.declared.parser.State.TheVariants as st
@@ -344,21 +344,22 @@ read_on-none cfg reading (byte ∷ text) none =
     ap (λ ends. (read_on cfg (stepped_by ends reading byte after) text).rows) none.0
     ∙ read_on-none cfg goes text none.1
 
--- a letter goes into a record
+-- a letter goes into a record, as the next field where it is the delimiter
+letter_goes : (parts : Bool)
+    → let after : State × Action = if parts then (st.StartField, act.EndField) else (st.InField, act.Copy) in
+    (ends_at_end after.0 ≡ true) × (is_end after.1 ≡ false)
+letter_goes true = (refl, refl)
+letter_goes false = (refl, refl)
+
 letter_step : (delimiter : ℕ) (state : State) → IsReached state
     → (ends_at_end (step (delimited delimiter) state 120).0 ≡ true)
     × (is_end (step (delimited delimiter) state 120).1 ≡ false)
-letter_step delimiter st.StartRecord reached =
-    elim (cases_Bool (120 == delimiter)) [ inl is ↦ rw is (refl, refl) | inr other ↦ rw other (refl, refl) ]
-letter_step delimiter st.AfterCr reached =
-    elim (cases_Bool (120 == delimiter)) [ inl is ↦ rw is (refl, refl) | inr other ↦ rw other (refl, refl) ]
-letter_step delimiter st.StartField reached =
-    elim (cases_Bool (120 == delimiter)) [ inl is ↦ rw is (refl, refl) | inr other ↦ rw other (refl, refl) ]
-letter_step delimiter st.InField reached =
-    elim (cases_Bool (120 == delimiter)) [ inl is ↦ rw is (refl, refl) | inr other ↦ rw other (refl, refl) ]
+letter_step delimiter st.StartRecord reached = letter_goes (120 == delimiter)
+letter_step delimiter st.AfterCr reached = letter_goes (120 == delimiter)
+letter_step delimiter st.StartField reached = letter_goes (120 == delimiter)
+letter_step delimiter st.InField reached = letter_goes (120 == delimiter)
 letter_step delimiter st.InQuoted reached = (refl, refl)
-letter_step delimiter st.AfterQuote reached =
-    elim (cases_Bool (120 == delimiter)) [ inl is ↦ rw is (refl, refl) | inr other ↦ rw other (refl, refl) ]
+letter_step delimiter st.AfterQuote reached = letter_goes (120 == delimiter)
 letter_step delimiter st.InEscape reached = absurd reached
 letter_step delimiter st.InComment reached = absurd reached
 

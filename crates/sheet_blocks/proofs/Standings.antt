@@ -79,20 +79,29 @@ without_last-append items last =
     let count : length (items ++ last ∷ []) - 1 ≡ length items = omega (arith, length-append items (last ∷ [])) in
     ap (λ n. take n (items ++ last ∷ [])) count ∙ take-front items (last ∷ [])
 
--- the records of a beginning that is cut so
-pub ended_records-cut : (delimiter : ℕ) (bytes done rest : List ℕ) → strip_bom bytes ≡ done ++ rest
-    → AreWhole (delimited delimiter) done → EndsNone (delimited delimiter) st.StartRecord rest
-    → ended_records delimiter bytes ≡ records (delimited delimiter) done
-ended_records-cut delimiter bytes done rest text whole none =
+-- the records of a beginning are those of its whole records, and then those that end in the rest
+ended_records-on : (delimiter : ℕ) (bytes done rest : List ℕ) → strip_bom bytes ≡ done ++ rest
+    → AreWhole (delimited delimiter) done → ended_records delimiter bytes
+    ≡ records (delimited delimiter) done ++ (read_on (delimited delimiter) begun rest).rows
+ended_records-on delimiter bytes done rest text whole =
     let cfg = delimited delimiter in
     let letter = records-letter delimiter rest in
-    let one = letter.last ∷ [] in
+    let ended = (read_on cfg begun rest).rows in
     ap without_last (ap (λ l. records cfg (l ++ 120 ∷ [])) text
     ∙ ap (records cfg) (append_assoc done rest (120 ∷ []))
     ∙ records-append delimiter done (rest ++ 120 ∷ []) whole
-    ∙ ap (λ l. records cfg done ++ l) (letter.records_are
-    ∙ ap (λ rows. rows ++ one) (read_on-none cfg begun rest none)))
-    ∙ without_last-append (records cfg done) letter.last
+    ∙ ap (λ l. records cfg done ++ l) letter.records_are
+    ∙ sym (append_assoc (records cfg done) ended (letter.last ∷ [])))
+    ∙ without_last-append (records cfg done ++ ended) letter.last
+
+-- which are none in a record that was begun
+ended_records-cut : (delimiter : ℕ) (bytes done rest : List ℕ) → strip_bom bytes ≡ done ++ rest
+    → AreWhole (delimited delimiter) done → EndsNone (delimited delimiter) st.StartRecord rest
+    → ended_records delimiter bytes ≡ records (delimited delimiter) done
+ended_records-cut delimiter bytes done rest text whole none =
+    ended_records-on delimiter bytes done rest text whole
+    ∙ ap (λ rows. records (delimited delimiter) done ++ rows) (read_on-none (delimited delimiter) begun rest none)
+    ∙ append-nil (records (delimited delimiter) done)
 
 -- the records of what was read are those that were taken, and then those of the block
 pub records_read-stands : (bytes taken : List ℕ) (blocks : BlocksSeen) → Stands bytes taken blocks → AreCut blocks
@@ -115,19 +124,10 @@ pub record HasMore (delimiter : ℕ) (bytes taken : List ℕ) : Type 0 where
 
 pub ended_records-more : (delimiter : ℕ) (bytes taken rest : List ℕ) → strip_bom bytes ≡ taken ++ rest
     → AreWhole (delimited delimiter) taken → HasMore delimiter bytes taken
-ended_records-more delimiter bytes taken rest text whole =
-    let cfg = delimited delimiter in
-    let letter = records-letter delimiter rest in
-    let ended = (read_on cfg begun rest).rows in
-    record {
-      later = ended;
-      records_are = ap without_last (ap (λ l. records cfg (l ++ 120 ∷ [])) text
-          ∙ ap (records cfg) (append_assoc taken rest (120 ∷ []))
-          ∙ records-append delimiter taken (rest ++ 120 ∷ []) whole
-          ∙ ap (λ l. records cfg taken ++ l) letter.records_are
-          ∙ sym (append_assoc (records cfg taken) ended (letter.last ∷ [])))
-          ∙ without_last-append (records cfg taken ++ ended) letter.last;
-    }
+ended_records-more delimiter bytes taken rest text whole = record {
+  later = (read_on (delimited delimiter) begun rest).rows;
+  records_are = ended_records-on delimiter bytes taken rest text whole;
+}
 
 -- of blocks that were not read to the end of the sheet
 pub records_read-more : (bytes taken more : List ℕ) (blocks : BlocksSeen) → Stands bytes taken blocks

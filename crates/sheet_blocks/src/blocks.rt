@@ -1,5 +1,5 @@
 //! Blocks of whole records.
-ghost use Rattle.std.specs.Prelude.{◌≡◌, ◌≤◌, ◌++◌, ◌∷◌, [], true, false, IfOk, IsErrOf, drop, length};
+ghost use Rattle.std.specs.Prelude.{◌≡◌, ◌≤◌, ◌++◌, ◌∷◌, [], false, IfOk, IsErrOf, drop, length};
 ghost use Rattle.desk_base.specs.Faults.{Rose, HasTaken};
 ghost use Rattle.sheet_blocks.specs.Standing.{AreCut, Grows, IsOpened};
 ghost use Rattle.sheet_blocks.specs.Front.{IsPartOfMark};
@@ -87,15 +87,7 @@ impl Blocks {
     {
         let piece = piece_of(alloc)?;
         let kept = kept_of(alloc, delimiter, after_mark(front.bytes.as_slice()))?;
-        if front.whole {
-            return Ok(ended(delimiter, kept, piece)?);
-        }
-        Ok(Blocks {
-            delimiter,
-            kept,
-            whole: false,
-            piece,
-        })
+        blocks_of(delimiter, kept, front.whole, piece)
     }
 
     /// Reads the next bytes, or none where the sheet was read to its end.
@@ -109,31 +101,18 @@ impl Blocks {
         ensures steady { S.is_steady source.old
             → (¬ IsErrOf result BlocksFault.Failed) × S.is_steady source.new }
     {
+        if self.whole {
+            return Ok(self);
+        }
         let Blocks {
             delimiter,
             kept,
-            whole,
             mut piece,
+            ..
         } = self;
-        if whole {
-            return Ok(Blocks {
-                delimiter,
-                kept,
-                whole,
-                piece,
-            });
-        }
         let count = source.read(piece.as_mut_slice())?;
-        if count == 0 {
-            return Ok(ended(delimiter, kept, piece)?);
-        }
         let kept = kept.follow(delimiter, &piece[..count])?;
-        Ok(Blocks {
-            delimiter,
-            kept,
-            whole: false,
-            piece,
-        })
+        Ok(blocks_of(delimiter, kept, count == 0, piece)?)
     }
 
     /// A line feed, which a reader of CSV passes over, and then the block: so no mark is seen at its front.
@@ -159,22 +138,22 @@ impl Blocks {
     }
 }
 
-/// The blocks at the end of a sheet: the record that was begun ends there.
-fn ended(delimiter: u8, mut kept: Kept, piece: Vec<u8>) -> Result<Blocks, NoMemory>
+/// The blocks of what is kept; at the end of a sheet the record that was begun ends there.
+fn blocks_of(delimiter: u8, mut kept: Kept, whole: bool, piece: Vec<u8>) -> Result<Blocks, NoMemory>
     requires kept { IsKept delimiter kept false }
     requires room { length piece.items ≡ 16384 }
-    ensures { IfOk result (λ blocks. blocks ≡ record {
-      delimiter = delimiter;
-      block = drop 1 kept.block.items ++ kept.begun.items;
-      begun = [];
-      whole = true;
-    }) }
+    ensures text { IfOk result (λ blocks.
+        blocks.block ++ blocks.begun ≡ drop 1 kept.block.items ++ kept.begun.items) }
+    ensures whole { IfOk result (λ blocks. blocks.whole ≡ whole) }
+    ensures delimiter_is { IfOk result (λ blocks. blocks.delimiter ≡ delimiter) }
 {
-    kept.block.append(&mut kept.begun)?;
+    if whole {
+        kept.block.append(&mut kept.begun)?;
+    }
     Ok(Blocks {
         delimiter,
         kept,
-        whole: true,
+        whole,
         piece,
     })
 }

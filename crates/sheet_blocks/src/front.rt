@@ -1,5 +1,5 @@
 //! The front of a sheet, where a byte order mark may stand.
-ghost use Rattle.std.specs.Prelude.{◌≡◌, ◌≤◌, length, IfOk, IsErrOf};
+ghost use Rattle.std.specs.Prelude.{◌≡◌, ◌≤◌, IfOk, IsErrOf};
 ghost use Rattle.csv.specs.Reading.{strip_bom};
 ghost use Rattle.desk_base.specs.Faults.{Rose, HasTaken};
 ghost use Rattle.sheet_blocks.specs.Front.{IsFront, IsPartOfMark, is_marked, is_partial_mark};
