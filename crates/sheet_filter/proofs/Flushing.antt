@@ -11,15 +11,14 @@ use Rattle.sheet_clean.specs.declared.summary.Summary.{Summary}
 use Rattle.sheet_clean.specs.Row.{row_fault}
 use Rattle.sheet_clean.specs.Sheets.{Sheets, joined, no_sheets, rows_summary}
 use Rattle.sheet_clean.specs.Writing.{HaveWritten}
-use Rattle.sheet_filter.specs.declared.cleaning.Cleaning.{Cleaning}
 use Rattle.sheet_filter.specs.declared.outputs.Outputs.{Outputs}
 use Rattle.sheet_filter.specs.declared.stop.Stop.{Stop}
 use Rattle.sheet_filter.specs.declared.stop.Stop.TheVariants.{Refused, Failed, NoMemory}
-use Rattle.sheet_filter.specs.Cleaning.{Drafting, DraftsOver, IsFaultOf, LacksRoom, Stands, StandsOver}
-use Rattle.sheet_filter.specs.Cleaning.{Stops, StopsDrafting, StopsFlush, summary_told, told}
-use Rattle.sheet_filter.specs.Ends.{Begins, RefusesRecord, WritesSome}
+use Rattle.sheet_filter.specs.Cleaning.{Drafting, DraftsNoMore, DraftsOn, DraftsOver, Flushes, FlushesNoMore, IsFaultOf}
+use Rattle.sheet_filter.specs.Cleaning.{LacksRoom, Moment, Stands, StandsNoMore, StandsOn, StandsOver, Stops}
+use Rattle.sheet_filter.specs.Cleaning.{StopsFlush, summary_told, told}
+use Rattle.sheet_filter.specs.Ends.{Begins, RefusesRecord}
 use Rattle.sheet_filter.specs.Outputs.{AreWritten, HaveRoom, Later, SinkStates, TakeRest}
-use Rattle.sheet_filter.proofs.Blocks.{DraftsOn}
 use Rattle.sheet_filter.proofs.Rows.{Begins-on, rows_summary-rows}
 use Rattle.sheet_filter.proofs.Texts.{SomeSinkFailed-later, TakeRest-then, joined-assoc, lacks-before}
 
@@ -70,7 +69,7 @@ refused kit setting (Some layout) summary old now records taken rest sheets fiel
 
 -- ---- a block is taken
 
-module _ {W C : Type 0} (takes : W → ℕ → Type 0) (sheet_takes : C → ℕ → Type 0) (kit : Kit) (setting : Setting) where
+module _ {W C : Type 0} {takes : W → ℕ → Type 0} {sheet_takes : C → ℕ → Type 0} (kit : Kit) (setting : Setting) where
   -- what is due has no room after more, so it and this have none before
   LacksRoom-before : (first outputs : Outputs W C) (records : List (List (List ℕ))) (sheets more : Sheets)
       → TakeRest takes sheet_takes first outputs more
@@ -86,132 +85,105 @@ module _ {W C : Type 0} (takes : W → ℕ → Type 0) (sheet_takes : C → ℕ 
     full = lacks-before takes sheet_takes first outputs more lacks.due took lacks.full;
   }
 
-  -- what was drafted of these records is written: all of it
-  abbrev pub Flushes : Cleaning → Drafts → SinkStates → SinkStates → Outputs W C → Outputs W C → Type 0
-  Flushes cleaning drafts now new outputs last =
-      (old : SinkStates) (records : List (List (List ℕ))) (sheets : Sheets)
-      → Drafting kit setting cleaning drafts old now records sheets
-      → (more : Sheets) × TakeRest takes sheet_takes outputs last more
-      × Stands kit setting cleaning old new records (joined sheets more)
-
-  -- or it is not, for this
-  abbrev pub FlushStops : Cleaning → Drafts → SinkStates → SinkStates → Outputs W C → Stop → Type 0
-  FlushStops cleaning drafts now new outputs stop =
-      (old : SinkStates) (records : List (List (List ℕ))) (sheets : Sheets)
-      → Drafting kit setting cleaning drafts old now records sheets
-      → StopsFlush kit setting (HaveRoom takes sheet_takes outputs) old now new records sheets stop
-
-  -- the block was taken
-  pub take-whole : (start cleaning : Cleaning) (empty drafts : Drafts) (then now new : SinkStates)
-      (first outputs last : Outputs W C) (block : List (List (List ℕ))) → HaveWritten setting empty no_sheets
-      → DraftsOn takes sheet_takes kit setting start cleaning empty drafts then now first outputs block
-      → Flushes cleaning drafts now new outputs last
-      → (old : SinkStates) (records : List (List (List ℕ))) (sheets : Sheets)
-      → Stands kit setting start old then records sheets
-      → (more : Sheets) × TakeRest takes sheet_takes first last more
-      × Stands kit setting cleaning old new (records ++ block) (joined sheets more)
-  take-whole start cleaning empty drafts then now new first outputs last block none some flushed old records sheets
-      stands =
-      let (more, took, drafted) = some old records sheets
-      (starts kit setting start.layout start.summary empty old then records sheets none stands) in
-      let (further, took_on, written) = flushed old (records ++ block) (joined sheets more) drafted in (
-        joined more further,
-        TakeRest-then takes sheet_takes first outputs last more further took took_on,
-        subst (Stands kit setting cleaning old new (records ++ block)) (joined-assoc sheets more further) written,
-      )
-
   -- what was drafted could not be written, whatever follows
-  flush-stops : (cleaning : Cleaning) (old then now new : SinkStates) (first outputs : Outputs W C)
+  flush-stops : (summary : Option Summary) (old then now new : SinkStates) (first outputs : Outputs W C)
       (records later all : List (List (List ℕ))) (sheets more : Sheets) → Later then now
       → TakeRest takes sheet_takes first outputs more → all ≡ records ++ later → (stop : Stop)
       → StopsFlush kit setting (HaveRoom takes sheet_takes outputs) old now new records (joined sheets more) stop
-      → Stops kit setting (HaveRoom takes sheet_takes first) (told cleaning) old then new all sheets stop
-  flush-stops cleaning old then now new first outputs records later all sheets more no_less took is (Refused fault)
+      → Stops kit setting (HaveRoom takes sheet_takes first) summary old then new all sheets stop
+  flush-stops summary old then now new first outputs records later all sheets more no_less took is (Refused fault)
       stops = absurd stops
-  flush-stops cleaning old then now new first outputs records later all sheets more no_less took is Failed stops =
+  flush-stops summary old then now new first outputs records later all sheets more no_less took is Failed stops =
       let (part, failed, lacks) = stops later in (
         rw is part,
         SomeSinkFailed-later then now new no_less failed,
         rw is (LacksRoom-before first outputs (records ++ later) sheets more took lacks),
       )
-  flush-stops cleaning old then now new first outputs records later all sheets more no_less took is NoMemory stops =
+  flush-stops summary old then now new first outputs records later all sheets more no_less took is NoMemory stops =
       rw is (stops later)
 
-  -- the block was drafted, and not written
-  pub take-stops : (start cleaning : Cleaning) (empty drafts : Drafts) (then now new : SinkStates)
-      (first outputs : Outputs W C) (block : List (List (List ℕ))) → HaveWritten setting empty no_sheets
-      → DraftsOn takes sheet_takes kit setting start cleaning empty drafts then now first outputs block
-      → Later then now → (stop : Stop) → FlushStops cleaning drafts now new outputs stop
-      → (old : SinkStates) (records : List (List (List ℕ))) (sheets : Sheets)
-      → Stands kit setting start old then records sheets
-      → Stops kit setting (HaveRoom takes sheet_takes first) (told cleaning) old then new (records ++ block) sheets stop
-  take-stops start cleaning empty drafts then now new first outputs block none some no_less stop stops old records
-      sheets stands =
-      let (more, took, drafted) = some old records sheets
-      (starts kit setting start.layout start.summary empty old then records sheets none stands) in
-      flush-stops cleaning old then now new first outputs (records ++ block) [] (records ++ block) sheets more no_less
-      took (sym (append-nil (records ++ block))) stop (stops old (records ++ block) (joined sheets more) drafted)
+-- what was taken was written, and nothing is drafted yet
+starting : {W C : Type 0} (kit : Kit) (setting : Setting) (from : Moment W C) (empty : Drafts)
+    → HaveWritten setting empty no_sheets → (old : SinkStates) (records : List (List (List ℕ))) (sheets : Sheets)
+    → Stands kit setting from.cleaning old from.sinks records sheets
+    → Drafting kit setting from.cleaning empty old from.sinks records sheets
+starting kit setting from empty none old records sheets =
+    starts kit setting from.cleaning.layout from.cleaning.summary empty old from.sinks records sheets none
 
-  -- the drafting of the block stopped so
-  abbrev pub DraftStops : Cleaning → Cleaning → Drafts → Drafts → SinkStates → SinkStates → Outputs W C → Outputs W C
-      → List (List (List ℕ)) → Stop → Type 0
-  DraftStops start cleaning empty drafts then now first outputs block stop =
-      (old : SinkStates) (records : List (List (List ℕ))) (sheets : Sheets)
-      → Drafting kit setting start empty old then records sheets
-      → StopsDrafting kit setting (HaveRoom takes sheet_takes first) (TakeRest takes sheet_takes first outputs) cleaning
-      drafts old then now (records ++ block) sheets stop
+module _ {W C : Type 0} {takes : W → ℕ → Type 0} {sheet_takes : C → ℕ → Type 0} {kit : Kit} {setting : Setting}
+    {from on : Moment W C} {empty drafts : Drafts} {block : List (List (List ℕ))}
+    (none : HaveWritten setting empty no_sheets) where
+  -- the block was drafted and written
+  pub take-whole : {last : Outputs W C} {new : SinkStates}
+      → DraftsOn takes sheet_takes kit setting from on empty drafts block
+      → Flushes takes sheet_takes kit setting on (record on { outputs = last; sinks = new }) drafts
+      → StandsOn takes sheet_takes kit setting from (record on { outputs = last; sinks = new }) block
+  take-whole {last} {new} some flushed = record {
+    stands = λ old records sheets stands.
+        let (more, took, drafted) = some.drafted old records sheets
+        (starting kit setting from empty none old records sheets stands) in
+        let (further, took_on, written) = flushed.written old (records ++ block) (joined sheets more) drafted in (
+          joined more further,
+          TakeRest-then takes sheet_takes from.outputs on.outputs last more further took took_on,
+          subst (Stands kit setting on.cleaning old new (records ++ block)) (joined-assoc sheets more further) written,
+        );
+  }
 
-  -- at a record with a fault, and what was drafted before it was written
-  pub refuses-whole : (start cleaning : Cleaning) (empty drafts : Drafts) (then now new : SinkStates)
-      (first outputs last : Outputs W C) (block : List (List (List ℕ))) → HaveWritten setting empty no_sheets
-      → (fault : SheetFault)
-      → DraftStops start cleaning empty drafts then now first outputs block (Refused fault)
-      → Flushes cleaning drafts now new outputs last
-      → (old : SinkStates) (records : List (List (List ℕ))) (sheets : Sheets)
-      → Stands kit setting start old then records sheets
-      → RefusesRecord kit setting old new (records ++ block) fault (told cleaning)
-  refuses-whole start cleaning empty drafts then now new first outputs last block none fault stops flushed old records
-      sheets stands =
-      let (taken, more, took, drafted, next) = stops old records sheets
-      (starts kit setting start.layout start.summary empty old then records sheets none stands) in
-      let (further, took_on, written) = flushed old taken (joined sheets more) drafted in
-      refused kit setting cleaning.layout cleaning.summary old new (records ++ block) taken next.rest
-      (joined (joined sheets more) further) next.fields fault next.split next.bad written
+  -- it was drafted, and not written
+  pub take-stops : {last : Outputs W C} {new : SinkStates}
+      → DraftsOn takes sheet_takes kit setting from on empty drafts block → Later from.sinks on.sinks
+      → (stop : Stop)
+      → FlushesNoMore takes sheet_takes kit setting on (record on { outputs = last; sinks = new }) drafts stop
+      → StandsNoMore takes sheet_takes kit setting from (record on { outputs = last; sinks = new }) block stop
+  take-stops {last} {new} some no_less stop flushing = record {
+    stops = λ old records sheets stands.
+        let (more, took, drafted) = some.drafted old records sheets
+        (starting kit setting from empty none old records sheets stands) in
+        flush-stops kit setting (told on.cleaning) old from.sinks on.sinks new from.outputs on.outputs
+        (records ++ block) [] (records ++ block) sheets more no_less took (sym (append-nil (records ++ block))) stop
+        (flushing.stops old (records ++ block) (joined sheets more) drafted);
+  }
+
+  -- a record has a fault, and what was drafted before it was written
+  pub refuses-whole : {last : Outputs W C} {new : SinkStates} (fault : SheetFault)
+      → DraftsNoMore takes sheet_takes kit setting from on empty drafts block (Refused fault)
+      → Flushes takes sheet_takes kit setting on (record on { outputs = last; sinks = new }) drafts
+      → StandsNoMore takes sheet_takes kit setting from (record on { outputs = last; sinks = new }) block
+      (Refused fault)
+  refuses-whole {last} {new} fault drafting flushed = record {
+    stops = λ old records sheets stands.
+        let (taken, more, took, drafted, next) = drafting.stops old records sheets
+        (starting kit setting from empty none old records sheets stands) in
+        let (further, took_on, written) = flushed.written old taken (joined sheets more) drafted in
+        refused kit setting on.cleaning.layout on.cleaning.summary old new (records ++ block) taken next.rest
+        (joined (joined sheets more) further) next.fields fault next.split next.bad written;
+  }
 
   -- or it was not
-  pub refuses-stops : (start cleaning : Cleaning) (empty drafts : Drafts) (then now new : SinkStates)
-      (first outputs : Outputs W C) (block : List (List (List ℕ))) → HaveWritten setting empty no_sheets
-      → Later then now → (fault : SheetFault)
-      → DraftStops start cleaning empty drafts then now first outputs block (Refused fault) → (stop : Stop)
-      → FlushStops cleaning drafts now new outputs stop
-      → (old : SinkStates) (records : List (List (List ℕ))) (sheets : Sheets)
-      → Stands kit setting start old then records sheets
-      → Stops kit setting (HaveRoom takes sheet_takes first) (told cleaning) old then new (records ++ block) sheets stop
-  refuses-stops start cleaning empty drafts then now new first outputs block none no_less fault refuses stop stops old
-      records sheets stands =
-      let (taken, more, took, drafted, next) = refuses old records sheets
-      (starts kit setting start.layout start.summary empty old then records sheets none stands) in
-      flush-stops cleaning old then now new first outputs taken (next.fields ∷ next.rest) (records ++ block) sheets more
-      no_less took next.split stop (stops old taken (joined sheets more) drafted)
+  pub refuses-stops : {last : Outputs W C} {new : SinkStates} → Later from.sinks on.sinks → (fault : SheetFault)
+      → DraftsNoMore takes sheet_takes kit setting from on empty drafts block (Refused fault) → (stop : Stop)
+      → FlushesNoMore takes sheet_takes kit setting on (record on { outputs = last; sinks = new }) drafts stop
+      → StandsNoMore takes sheet_takes kit setting from (record on { outputs = last; sinks = new }) block stop
+  refuses-stops {last} {new} no_less fault drafting stop flushing = record {
+    stops = λ old records sheets stands.
+        let (taken, more, took, drafted, next) = drafting.stops old records sheets
+        (starting kit setting from empty none old records sheets stands) in
+        flush-stops kit setting (told on.cleaning) old from.sinks on.sinks new from.outputs on.outputs taken
+        (next.fields ∷ next.rest) (records ++ block) sheets more no_less took next.split stop
+        (flushing.stops old taken (joined sheets more) drafted);
+  }
 
   -- a write failed, or there was no memory
-  pub draft-failed : (start cleaning : Cleaning) (empty drafts : Drafts) (then now : SinkStates)
-      (first outputs : Outputs W C) (block : List (List (List ℕ))) → HaveWritten setting empty no_sheets
-      → DraftStops start cleaning empty drafts then now first outputs block Failed
-      → (old : SinkStates) (records : List (List (List ℕ))) (sheets : Sheets)
-      → Stands kit setting start old then records sheets
-      → Stops kit setting (HaveRoom takes sheet_takes first) (told cleaning) old then now (records ++ block) sheets
-      Failed
-  draft-failed start cleaning empty drafts then now first outputs block none stops old records sheets stands =
-      stops old records sheets
-      (starts kit setting start.layout start.summary empty old then records sheets none stands)
+  pub draft-failed : DraftsNoMore takes sheet_takes kit setting from on empty drafts block Failed
+      → StandsNoMore takes sheet_takes kit setting from on block Failed
+  draft-failed drafting = record {
+    stops = λ old records sheets stands.
+        drafting.stops old records sheets (starting kit setting from empty none old records sheets stands);
+  }
 
-  pub draft-lost : (start cleaning : Cleaning) (empty drafts : Drafts) (then now : SinkStates)
-      (first outputs : Outputs W C) (block : List (List (List ℕ))) → HaveWritten setting empty no_sheets
-      → DraftStops start cleaning empty drafts then now first outputs block NoMemory
-      → (old : SinkStates) (records : List (List (List ℕ))) (sheets : Sheets)
-      → Stands kit setting start old then records sheets
-      → WritesSome kit setting old now (records ++ block)
-  draft-lost start cleaning empty drafts then now first outputs block none stops old records sheets stands =
-      stops old records sheets
-      (starts kit setting start.layout start.summary empty old then records sheets none stands)
+  pub draft-lost : DraftsNoMore takes sheet_takes kit setting from on empty drafts block NoMemory
+      → StandsNoMore takes sheet_takes kit setting from on block NoMemory
+  draft-lost drafting = record {
+    stops = λ old records sheets stands.
+        drafting.stops old records sheets (starting kit setting from empty none old records sheets stands);
+  }

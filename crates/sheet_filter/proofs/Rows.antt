@@ -2,6 +2,7 @@
 use Rattle.std.proofs.Common.{◌≡◌, ◌+◌, ℕ, List, [], ◌∷◌, ◌++◌, length, map, refl, sym, ap, ◌∙◌, arith}
 use Rattle.std.proofs.Common.{append-nil, append_assoc}
 use Rattle.std.specs.Prelude.{None, true, false}
+use Rattle.std.proofs.Math.Nat.{add-zero, add_assoc, zero-add}
 use Rattle.fix_model.specs.declared.kit.Kit.{Kit}
 use Rattle.fix_engine.specs.declared.verdict.Verdict.{Verdict}
 use Rattle.fix_engine.specs.declared.verdict.Verdict.TheVariants.{Fix, Conflict}
@@ -32,39 +33,13 @@ rows_summary-rows kit setting header number (row ∷ rows) =
     omega (arith, first, later)
 
 added-assoc : (one two three : Summary) → added (added one two) three ≡ added one (added two three)
-added-assoc one two three =
-    let rows : one.rows + two.rows + three.rows ≡ one.rows + (two.rows + three.rows) = omega arith in
-    let certain : one.certain + two.certain + three.certain ≡ one.certain + (two.certain + three.certain) = omega arith
-    in
-    let partial : one.partial + two.partial + three.partial ≡ one.partial + (two.partial + three.partial) = omega arith
-    in
-    let conflict : one.conflict + two.conflict + three.conflict ≡ one.conflict + (two.conflict + three.conflict) =
-    omega arith in
-    let changed : one.changed + two.changed + three.changed ≡ one.changed + (two.changed + three.changed) = omega arith
-    in
-    let dissents : one.dissents + two.dissents + three.dissents ≡ one.dissents + (two.dissents + three.dissents) =
-    omega arith in
-    rw (rows, certain, partial, conflict, changed, dissents) refl
+added-assoc one two three = simp add_assoc
 
 added-none : (one : Summary) → added one no_rows ≡ one
-added-none one =
-    let rows : one.rows + 0 ≡ one.rows = omega arith in
-    let certain : one.certain + 0 ≡ one.certain = omega arith in
-    let partial : one.partial + 0 ≡ one.partial = omega arith in
-    let conflict : one.conflict + 0 ≡ one.conflict = omega arith in
-    let changed : one.changed + 0 ≡ one.changed = omega arith in
-    let dissents : one.dissents + 0 ≡ one.dissents = omega arith in
-    rw (rows, certain, partial, conflict, changed, dissents) refl
+added-none one = simp add-zero
 
 none-added : (one : Summary) → added no_rows one ≡ one
-none-added one =
-    let rows : 0 + one.rows ≡ one.rows = omega arith in
-    let certain : 0 + one.certain ≡ one.certain = omega arith in
-    let partial : 0 + one.partial ≡ one.partial = omega arith in
-    let conflict : 0 + one.conflict ≡ one.conflict = omega arith in
-    let changed : 0 + one.changed ≡ one.changed = omega arith in
-    let dissents : 0 + one.dissents ≡ one.dissents = omega arith in
-    rw (rows, certain, partial, conflict, changed, dissents) refl
+none-added one = simp zero-add
 
 -- the number of the first of some rows that follow others
 after-one : {T : Type 0} (number : ℕ) (item : T) (items : List T)

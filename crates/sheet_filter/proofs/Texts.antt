@@ -1,5 +1,5 @@
 -- Texts that are written to the sinks, one after another, and the room that is left there.
-use Rattle.std.proofs.Common.{◌≡◌, ◌≤◌, ◌+◌, ℕ, List, [], ◌∷◌, ◌++◌, length, take, refl, sym, ap, subst, ◌∙◌}
+use Rattle.std.proofs.Common.{◌≡◌, ◌≤◌, ◌+◌, ℕ, List, [], ◌∷◌, ◌++◌, length, take, sym, ap, subst, ◌∙◌}
 use Rattle.std.proofs.Common.{append-nil, append_assoc, arith, inl, inr, length-append, suc}
 use Rattle.std.proofs.KnownBytes.{Appends-nil, Appends-trans}
 use Rattle.std.proofs.lemmas.List.{take_all}
@@ -8,26 +8,18 @@ use Rattle.desk_base.specs.Faults.{Rose}
 use Rattle.desk_base.specs.Sinks.{SinkState}
 use Rattle.sheet_clean.specs.Sheets.{Sheets, joined, no_sheets}
 use Rattle.sheet_filter.specs.declared.outputs.Outputs.{Outputs}
+use Rattle.sheet_filter.specs.declared.stop.Stop.TheVariants.{Failed}
+use Rattle.sheet_filter.specs.Cleaning.{StopsWriting}
 use Rattle.sheet_filter.specs.Outputs.{AreHeaded, ArePartly, AreWritten, HaveRoom, Holds, HoldsAfter, HoldsBeginning}
 use Rattle.sheet_filter.specs.Outputs.{Later, SinkStates, SomeSinkFailed, TakeRest}
 
 -- ---- texts of four sheets
 
 pub joined-assoc : (one two three : Sheets) → joined (joined one two) three ≡ joined one (joined two three)
-joined-assoc one two three = rw (
-  append_assoc one.clean two.clean three.clean,
-  append_assoc one.changes two.changes three.changes,
-  append_assoc one.conflicts two.conflicts three.conflicts,
-  append_assoc one.dissents two.dissents three.dissents,
-) refl
+joined-assoc one two three = simp append_assoc
 
 pub joined-none : (sheets : Sheets) → joined sheets no_sheets ≡ sheets
-joined-none sheets = rw (
-  append-nil sheets.clean,
-  append-nil sheets.changes,
-  append-nil sheets.conflicts,
-  append-nil sheets.dissents,
-) refl
+joined-none sheets = simp append-nil
 
 -- texts that were written one after another
 pub AreWritten-then : (old mid new : SinkStates) (one other : Sheets) → AreWritten old mid one
@@ -185,10 +177,14 @@ pub lacks-before : {W C : Type 0} (takes : W → ℕ → Type 0) (sheet_takes : 
     → ¬ HaveRoom takes sheet_takes old (joined one other)
 lacks-before takes sheet_takes old mid one other took full room = full (took other room)
 
--- sinks have no room for texts that they did not take
-pub lacks-now : {W C : Type 0} (takes : W → ℕ → Type 0) (sheet_takes : C → ℕ → Type 0) (outputs : Outputs W C)
-    (sheets : Sheets) (Taken : Type 0)
-    → ((later : Sheets) → HaveRoom takes sheet_takes outputs (joined sheets later) → Taken) → (¬ Taken)
-    → ¬ HaveRoom takes sheet_takes outputs sheets
-lacks-now takes sheet_takes outputs sheets Taken taken not room =
-    not (taken no_sheets (subst (HaveRoom takes sheet_takes outputs) (sym (joined-none sheets)) room))
+-- texts that sinks did not take, for want of room
+pub StopsWriting-failed : {W C : Type 0} (takes : W → ℕ → Type 0) (sheet_takes : C → ℕ → Type 0) (outputs : Outputs W C)
+    (now new : SinkStates) (texts sheets : Sheets) → texts ≡ sheets → ArePartly now new texts → SomeSinkFailed now new
+    → ((later : Sheets) → ¬ HaveRoom takes sheet_takes outputs (joined texts later))
+    → StopsWriting (HaveRoom takes sheet_takes outputs) now new sheets Failed
+StopsWriting-failed takes sheet_takes outputs now new texts sheets are part failed full =
+    subst (λ s. StopsWriting (HaveRoom takes sheet_takes outputs) now new s Failed) are (
+      part,
+      failed,
+      λ room. full no_sheets (subst (HaveRoom takes sheet_takes outputs) (sym (joined-none texts)) room),
+    )

@@ -22,16 +22,17 @@ use Rattle.sheet_clean.specs.declared.setting.Setting.{Setting}
 use Rattle.sheet_clean.specs.declared.summary.Summary.{Summary}
 use Rattle.sheet_clean.specs.Sheets.{Sheets, joined, no_rows, no_sheets, rows_summary}
 use Rattle.sheet_filter.specs.declared.cleaning.Cleaning.{Cleaning}
+use Rattle.sheet_filter.specs.declared.outputs.Outputs.{Outputs}
 use Rattle.sheet_filter.specs.declared.stop.Stop.{Stop}
 use Rattle.sheet_filter.specs.declared.stop.Stop.TheVariants.{Refused, Failed, NoMemory}
 use Rattle.sheet_filter.specs.declared.end.End.TheVariants as end
-use Rattle.sheet_filter.specs.Cleaning.{LacksRoom, Stands, StandsOver, Stops, stop_end}
-use Rattle.sheet_filter.specs.Cleaning.{summary_told, told, unread_end, whole_end}
+use Rattle.sheet_filter.specs.Cleaning.{LacksRoom, Moment, Stands, StandsNoMore, StandsOn, StandsOver, Stops}
+use Rattle.sheet_filter.specs.Cleaning.{stop_end, summary_told, told, unread_end, whole_end}
 use Rattle.sheet_filter.specs.Ends.{AreRead, Begins, Ends, HaveRoomForAll, IsFaultless, NoneFell, World, WritesAll}
 use Rattle.sheet_filter.specs.Ends.{WritesRows, WritesSome, sheets_of}
-use Rattle.sheet_filter.specs.Outputs.{AreWritten, Later, SinkStates}
+use Rattle.sheet_filter.specs.Outputs.{AreWritten, HaveRoom, Later, SinkStates, TakeRest}
 use Rattle.sheet_filter.proofs.Rows.{Begins-on}
-use Rattle.sheet_filter.proofs.Texts.{Later-then, Rose-later, SomeSinkFailed-later}
+use Rattle.sheet_filter.proofs.Texts.{Later-then, Rose-later, SomeSinkFailed-later, TakeRest-then}
 
 -- ---- all that was taken was written
 
@@ -92,77 +93,59 @@ ends-whole kit setting (Some layout) summary old new taken sheets read stands = 
       (written-rows kit setting layout summary old.sinks new.sinks taken [] sheets stands),
 )
 
--- ---- counts of faults
-
 -- ---- blocks
 
--- these bytes were read, and of them these taken and written
-pub record IsUnderway (kit : Kit) (setting : Setting) (TakeRest : Sheets → Type 0) (cleaning : Cleaning)
-    (blocks : BlocksSeen) (old now : World) : Type 0 where
+-- bytes that were read, and those of them that were taken before the block
+pub record HasRead (setting : Setting) (blocks : BlocksSeen) : Type 0 where
   pub bytes : List ℕ
   pub taken : List ℕ
-  pub sheets : Sheets
-  pub read : Consumes old.left now.left bytes
-  pub ended : blocks.whole ≡ true → IsAtEnd now.left
   pub delimiter_is : blocks.delimiter ≡ setting.delimiter
   pub stands : BlocksStand bytes taken blocks
-  pub written : Stands kit setting cleaning old.sinks now.sinks (records (delimited blocks.delimiter) taken) sheets
-  pub room : TakeRest sheets
+
+-- all that was taken was written, and this is the room that is left
+pub record IsWritten (kit : Kit) (setting : Setting) (LeavesRoom : Sheets → Type 0) (cleaning : Cleaning)
+    (old now : World) (taken : List (List (List ℕ))) : Type 0 where
+  pub sheets : Sheets
+  pub written : Stands kit setting cleaning old.sinks now.sinks taken sheets
+  pub room : LeavesRoom sheets
   pub none_fell : NoneFell old now
 
--- the block was taken and written too; what was read is as it was
-pub record IsTaken (kit : Kit) (setting : Setting) (TakeRest : Sheets → Type 0) (cleaning : Cleaning)
+-- the records of bytes that were taken
+abbrev pub records_taken : BlocksSeen → List ℕ → List (List (List ℕ))
+records_taken blocks taken = records (delimited blocks.delimiter) taken
+
+-- and then those of the block
+abbrev pub records_with : BlocksSeen → List ℕ → List (List (List ℕ))
+records_with blocks taken = records_taken blocks taken ++ records_taken blocks blocks.block
+
+-- what was taken of the bytes that were read was written
+pub record IsUnderway (kit : Kit) (setting : Setting) (LeavesRoom : Sheets → Type 0) (cleaning : Cleaning)
     (blocks : BlocksSeen) (old now : World) : Type 0 where
-  pub bytes : List ℕ
-  pub taken : List ℕ
-  pub sheets : Sheets
-  pub read : Consumes old.left now.left bytes
+  pub from : HasRead setting blocks
+  pub read : Consumes old.left now.left from.bytes
   pub ended : blocks.whole ≡ true → IsAtEnd now.left
-  pub delimiter_is : blocks.delimiter ≡ setting.delimiter
-  pub stands : BlocksStand bytes taken blocks
+  pub done : IsWritten kit setting LeavesRoom cleaning old now (records_taken blocks from.taken)
+
+-- and the block after it, which was taken too
+pub record IsTaken (kit : Kit) (setting : Setting) (LeavesRoom : Sheets → Type 0) (cleaning : Cleaning)
+    (blocks : BlocksSeen) (old now : World) : Type 0 where
+  pub from : HasRead setting blocks
+  pub read : Consumes old.left now.left from.bytes
+  pub ended : blocks.whole ≡ true → IsAtEnd now.left
   pub cut : AreCut blocks
-  pub written : Stands kit setting cleaning old.sinks now.sinks
-      (records (delimited blocks.delimiter) taken ++ records (delimited blocks.delimiter) blocks.block) sheets
-  pub room : TakeRest sheets
-  pub none_fell : NoneFell old now
+  pub done : IsWritten kit setting LeavesRoom cleaning old now (records_with blocks from.taken)
 
 -- the records of what was read, whole or not
-are-read : (setting : Setting) (blocks : BlocksSeen) (old now : World) (bytes taken : List ℕ)
-    → Consumes old.left now.left bytes → (blocks.whole ≡ true → IsAtEnd now.left)
-    → blocks.delimiter ≡ setting.delimiter → BlocksStand bytes taken blocks → AreCut blocks
-    → AreRead setting old now blocks.whole
-    (records (delimited blocks.delimiter) taken ++ records (delimited blocks.delimiter) blocks.block)
-are-read setting blocks old now bytes taken read ended is stands cut = record {
-  bytes = bytes;
+are-read : {setting : Setting} {blocks : BlocksSeen} (old now : World) (from : HasRead setting blocks)
+    → Consumes old.left now.left from.bytes → (blocks.whole ≡ true → IsAtEnd now.left) → AreCut blocks
+    → AreRead setting old now blocks.whole (records_with blocks from.taken)
+are-read {setting} {blocks} old now from read ended cut = record {
+  bytes = from.bytes;
   taken = read;
   ended = ended;
-  are = sym (records_read-stands bytes taken blocks stands cut)
-      ∙ ap (λ d. records_read d blocks.whole bytes) is;
+  are = sym (records_read-stands from.bytes from.taken blocks from.stands cut)
+      ∙ ap (λ d. records_read d blocks.whole from.bytes) from.delimiter_is;
 }
-
--- whatever more was read
-reads-more : (kit : Kit) (setting : Setting) (cleaning : Cleaning) (blocks : BlocksSeen) (old now new : World)
-    (bytes taken more : List ℕ) (sheets : Sheets) → Consumes old.left now.left bytes
-    → Consumes now.left new.left more → new.sinks ≡ now.sinks → blocks.delimiter ≡ setting.delimiter
-    → BlocksStand bytes taken blocks → blocks.whole ≡ false
-    → Stands kit setting cleaning old.sinks now.sinks (records (delimited blocks.delimiter) taken) sheets
-    → Ends kit setting old new end.NoMemory
-reads-more kit setting cleaning blocks old now new bytes taken more sheets read on same is stands begins written =
-    let follows = records_read-more bytes taken more blocks stands begins in
-    let all : records_read setting.delimiter false (bytes ++ more)
-    ≡ records (delimited blocks.delimiter) taken ++ follows.later =
-    ap (λ d. records_read d false (bytes ++ more)) (sym is) ∙ follows.records_are in (
-      false,
-      records (delimited blocks.delimiter) taken ++ follows.later,
-      record {
-        bytes = bytes ++ more;
-        taken = Consumes-trans old.left now.left new.left bytes more read on;
-        ended = λ e. absurd (let f = e in cc);
-        are = sym all;
-      },
-      rw same (writes-some kit setting cleaning.layout cleaning.summary old.sinks now.sinks
-          (records (delimited blocks.delimiter) taken) follows.later sheets written),
-    )
 
 -- ---- the ends
 
@@ -206,119 +189,139 @@ module _ (kit : Kit) (setting : Setting) where
     rose,
   )
 
-module _ (kit : Kit) (setting : Setting) (cleaning : Cleaning) where
-  -- the sheet was read to its end, and its last block taken
-  pub ends-done : (TakeRest : Sheets → Type 0) (blocks : BlocksSeen) (old now : World)
-      → IsTaken kit setting TakeRest cleaning blocks old now → blocks.whole ≡ true
-      → Ends kit setting old now (whole_end (told cleaning))
-  ends-done TakeRest blocks old now at whole =
-      ends-whole kit setting cleaning.layout cleaning.summary old now _ at.sheets
-      (subst (λ w. AreRead setting old now w
-      (records (delimited blocks.delimiter) at.taken ++ records (delimited blocks.delimiter) blocks.block)) whole
-      (are-read setting blocks old now at.bytes at.taken at.read at.ended at.delimiter_is at.stands at.cut))
-      at.written
-
-  -- there were too many blocks
-  pub ends-never : (TakeRest : Sheets → Type 0) (blocks : BlocksSeen) (old now : World)
-      → IsUnderway kit setting TakeRest cleaning blocks old now → Ends kit setting old now end.NoMemory
-  ends-never TakeRest blocks old now at =
-      let follows = ended_records-more blocks.delimiter at.bytes at.taken (blocks.block ++ blocks.begun)
-      (at.stands.text ∙ append_assoc at.taken blocks.block blocks.begun) at.stands.taken_whole in (
+module _ {kit : Kit} {setting : Setting} {LeavesRoom : Sheets → Type 0} {cleaning : Cleaning} {blocks : BlocksSeen}
+    {old now : World} where
+  -- whatever more was read
+  reads-more : (new : World) (more : List ℕ) → IsUnderway kit setting LeavesRoom cleaning blocks old now
+      → blocks.whole ≡ false → Consumes now.left new.left more → new.sinks ≡ now.sinks
+      → Ends kit setting old new end.NoMemory
+  reads-more new more at begins on same =
+      let follows = records_read-more at.from.bytes at.from.taken more blocks at.from.stands begins in (
         false,
-        records (delimited blocks.delimiter) at.taken ++ follows.later,
+        records_taken blocks at.from.taken ++ follows.later,
         record {
-          bytes = at.bytes;
-          taken = at.read;
+          bytes = at.from.bytes ++ more;
+          taken = Consumes-trans old.left now.left new.left at.from.bytes more at.read on;
           ended = λ e. absurd (let f = e in cc);
-          are = sym (ap (λ d. records_read d false at.bytes) (sym at.delimiter_is) ∙ follows.records_are);
+          are = sym (ap (λ d. records_read d false (at.from.bytes ++ more)) (sym at.from.delimiter_is)
+              ∙ follows.records_are);
         },
-        writes-some kit setting cleaning.layout cleaning.summary old.sinks now.sinks
-            (records (delimited blocks.delimiter) at.taken) follows.later at.sheets at.written,
+        rw same (writes-some kit setting cleaning.layout cleaning.summary old.sinks now.sinks
+            (records_taken blocks at.from.taken) follows.later at.done.sheets at.done.written),
       )
 
+  -- there were too many blocks
+  pub ends-never : IsUnderway kit setting LeavesRoom cleaning blocks old now → Ends kit setting old now end.NoMemory
+  ends-never at =
+      let follows = ended_records-more blocks.delimiter at.from.bytes at.from.taken (blocks.block ++ blocks.begun)
+      (at.from.stands.text ∙ append_assoc at.from.taken blocks.block blocks.begun) at.from.stands.taken_whole in (
+        false,
+        records_taken blocks at.from.taken ++ follows.later,
+        record {
+          bytes = at.from.bytes;
+          taken = at.read;
+          ended = λ e. absurd (let f = e in cc);
+          are = sym (ap (λ d. records_read d false at.from.bytes) (sym at.from.delimiter_is) ∙ follows.records_are);
+        },
+        writes-some kit setting cleaning.layout cleaning.summary old.sinks now.sinks
+            (records_taken blocks at.from.taken) follows.later at.done.sheets at.done.written,
+      )
+
+module _ {kit : Kit} {setting : Setting} {LeavesRoom : Sheets → Type 0} {cleaning : Cleaning} {blocks : BlocksSeen}
+    {old now : World} (at : IsTaken kit setting LeavesRoom cleaning blocks old now) where
+  -- the sheet was read to its end, and its last block taken
+  pub ends-done : blocks.whole ≡ true → Ends kit setting old now (whole_end (told cleaning))
+  ends-done whole =
+      ends-whole kit setting cleaning.layout cleaning.summary old now _ at.done.sheets
+      (subst (λ w. AreRead setting old now w (records_with blocks at.from.taken)) whole
+      (are-read old now at.from at.read at.ended at.cut))
+      at.done.written
+
   -- the block was taken; it is not the last
-  pub block-taken : (TakeRest : Sheets → Type 0) (blocks : BlocksSeen) (old now : World)
-      → IsTaken kit setting TakeRest cleaning blocks old now → blocks.whole ≡ false
-      → IsUnderway kit setting TakeRest cleaning (record blocks { block = [] }) old now
-  block-taken TakeRest blocks old now at begins = record {
-    bytes = at.bytes;
-    taken = at.taken ++ blocks.block;
-    sheets = at.sheets;
+  block-taken : blocks.whole ≡ false
+      → IsUnderway kit setting LeavesRoom cleaning (record blocks { block = [] }) old now
+  block-taken begins = record {
+    from = record {
+      bytes = at.from.bytes;
+      taken = at.from.taken ++ blocks.block;
+      delimiter_is = at.from.delimiter_is;
+      stands = Stands-taken at.from.bytes at.from.taken blocks at.from.stands at.cut begins;
+    };
     read = at.read;
     ended = at.ended;
-    delimiter_is = at.delimiter_is;
-    stands = Stands-taken at.bytes at.taken blocks at.stands at.cut begins;
-    written = subst (λ r. Stands kit setting cleaning old.sinks now.sinks r at.sheets)
-        (sym (records-append blocks.delimiter at.taken blocks.block at.stands.taken_whole)) at.written;
-    room = at.room;
-    none_fell = at.none_fell;
+    done = subst (IsWritten kit setting LeavesRoom cleaning old now)
+        (sym (records-append blocks.delimiter at.from.taken blocks.block at.from.stands.taken_whole)) at.done;
   }
 
   -- a read failed
-  pub ends-unread : (TakeRest : Sheets → Type 0) (blocks : BlocksSeen) (old now new : World)
-      → IsTaken kit setting TakeRest cleaning blocks old now → blocks.whole ≡ false → Keeps now.left new.left
-      → new.sinks ≡ now.sinks → Rose now.read_faults new.read_faults
-      → Ends kit setting old new (end.ReadFault (told cleaning))
-  ends-unread TakeRest blocks old now new at begins kept same rose =
-      let read = are-read setting blocks old new at.bytes at.taken
-      (Consumes-kept old.left now.left new.left at.bytes at.read kept)
-      (λ whole. absurd (let e = sym begins ∙ whole in cc)) at.delimiter_is at.stands at.cut in (
-        records (delimited blocks.delimiter) at.taken ++ records (delimited blocks.delimiter) blocks.block,
-        subst (λ w. AreRead setting old new w
-            (records (delimited blocks.delimiter) at.taken ++ records (delimited blocks.delimiter) blocks.block))
-            begins read,
-        rw same (writes-all kit setting cleaning.layout cleaning.summary old.sinks now.sinks _ at.sheets at.written),
-        Rose-later old.read_faults now.read_faults new.read_faults at.none_fell.read_faults rose,
-      )
+  ends-unread : (new : World) → blocks.whole ≡ false → Keeps now.left new.left → new.sinks ≡ now.sinks
+      → Rose now.read_faults new.read_faults → Ends kit setting old new (end.ReadFault (told cleaning))
+  ends-unread new begins kept same rose = (
+    records_with blocks at.from.taken,
+    subst (λ w. AreRead setting old new w (records_with blocks at.from.taken)) begins
+        (are-read old new at.from (Consumes-kept old.left now.left new.left at.from.bytes at.read kept)
+        (λ whole. absurd (let e = sym begins ∙ whole in cc)) at.cut),
+    rw same (writes-all kit setting cleaning.layout cleaning.summary old.sinks now.sinks _ at.done.sheets
+        at.done.written),
+    Rose-later old.read_faults now.read_faults new.read_faults at.done.none_fell.read_faults rose,
+  )
 
-  -- there was no memory to read on
-  pub ends-reading : (TakeRest : Sheets → Type 0) (blocks : BlocksSeen) (old now new : World)
-      → IsTaken kit setting TakeRest cleaning blocks old now → blocks.whole ≡ false
-      → HasTaken now.left new.left → new.sinks ≡ now.sinks → Ends kit setting old new end.NoMemory
-  ends-reading TakeRest blocks old now new at begins took same =
-      let next = block-taken TakeRest blocks old now at begins in
-      reads-more kit setting cleaning (record blocks { block = [] }) old now new next.bytes next.taken took.bytes
-      next.sheets next.read took.taken same next.delimiter_is next.stands begins next.written
+  -- no bytes come after the block
+  pub ends-unfilled : (new : World) → blocks.whole ≡ false → new.sinks ≡ now.sinks → (fault : BlocksFault)
+      → (fault ≡ blocks_fault.Failed → Keeps now.left new.left × Rose now.read_faults new.read_faults)
+      → (fault ≡ blocks_fault.NoMemory → HasTaken now.left new.left)
+      → Ends kit setting old new (unread_end (told cleaning) fault)
+  ends-unfilled new begins same blocks_fault.Failed kept lost =
+      ends-unread new begins (kept refl).0 same (kept refl).1
+  ends-unfilled new begins same blocks_fault.NoMemory kept lost =
+      reads-more new (lost refl).bytes (block-taken begins) begins (lost refl).taken same
 
   -- more was read
-  pub block-read : (TakeRest : Sheets → Type 0) (blocks more : BlocksSeen) (old now new : World)
-      → IsTaken kit setting TakeRest cleaning blocks old now → blocks.whole ≡ false
+  pub block-read : (more : BlocksSeen) (new : World) → blocks.whole ≡ false
       → Grows now.left new.left (record blocks { block = [] }) more → new.sinks ≡ now.sinks
-      → now.read_faults ≤ new.read_faults → IsUnderway kit setting TakeRest cleaning more old new
-  block-read TakeRest blocks more old now new at begins grows same later =
-      let next = block-taken TakeRest blocks old now at begins in
+      → now.read_faults ≤ new.read_faults → IsUnderway kit setting LeavesRoom cleaning more old new
+  block-read more new begins grows same later =
+      let next = block-taken begins in
       record {
-        bytes = next.bytes ++ grows.bytes;
-        taken = next.taken;
-        sheets = next.sheets;
-        read = Consumes-trans old.left now.left new.left next.bytes grows.bytes next.read grows.taken;
+        from = record {
+          bytes = next.from.bytes ++ grows.bytes;
+          taken = next.from.taken;
+          delimiter_is = grows.delimiter_is ∙ next.from.delimiter_is;
+          stands = Stands-grown next.from.bytes next.from.taken now.left new.left (record blocks { block = [] }) more
+              grows next.from.stands begins;
+        };
+        read = Consumes-trans old.left now.left new.left next.from.bytes grows.bytes next.read grows.taken;
         ended = λ whole. elim (grows.ended whole) [
           | inl was ↦ absurd (let e = sym begins ∙ was in cc)
           | inr is_at_end ↦ is_at_end
         ];
-        delimiter_is = grows.delimiter_is ∙ next.delimiter_is;
-        stands = Stands-grown next.bytes next.taken now.left new.left (record blocks { block = [] }) more grows
-            next.stands begins;
-        written = rw (same, grows.delimiter_is) next.written;
-        room = next.room;
-        none_fell = record {
-          read_faults = omega (arith, next.none_fell.read_faults, later);
-          sinks = rw same next.none_fell.sinks;
+        done = record {
+          sheets = next.done.sheets;
+          written = rw (same, grows.delimiter_is) next.done.written;
+          room = next.done.room;
+          none_fell = record {
+            read_faults = omega (arith, next.done.none_fell.read_faults, later);
+            sinks = rw same next.done.none_fell.sinks;
+          };
         };
       }
 
-  -- the sheet was opened
-  pub sheet-opened : (TakeRest : Sheets → Type 0) (blocks : BlocksSeen) (old now : World) → cleaning.layout ≡ None
-      → cleaning.summary ≡ no_rows → IsOpened setting.delimiter old.left now.left blocks → now.sinks ≡ old.sinks
-      → TakeRest no_sheets → NoneFell old now → IsUnderway kit setting TakeRest cleaning blocks old now
-  sheet-opened TakeRest blocks old now none no_row opened same room none_fell = record {
+-- the sheet was opened
+pub sheet-opened : (kit : Kit) (setting : Setting) (cleaning : Cleaning) (LeavesRoom : Sheets → Type 0)
+    (blocks : BlocksSeen) (old now : World) → cleaning.layout ≡ None → cleaning.summary ≡ no_rows
+    → IsOpened setting.delimiter old.left now.left blocks → now.sinks ≡ old.sinks → LeavesRoom no_sheets
+    → NoneFell old now → IsUnderway kit setting LeavesRoom cleaning blocks old now
+sheet-opened kit setting cleaning LeavesRoom blocks old now none no_row opened same room none_fell = record {
+  from = record {
     bytes = opened.bytes;
     taken = [];
-    sheets = no_sheets;
-    read = opened.taken;
-    ended = opened.ended;
     delimiter_is = opened.delimiter_is;
     stands = opened.stands;
+  };
+  read = opened.taken;
+  ended = opened.ended;
+  done = record {
+    sheets = no_sheets;
     written = rw (none, no_row) (record {
       none = records-read (delimited blocks.delimiter) [];
       written = same;
@@ -327,11 +330,10 @@ module _ (kit : Kit) (setting : Setting) (cleaning : Cleaning) where
     });
     room = room;
     none_fell = none_fell;
-  }
+  };
+}
 
--- ---- no bytes come
-
--- at the front of the sheet
+-- no bytes come at the front of the sheet
 pub ends-unopened : (kit : Kit) (setting : Setting) (cleaning : Cleaning) (old new : World) → cleaning.layout ≡ None
     → IsDelimiter setting.delimiter → new.sinks ≡ old.sinks → (fault : BlocksFault)
     → (fault ≡ blocks_fault.Failed → IsPartOfMark old.left new.left × Rose old.read_faults new.read_faults)
@@ -341,18 +343,6 @@ ends-unopened kit setting cleaning old new none delimits same blocks_fault.Faile
     rw none (ends-mark kit setting old new delimits (part refl).0 same (part refl).1)
 ends-unopened kit setting cleaning old new none delimits same blocks_fault.NoMemory part lost =
     ends-lost kit setting old new (lost refl) same
-
--- after a block
-pub ends-unfilled : (kit : Kit) (setting : Setting) (TakeRest : Sheets → Type 0) (cleaning : Cleaning)
-    (blocks : BlocksSeen) (old now new : World) → IsTaken kit setting TakeRest cleaning blocks old now
-    → blocks.whole ≡ false → new.sinks ≡ now.sinks → (fault : BlocksFault)
-    → (fault ≡ blocks_fault.Failed → Keeps now.left new.left × Rose now.read_faults new.read_faults)
-    → (fault ≡ blocks_fault.NoMemory → HasTaken now.left new.left)
-    → Ends kit setting old new (unread_end (told cleaning) fault)
-ends-unfilled kit setting TakeRest cleaning blocks old now new at begins same blocks_fault.Failed kept lost =
-    ends-unread kit setting cleaning TakeRest blocks old now new at begins (kept refl).0 same (kept refl).1
-ends-unfilled kit setting TakeRest cleaning blocks old now new at begins same blocks_fault.NoMemory kept lost =
-    ends-reading kit setting cleaning TakeRest blocks old now new at begins (lost refl) same
 
 -- ---- a block is taken, or not
 
@@ -381,97 +371,99 @@ faultless-stop HasRoom kit setting summary old now new records sheets NoMemory s
 
 -- the records of a block, as they are read after a line end
 block-records : (setting : Setting) (blocks : BlocksSeen) (block : List ℕ) → blocks.delimiter ≡ setting.delimiter
-    → block ≡ 10 ∷ blocks.block
-    → sheet_records setting.delimiter block ≡ records (delimited blocks.delimiter) blocks.block
+    → block ≡ 10 ∷ blocks.block → sheet_records setting.delimiter block ≡ records_taken blocks blocks.block
 block-records setting blocks block is fed =
     ap (sheet_records setting.delimiter) fed
     ∙ ap (λ d. sheet_records d (10 ∷ blocks.block)) (sym is)
     ∙ records-fed blocks.delimiter blocks.block
 
-module _ (kit : Kit) (setting : Setting) (TakeRest : Sheets → Type 0) (cleaning new : Cleaning) (blocks : BlocksSeen)
-    (block : List ℕ) (old now after : World) (at : IsUnderway kit setting TakeRest cleaning blocks old now)
-    (cut : AreCut blocks) (fed : block ≡ 10 ∷ blocks.block) (left : after.left ≡ now.left)
-    (read_faults : after.read_faults ≡ now.read_faults) (later : Later now.sinks after.sinks) where
+-- a block is at hand, after a line feed, and since then nothing was read
+pub record IsAtHand (kit : Kit) (setting : Setting) (LeavesRoom : Sheets → Type 0) (cleaning : Cleaning)
+    (blocks : BlocksSeen) (block : List ℕ) (old now after : World) : Type 0 where
+  pub underway : IsUnderway kit setting LeavesRoom cleaning blocks old now
+  pub cut : AreCut blocks
+  pub fed : block ≡ 10 ∷ blocks.block
+  pub left : after.left ≡ now.left
+  pub read_faults : after.read_faults ≡ now.read_faults
+  pub later : Later now.sinks after.sinks
+
+module _ {W C : Type 0} {takes : W → ℕ → Type 0} {sheet_takes : C → ℕ → Type 0} {kit : Kit} {setting : Setting}
+    {first outputs : Outputs W C} {cleaning : Cleaning} {blocks : BlocksSeen} {block : List ℕ} {old now after : World}
+    (at : IsAtHand kit setting (TakeRest takes sheet_takes first outputs) cleaning blocks block old now after)
+    (last : Outputs W C) (new : Cleaning) where
+  -- the moments before the block is taken, and after it
+  abbrev before_block : Moment W C
+  before_block = record { cleaning = cleaning; outputs = outputs; sinks = now.sinks }
+
+  abbrev after_block : Moment W C
+  after_block = record { cleaning = new; outputs = last; sinks = after.sinks }
+
   -- the records that were taken before, and those of the block
   abbrev both : List (List (List ℕ))
-  both = records (delimited blocks.delimiter) at.taken ++ sheet_records setting.delimiter block
+  both = records_taken blocks at.underway.from.taken ++ sheet_records setting.delimiter block
 
-  both-are : both ≡ records (delimited blocks.delimiter) at.taken ++ records (delimited blocks.delimiter) blocks.block
-  both-are = ap (λ l. records (delimited blocks.delimiter) at.taken ++ l)
-      (block-records setting blocks block at.delimiter_is fed)
-
-  fell : NoneFell old after
-  fell = record {
-    read_faults = rw read_faults at.none_fell.read_faults;
-    sinks = Later-then old.sinks now.sinks after.sinks at.none_fell.sinks later;
-  }
+  both-are : both ≡ records_with blocks at.underway.from.taken
+  both-are = ap (λ l. records_taken blocks at.underway.from.taken ++ l)
+      (block-records setting blocks block at.underway.from.delimiter_is at.fed)
 
   -- the block was taken
-  pub block-written : (TakeMore TakeNew : Sheets → Type 0)
-      → ((one other : Sheets) → TakeRest one → TakeMore other → TakeNew (joined one other))
-      → ((first : SinkStates) (records : List (List (List ℕ))) (sheets : Sheets)
-      → Stands kit setting cleaning first now.sinks records sheets
-      → (more : Sheets) × TakeMore more × Stands kit setting new first after.sinks
-      (records ++ sheet_records setting.delimiter block) (joined sheets more))
-      → IsTaken kit setting TakeNew new blocks old after
-  block-written TakeMore TakeNew on takes =
-      let (more, took, written) = takes old.sinks (records (delimited blocks.delimiter) at.taken) at.sheets at.written
-      in
+  pub block-written : StandsOn takes sheet_takes kit setting before_block after_block
+      (sheet_records setting.delimiter block)
+      → IsTaken kit setting (TakeRest takes sheet_takes first last) new blocks old after
+  block-written takes_on =
+      let done = at.underway.done in
+      let (more, took, written) = takes_on.stands old.sinks (records_taken blocks at.underway.from.taken) done.sheets
+      done.written in
       record {
-        bytes = at.bytes;
-        taken = at.taken;
-        sheets = joined at.sheets more;
-        read = rw left at.read;
-        ended = rw left at.ended;
-        delimiter_is = at.delimiter_is;
-        stands = at.stands;
-        cut = cut;
-        written = subst (λ r. Stands kit setting new old.sinks after.sinks r (joined at.sheets more)) both-are written;
-        room = on at.sheets more at.room took;
-        none_fell = fell;
+        from = at.underway.from;
+        read = rw at.left at.underway.read;
+        ended = rw at.left at.underway.ended;
+        cut = at.cut;
+        done = record {
+          sheets = joined done.sheets more;
+          written = subst (λ r. Stands kit setting new old.sinks after.sinks r (joined done.sheets more)) both-are
+              written;
+          room = TakeRest-then takes sheet_takes first outputs last done.sheets more done.room took;
+          none_fell = record {
+            read_faults = rw at.read_faults done.none_fell.read_faults;
+            sinks = Later-then old.sinks now.sinks after.sinks done.none_fell.sinks at.later;
+          };
+        };
       }
 
-  are-both : AreRead setting old after blocks.whole both
-  are-both = subst (AreRead setting old after blocks.whole) (sym both-are)
-      (are-read setting blocks old after at.bytes at.taken (rw left at.read) (rw left at.ended) at.delimiter_is
-      at.stands cut)
+  module _ {stop : Stop} (stopped : StandsNoMore takes sheet_takes kit setting before_block after_block
+      (sheet_records setting.delimiter block) stop) where
+    -- why it was not
+    stops-so : Stops kit setting (HaveRoom takes sheet_takes outputs) (told new) old.sinks now.sinks after.sinks both
+        at.underway.done.sheets stop
+    stops-so = stopped.stops old.sinks (records_taken blocks at.underway.from.taken) at.underway.done.sheets
+        at.underway.done.written
 
-  -- it was not, for this
-  pub block-stopped : (HasRoom : Sheets → Type 0) (stop : Stop)
-      → ((first : SinkStates) (records : List (List (List ℕ))) (sheets : Sheets)
-      → Stands kit setting cleaning first now.sinks records sheets
-      → Stops kit setting HasRoom (told new) first now.sinks after.sinks
-      (records ++ sheet_records setting.delimiter block) sheets stop)
-      → Ends kit setting old after (stop_end (told new) stop)
-  block-stopped HasRoom stop stops =
-      ends-stopped kit setting HasRoom (told new) old now after blocks.whole both at.sheets are-both at.none_fell.sinks
-      stop (stops old.sinks (records (delimited blocks.delimiter) at.taken) at.sheets at.written)
+    -- so it ends
+    pub block-stopped : Ends kit setting old after (stop_end (told new) stop)
+    block-stopped = ends-stopped kit setting (HaveRoom takes sheet_takes outputs) (told new) old now after blocks.whole
+        both at.underway.done.sheets
+        (subst (AreRead setting old after blocks.whole) (sym both-are)
+        (are-read old after at.underway.from (rw at.left at.underway.read) (rw at.left at.underway.ended) at.cut))
+        at.underway.done.none_fell.sinks stop stops-so
 
-  read-both : both ≡ records_read setting.delimiter blocks.whole at.bytes
-  read-both = both-are ∙ sym (records_read-stands at.bytes at.taken blocks at.stands cut)
-      ∙ ap (λ d. records_read d blocks.whole at.bytes) at.delimiter_is
-
-  -- which is no fault of a sink that has room for all that may be due
-  pub block-faultless : (HasRoom HadRoom : Sheets → Type 0) (stop : Stop)
-      → ((due : Sheets) → HadRoom (joined at.sheets due) → HasRoom due)
-      → HaveRoomForAll HadRoom kit setting old.left
-      → ((first : SinkStates) (records : List (List (List ℕ))) (sheets : Sheets)
-      → Stands kit setting cleaning first now.sinks records sheets
-      → Stops kit setting HasRoom (told new) first now.sinks after.sinks
-      (records ++ sheet_records setting.delimiter block) sheets stop)
-      → IsFaultless (stop_end (told new) stop)
-  block-faultless HasRoom HadRoom stop on room stops =
-      faultless-stop HasRoom kit setting (told new) old.sinks now.sinks after.sinks both at.sheets stop
-      (stops old.sinks (records (delimited blocks.delimiter) at.taken) at.sheets at.written)
-      (λ lacks. lacks.full (on lacks.due (subst HadRoom lacks.all (room (sheets_of kit setting lacks.header lacks.rows)
-      (record {
-        bytes = at.bytes;
-        after = now.left;
-        taken = at.read;
-        whole = blocks.whole;
-        header = lacks.header;
-        rows = lacks.rows;
-        rest = lacks.rest;
-        begins = subst (λ r. Begins kit setting r lacks.header lacks.rows lacks.rest) read-both lacks.begins;
-        sheets_are = refl;
-      })))))
+    -- which is no fault of a sink that has room for all that may be due
+    pub block-faultless : HaveRoomForAll (HaveRoom takes sheet_takes first) kit setting old.left
+        → IsFaultless (stop_end (told new) stop)
+    block-faultless room =
+        let read = are-read old now at.underway.from at.underway.read at.underway.ended at.cut in
+        faultless-stop (HaveRoom takes sheet_takes outputs) kit setting (told new) old.sinks now.sinks after.sinks both
+        at.underway.done.sheets stop stops-so
+        (λ lacks. lacks.full (at.underway.done.room lacks.due (subst (HaveRoom takes sheet_takes first) lacks.all
+        (room (sheets_of kit setting lacks.header lacks.rows) (record {
+          bytes = read.bytes;
+          after = now.left;
+          taken = read.taken;
+          whole = blocks.whole;
+          header = lacks.header;
+          rows = lacks.rows;
+          rest = lacks.rest;
+          begins = subst (λ r. Begins kit setting r lacks.header lacks.rows lacks.rest) (both-are ∙ read.are)
+              lacks.begins;
+          sheets_are = refl;
+        })))))

@@ -26,15 +26,18 @@ use Rattle.sheet_filter.specs.declared.end.End.TheVariants as end
 use Rattle.sheet_filter.specs.declared.stop.Stop.{Stop}
 use Rattle.sheet_filter.specs.declared.stop.Stop.TheVariants.{Refused, Failed, NoMemory}
 use Rattle.sheet_filter.specs.Ends.{Begins, RefusesRecord, WritesPart, WritesSome, sheets_of}
-use Rattle.sheet_filter.specs.Outputs.{ArePartly, AreUntouched, AreWritten, SinkStates, SomeSinkFailed}
+use Rattle.sheet_filter.specs.declared.outputs.Outputs.{Outputs}
+use Rattle.sheet_filter.specs.Outputs.{ArePartly, AreUntouched, AreWritten, HaveRoom, SinkStates, SomeSinkFailed}
+use Rattle.sheet_filter.specs.Outputs.{TakeRest, sinks_seen}
 
 -- what a sheet is cleaned by: a valid kit, and a setting of it
 pub record CleansBy (kit : Kit) (setting : Setting) : Type 0 where
   pub set : IsSettingOf kit setting
   pub valid : IsValid kit
 
--- there is room for the kit, and the layout is one of the setting
+-- a sheet can be cleaned by them: there is room for the kit, and the layout is one of the setting
 pub record IsReady (kit : Kit) (setting : Setting) (cleaning : Cleaning) : Type 0 where
+  pub by : CleansBy kit setting
   pub room : IsRoomFor cleaning.work kit
   pub laid : IfSome cleaning.layout (IsLayout setting)
 
@@ -177,8 +180,6 @@ Stops kit setting HaveRoom summary old now new records sheets Failed = WritesPar
     × SomeSinkFailed now new × LacksRoom kit setting HaveRoom records sheets
 Stops kit setting HaveRoom summary old now new records sheets NoMemory = WritesSome kit setting old new records
 
--- ---- how it is told
-
 -- the summary, where there was a header
 abbrev pub summary_told : Option Layout → Summary → Option Summary
 summary_told None summary = None
@@ -186,6 +187,73 @@ summary_told (Some layout) summary = Some summary
 
 abbrev pub told : Cleaning → Option Summary
 told cleaning = summary_told cleaning.layout cleaning.summary
+
+-- ---- from one moment to another
+
+-- a moment: how far the cleaning has come, and the sinks, as they are and as they tell it
+pub record Moment (W C : Type 0) : Type 0 where
+  pub cleaning : Cleaning
+  pub outputs : Outputs W C
+  pub sinks : SinkStates
+
+abbrev pub moment_seen : {W C : Type 0} → (W → Option (List ℕ)) → (W → ℕ) → (C → Option (List ℕ)) → (C → ℕ)
+    → Cleaning → Outputs W C → Moment W C
+moment_seen written faults sheet_written sheet_faults cleaning outputs = record {
+  cleaning = cleaning;
+  outputs = outputs;
+  sinks = sinks_seen written faults sheet_written sheet_faults outputs;
+}
+
+-- whatever stood before, these records were taken and written
+pub record StandsOn {W C : Type 0} (takes : W → ℕ → Type 0) (sheet_takes : C → ℕ → Type 0) (kit : Kit)
+    (setting : Setting) (from to : Moment W C) (taken : List (List (List ℕ))) : Type 0 where
+  pub stands : (old : SinkStates) (records : List (List (List ℕ))) (sheets : Sheets)
+      → Stands kit setting from.cleaning old from.sinks records sheets
+      → (more : Sheets) × TakeRest takes sheet_takes from.outputs to.outputs more
+      × Stands kit setting to.cleaning old to.sinks (records ++ taken) (joined sheets more)
+
+-- or not all were, for this
+pub record StandsNoMore {W C : Type 0} (takes : W → ℕ → Type 0) (sheet_takes : C → ℕ → Type 0) (kit : Kit)
+    (setting : Setting) (from to : Moment W C) (due : List (List (List ℕ))) (stop : Stop) : Type 0 where
+  pub stops : (old : SinkStates) (records : List (List (List ℕ))) (sheets : Sheets)
+      → Stands kit setting from.cleaning old from.sinks records sheets
+      → Stops kit setting (HaveRoom takes sheet_takes from.outputs) (told to.cleaning) old from.sinks to.sinks
+      (records ++ due) sheets stop
+
+-- whatever was taken before, these records were drafted
+pub record DraftsOn {W C : Type 0} (takes : W → ℕ → Type 0) (sheet_takes : C → ℕ → Type 0) (kit : Kit)
+    (setting : Setting) (from to : Moment W C) (before after : Drafts) (taken : List (List (List ℕ))) : Type 0 where
+  pub drafted : (old : SinkStates) (records : List (List (List ℕ))) (sheets : Sheets)
+      → Drafting kit setting from.cleaning before old from.sinks records sheets
+      → (more : Sheets) × TakeRest takes sheet_takes from.outputs to.outputs more
+      × Drafting kit setting to.cleaning after old to.sinks (records ++ taken) (joined sheets more)
+
+-- or not all were, for this
+pub record DraftsNoMore {W C : Type 0} (takes : W → ℕ → Type 0) (sheet_takes : C → ℕ → Type 0) (kit : Kit)
+    (setting : Setting) (from to : Moment W C) (before after : Drafts) (due : List (List (List ℕ))) (stop : Stop) : Type
+    0 where
+  pub stops : (old : SinkStates) (records : List (List (List ℕ))) (sheets : Sheets)
+      → Drafting kit setting from.cleaning before old from.sinks records sheets
+      → StopsDrafting kit setting (HaveRoom takes sheet_takes from.outputs)
+      (TakeRest takes sheet_takes from.outputs to.outputs) to.cleaning after old from.sinks to.sinks (records ++ due)
+      sheets stop
+
+-- whatever was taken before, all that is drafted was written
+pub record Flushes {W C : Type 0} (takes : W → ℕ → Type 0) (sheet_takes : C → ℕ → Type 0) (kit : Kit)
+    (setting : Setting) (from to : Moment W C) (drafts : Drafts) : Type 0 where
+  pub written : (old : SinkStates) (records : List (List (List ℕ))) (sheets : Sheets)
+      → Drafting kit setting from.cleaning drafts old from.sinks records sheets
+      → (more : Sheets) × TakeRest takes sheet_takes from.outputs to.outputs more
+      × Stands kit setting to.cleaning old to.sinks records (joined sheets more)
+
+-- or not all was, for this
+pub record FlushesNoMore {W C : Type 0} (takes : W → ℕ → Type 0) (sheet_takes : C → ℕ → Type 0) (kit : Kit)
+    (setting : Setting) (from to : Moment W C) (drafts : Drafts) (stop : Stop) : Type 0 where
+  pub stops : (old : SinkStates) (records : List (List (List ℕ))) (sheets : Sheets)
+      → Drafting kit setting from.cleaning drafts old from.sinks records sheets
+      → StopsFlush kit setting (HaveRoom takes sheet_takes from.outputs) old from.sinks to.sinks records sheets stop
+
+-- ---- how it is told
 
 -- the end where no more rows are taken
 abbrev pub stop_end : Option Summary → Stop → End

@@ -5,12 +5,13 @@ ghost use Rattle.desk_base.specs.Texts.{bytes_of};
 ghost use Rattle.sheet_blocks.specs.Sheets.{sheet_records};
 ghost use Rattle.sheet_clean.specs.Header.{header_fault};
 ghost use Rattle.sheet_clean.specs.Layouts.{IsLayout};
-ghost use Rattle.sheet_clean.specs.Sheets.{Sheets, heads, joined};
+ghost use Rattle.sheet_clean.specs.Sheets.{Sheets, heads};
 ghost use Rattle.sheet_clean.specs.Writing.{HaveWritten};
 ghost use Rattle.sheet_clean.specs.declared.fault.SheetFault.{SheetFault as FaultOf};
 ghost use Rattle.sheet_clean.specs.declared.setting.Setting.{Setting as SettingOf};
-ghost use Rattle.sheet_filter.specs.Cleaning.{CleansBy, Drafting, IsReady, Stands, Stops, StopsDrafting, StopsFlush};
-ghost use Rattle.sheet_filter.specs.Cleaning.{StopsHeader, StopsRecord, StopsRow, StopsWriting, told};
+ghost use Rattle.sheet_filter.specs.Cleaning.{CleansBy, Drafting, DraftsNoMore, DraftsOn, Flushes, FlushesNoMore};
+ghost use Rattle.sheet_filter.specs.Cleaning.{IsReady, StandsNoMore, StandsOn, StopsHeader, StopsRecord, StopsRow};
+ghost use Rattle.sheet_filter.specs.Cleaning.{StopsWriting, moment_seen};
 ghost use Rattle.sheet_filter.specs.Outputs.{AreWritten, HaveRoom, Later, SinkStates, TakeRest, sinks_seen};
 
 use crate::cleaning::Cleaning;
@@ -39,21 +40,16 @@ impl<'a, B: Book<()>> Cleaner<'a, B> {
         cleaning: &mut Cleaning,
         outputs: &mut Outputs<W, C>,
     ) -> Result<(), Stop>
-        requires by { CleansBy (B.kit self.now.book.now) self.now.setting.now }
-        requires ready { IsReady (B.kit self.now.book.now) self.now.setting.now cleaning.old }
+        requires { IsReady (B.kit self.now.book.now) self.now.setting.now cleaning.old }
         ensures ready { IsReady (B.kit self.now.book.now) self.now.setting.now cleaning.new }
-        ensures taken { let seen = sinks_seen W.written W.write_faults C.written C.write_faults in
-            OnOk result ((old : SinkStates) (records : ListOf (ListOf (ListOf ℕ))) (sheets : Sheets)
-            → Stands (B.kit self.now.book.now) self.now.setting.now cleaning.old old (seen outputs.old) records sheets
-            → (more : Sheets) × TakeRest W.takes C.takes outputs.old outputs.new more
-            × Stands (B.kit self.now.book.now) self.now.setting.now cleaning.new old (seen outputs.new)
-            (records ++ sheet_records self.now.setting.now.delimiter block.now) (joined sheets more)) }
-        ensures stopped { let seen = sinks_seen W.written W.write_faults C.written C.write_faults in
-            IfErr result (λ stop. (old : SinkStates) (records : ListOf (ListOf (ListOf ℕ))) (sheets : Sheets)
-            → Stands (B.kit self.now.book.now) self.now.setting.now cleaning.old old (seen outputs.old) records sheets
-            → Stops (B.kit self.now.book.now) self.now.setting.now (HaveRoom W.takes C.takes outputs.old)
-            (told cleaning.new) old (seen outputs.old) (seen outputs.new)
-            (records ++ sheet_records self.now.setting.now.delimiter block.now) sheets stop) }
+        ensures taken { let at = moment_seen W.written W.write_faults C.written C.write_faults in
+            OnOk result (StandsOn W.takes C.takes (B.kit self.now.book.now) self.now.setting.now
+            (at cleaning.old outputs.old) (at cleaning.new outputs.new)
+            (sheet_records self.now.setting.now.delimiter block.now)) }
+        ensures stopped { let at = moment_seen W.written W.write_faults C.written C.write_faults in
+            IfErr result (StandsNoMore W.takes C.takes (B.kit self.now.book.now) self.now.setting.now
+            (at cleaning.old outputs.old) (at cleaning.new outputs.new)
+            (sheet_records self.now.setting.now.delimiter block.now)) }
         ensures later { let seen = sinks_seen W.written W.write_faults C.written C.write_faults in
             Later (seen outputs.old) (seen outputs.new) }
     {
@@ -76,19 +72,12 @@ impl<'a, B: Book<()>> Cleaner<'a, B> {
         drafts: Drafts,
         outputs: &mut Outputs<W, C>,
     ) -> Result<(), Stop>
-        ensures written { let seen = sinks_seen W.written W.write_faults C.written C.write_faults in
-            OnOk result ((old : SinkStates) (records : ListOf (ListOf (ListOf ℕ))) (sheets : Sheets)
-            → Drafting (B.kit self.now.book.now) self.now.setting.now cleaning.now drafts old (seen outputs.old)
-            records sheets
-            → (more : Sheets) × TakeRest W.takes C.takes outputs.old outputs.new more
-            × Stands (B.kit self.now.book.now) self.now.setting.now cleaning.now old (seen outputs.new) records
-            (joined sheets more)) }
-        ensures stopped { let seen = sinks_seen W.written W.write_faults C.written C.write_faults in
-            IfErr result (λ stop. (old : SinkStates) (records : ListOf (ListOf (ListOf ℕ))) (sheets : Sheets)
-            → Drafting (B.kit self.now.book.now) self.now.setting.now cleaning.now drafts old (seen outputs.old)
-            records sheets
-            → StopsFlush (B.kit self.now.book.now) self.now.setting.now (HaveRoom W.takes C.takes outputs.old) old
-            (seen outputs.old) (seen outputs.new) records sheets stop) }
+        ensures written { let at = moment_seen W.written W.write_faults C.written C.write_faults in
+            OnOk result (Flushes W.takes C.takes (B.kit self.now.book.now) self.now.setting.now
+            (at cleaning.now outputs.old) (at cleaning.now outputs.new) drafts) }
+        ensures stopped { let at = moment_seen W.written W.write_faults C.written C.write_faults in
+            IfErr result (FlushesNoMore W.takes C.takes (B.kit self.now.book.now) self.now.setting.now
+            (at cleaning.now outputs.old) (at cleaning.now outputs.new) drafts) }
         ensures later { let seen = sinks_seen W.written W.write_faults C.written C.write_faults in
             Later (seen outputs.old) (seen outputs.new) }
     {
@@ -106,23 +95,16 @@ impl<'a, B: Book<()>> Cleaner<'a, B> {
         drafts: &mut Drafts,
         outputs: &mut Outputs<W, C>,
     ) -> Result<(), Stop>
-        requires by { CleansBy (B.kit self.now.book.now) self.now.setting.now }
-        requires ready { IsReady (B.kit self.now.book.now) self.now.setting.now cleaning.old }
+        requires { IsReady (B.kit self.now.book.now) self.now.setting.now cleaning.old }
         ensures ready { IsReady (B.kit self.now.book.now) self.now.setting.now cleaning.new }
-        ensures drafted { let seen = sinks_seen W.written W.write_faults C.written C.write_faults in
-            OnOk result ((old : SinkStates) (records : ListOf (ListOf (ListOf ℕ))) (sheets : Sheets)
-            → Drafting (B.kit self.now.book.now) self.now.setting.now cleaning.old drafts.old old (seen outputs.old)
-            records sheets
-            → (more : Sheets) × TakeRest W.takes C.takes outputs.old outputs.new more
-            × Drafting (B.kit self.now.book.now) self.now.setting.now cleaning.new drafts.new old (seen outputs.new)
-            (records ++ sheet_records self.now.setting.now.delimiter block.now) (joined sheets more)) }
-        ensures stopped { let seen = sinks_seen W.written W.write_faults C.written C.write_faults in
-            IfErr result (λ stop. (old : SinkStates) (records : ListOf (ListOf (ListOf ℕ))) (sheets : Sheets)
-            → Drafting (B.kit self.now.book.now) self.now.setting.now cleaning.old drafts.old old (seen outputs.old)
-            records sheets
-            → StopsDrafting (B.kit self.now.book.now) self.now.setting.now (HaveRoom W.takes C.takes outputs.old)
-            (TakeRest W.takes C.takes outputs.old outputs.new) cleaning.new drafts.new old (seen outputs.old)
-            (seen outputs.new) (records ++ sheet_records self.now.setting.now.delimiter block.now) sheets stop) }
+        ensures drafted { let at = moment_seen W.written W.write_faults C.written C.write_faults in
+            OnOk result (DraftsOn W.takes C.takes (B.kit self.now.book.now) self.now.setting.now
+            (at cleaning.old outputs.old) (at cleaning.new outputs.new) drafts.old drafts.new
+            (sheet_records self.now.setting.now.delimiter block.now)) }
+        ensures stopped { let at = moment_seen W.written W.write_faults C.written C.write_faults in
+            IfErr result (DraftsNoMore W.takes C.takes (B.kit self.now.book.now) self.now.setting.now
+            (at cleaning.old outputs.old) (at cleaning.new outputs.new) drafts.old drafts.new
+            (sheet_records self.now.setting.now.delimiter block.now)) }
         ensures later { let seen = sinks_seen W.written W.write_faults C.written C.write_faults in
             Later (seen outputs.old) (seen outputs.new) }
     {
@@ -142,16 +124,12 @@ impl<'a, B: Book<()>> Cleaner<'a, B> {
         drafts: &mut Drafts,
         outputs: &mut Outputs<W, C>,
     ) -> Result<(), Stop>
-        requires by { CleansBy (B.kit self.now.book.now) self.now.setting.now }
-        requires ready { IsReady (B.kit self.now.book.now) self.now.setting.now cleaning.old }
+        requires { IsReady (B.kit self.now.book.now) self.now.setting.now cleaning.old }
         ensures ready { IsReady (B.kit self.now.book.now) self.now.setting.now cleaning.new }
-        ensures drafted { let seen = sinks_seen W.written W.write_faults C.written C.write_faults in
-            OnOk result ((old : SinkStates) (records : ListOf (ListOf (ListOf ℕ))) (sheets : Sheets)
-            → Drafting (B.kit self.now.book.now) self.now.setting.now cleaning.old drafts.old old (seen outputs.old)
-            records sheets
-            → (more : Sheets) × TakeRest W.takes C.takes outputs.old outputs.new more
-            × Drafting (B.kit self.now.book.now) self.now.setting.now cleaning.new drafts.new old (seen outputs.new)
-            (records ++ fields_of next.now ∷ []) (joined sheets more)) }
+        ensures drafted { let at = moment_seen W.written W.write_faults C.written C.write_faults in
+            OnOk result (DraftsOn W.takes C.takes (B.kit self.now.book.now) self.now.setting.now
+            (at cleaning.old outputs.old) (at cleaning.new outputs.new) drafts.old drafts.new
+            (fields_of next.now ∷ [])) }
         ensures stopped { let seen = sinks_seen W.written W.write_faults C.written C.write_faults in
             IfErr result (StopsRecord self.now.setting.now (HaveRoom W.takes C.takes outputs.old) cleaning.old
             cleaning.new drafts.old drafts.new (seen outputs.old) (seen outputs.new) (fields_of next.now)) }
@@ -173,7 +151,7 @@ impl<'a, B: Book<()>> Cleaner<'a, B> {
         fields: &[&[u8]],
         outputs: &mut Outputs<W, C>,
     ) -> Result<Layout, Stop>
-        requires by { CleansBy (B.kit self.now.book.now) self.now.setting.now }
+        requires { CleansBy (B.kit self.now.book.now) self.now.setting.now }
         ensures laid { IfOk result (IsLayout self.now.setting.now) }
         ensures header { IfOk result (λ layout. layout.header ≡ bytes_of fields.now) }
         ensures fits { OnOk result (header_fault self.now.setting.now (bytes_of fields.now) ≡ None) }
@@ -202,8 +180,7 @@ impl<'a, B: Book<()>> Cleaner<'a, B> {
         cleaning: &mut Cleaning,
         drafts: &mut Drafts,
     ) -> Result<(), Stop>
-        requires by { CleansBy (B.kit self.now.book.now) self.now.setting.now }
-        requires ready { IsReady (B.kit self.now.book.now) self.now.setting.now cleaning.old }
+        requires { IsReady (B.kit self.now.book.now) self.now.setting.now cleaning.old }
         ensures ready { IsReady (B.kit self.now.book.now) self.now.setting.now cleaning.new }
         ensures drafted { OnOk result ((old now : SinkStates) (records : ListOf (ListOf (ListOf ℕ))) (sheets : Sheets)
             → Drafting (B.kit self.now.book.now) self.now.setting.now cleaning.old drafts.old old now records sheets

@@ -1,9 +1,9 @@
 //! A sheet that is being cleaned.
 ghost use Rattle.std.specs.Prelude.{◌≡◌, IfOk, None, OnOk};
+ghost use Rattle.fix_engine.specs.WorkSeen.{IsRoomFor};
 ghost use Rattle.fix_model.specs.Valid.{IsValid};
 ghost use Rattle.sheet_clean.specs.Sheets.{no_rows};
-ghost use Rattle.sheet_filter.specs.Cleaning.{IsReady, stop_end, told, unread_end, whole_end};
-ghost use Rattle.sheet_clean.specs.declared.setting.Setting.{Setting as SettingOf};
+ghost use Rattle.sheet_filter.specs.Cleaning.{stop_end, told, unread_end, whole_end};
 
 use crate::end::End;
 use crate::stop::Stop;
@@ -26,7 +26,7 @@ pub(crate) struct Cleaning {
 impl Cleaning {
     /// One of which nothing was read.
     pub(crate) fn new<B: Book<()>>(alloc: Global, book: &B) -> Result<Cleaning, NoMemory>
-        ensures ready { IfOk result (λ cleaning. (setting : SettingOf) → IsReady (B.kit book.now) setting cleaning) }
+        ensures room { IfOk result (λ cleaning. IsRoomFor cleaning.work (B.kit book.now)) }
         ensures valid { OnOk result (IsValid (B.kit book.now)) }
         ensures none { IfOk result (λ cleaning. cleaning.layout ≡ None) }
         ensures no_rows { IfOk result (λ cleaning. cleaning.summary ≡ no_rows) }

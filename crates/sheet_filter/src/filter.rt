@@ -1,5 +1,4 @@
 //! Cleaning a sheet, block by block.
-ghost use Rattle.std.specs.Prelude.{◌≡◌};
 ghost use Rattle.sheet_clean.specs.Setting.{IsSettingOf};
 ghost use Rattle.sheet_filter.specs.Ends.{Ends, HaveRoomForAll, IsFaultless, NoneFell, world_seen};
 ghost use Rattle.sheet_filter.specs.Outputs.{HaveRoom};

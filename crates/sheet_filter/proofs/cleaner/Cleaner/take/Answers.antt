@@ -1,75 +1,39 @@
 use Rattle.std.proofs.Common.{◌≡◌, rules}
 use Rattle.std.specs.Prelude.{Err}
-use Rattle.sheet_blocks.specs.Sheets.{sheet_records}
-use Rattle.sheet_filter.specs.Outputs.{sinks_seen}
 use Rattle.sheet_filter.proofs.Drafting.{on-error, on-value}
 use Rattle.sheet_filter.proofs.Flushing.{draft-failed, draft-lost, refuses-stops, refuses-whole, take-stops, take-whole}
 use Rattle.sheet_filter.proofs.cleaner.Cleaner.take.Goals as goal
 
 -- all was drafted and written
 pub returns-in-Ok-clause-taken : goal.returns-in-Ok-clause-taken
-returns-in-Ok-clause-taken g c =
-    let seen = sinks_seen g.W.Sink.written g.W.Sink.write_faults g.C.Sink.written g.C.Sink.write_faults in
-    let setting = c.args.self.now.setting.now in
-    on-value c.flush.result c.flush.ensures.written (take-whole g.W.Sink.takes g.C.Sink.takes
-    (g.B.Book.kit c.args.self.now.book.now) setting c.args.cleaning.now c.draft.new.cleaning c.new-drafts.result
-    c.draft.new.drafts (seen c.args.outputs.now) (seen c.draft.new.outputs) (seen c.flush.new.outputs)
-    c.args.outputs.now c.draft.new.outputs c.flush.new.outputs
-    (sheet_records setting.delimiter c.args.block.now) c.new-drafts.ensures c.in-Ok.ensures.drafted)
+returns-in-Ok-clause-taken g c = on-value c.flush.result c.flush.ensures.written
+    (take-whole c.new-drafts.ensures c.in-Ok.ensures.drafted)
 
 -- all was drafted, and not written
 pub returns-in-Ok-clause-stopped : goal.returns-in-Ok-clause-stopped
-returns-in-Ok-clause-stopped g c =
-    let seen = sinks_seen g.W.Sink.written g.W.Sink.write_faults g.C.Sink.written g.C.Sink.write_faults in
-    let setting = c.args.self.now.setting.now in
-    on-error c.flush.result c.flush.ensures.stopped (take-stops g.W.Sink.takes g.C.Sink.takes
-    (g.B.Book.kit c.args.self.now.book.now) setting c.args.cleaning.now c.draft.new.cleaning c.new-drafts.result
-    c.draft.new.drafts (seen c.args.outputs.now) (seen c.draft.new.outputs) (seen c.flush.new.outputs)
-    c.args.outputs.now c.draft.new.outputs (sheet_records setting.delimiter c.args.block.now) c.new-drafts.ensures
-    c.in-Ok.ensures.drafted c.in-Ok.ensures.later)
+returns-in-Ok-clause-stopped g c = on-error c.flush.result c.flush.ensures.stopped
+    (take-stops c.new-drafts.ensures c.in-Ok.ensures.drafted c.in-Ok.ensures.later)
 
 -- a record has a fault, and what was drafted before it was written
 pub returns-in_ok-flush-in-Err-Refused-clause-stopped : goal.returns-in_ok-flush-in-Err-Refused-clause-stopped
-returns-in_ok-flush-in-Err-Refused-clause-stopped g c =
-    let seen = sinks_seen g.W.Sink.written g.W.Sink.write_faults g.C.Sink.written g.C.Sink.write_faults in
-    let setting = c.args.self.now.setting.now in
-    refuses-whole g.W.Sink.takes g.C.Sink.takes (g.B.Book.kit c.args.self.now.book.now) setting c.args.cleaning.now
-    c.draft.new.cleaning c.new-drafts.result c.draft.new.drafts (seen c.args.outputs.now) (seen c.draft.new.outputs)
-    (seen c.flush-in-Err-Refused.new.outputs) c.args.outputs.now c.draft.new.outputs
-    c.flush-in-Err-Refused.new.outputs (sheet_records setting.delimiter c.args.block.now) c.new-drafts.ensures
-    c.in-Err-Refused.fault (rw c.in-Err-Refused.field-0-is at c.in-Err-Refused.ensures.stopped)
-    c.in_ok-flush-in-Err-Refused.ensures.written
+returns-in_ok-flush-in-Err-Refused-clause-stopped g c = refuses-whole c.new-drafts.ensures c.in-Err-Refused.fault
+    (rw c.in-Err-Refused.field-0-is at c.in-Err-Refused.ensures.stopped) c.in_ok-flush-in-Err-Refused.ensures.written
 
 -- or it was not
 pub returns-in_err-flush-in-Err-Refused-clause-stopped : goal.returns-in_err-flush-in-Err-Refused-clause-stopped
 returns-in_err-flush-in-Err-Refused-clause-stopped g c =
-    let seen = sinks_seen g.W.Sink.written g.W.Sink.write_faults g.C.Sink.written g.C.Sink.write_faults in
-    let setting = c.args.self.now.setting.now in
     let stop = c.in_err-flush-in-Err-Refused.field-0.0 in
     let is : c.from_residual.result ≡ Err stop = search rules in
-    rw is (refuses-stops g.W.Sink.takes g.C.Sink.takes (g.B.Book.kit c.args.self.now.book.now) setting
-    c.args.cleaning.now c.draft.new.cleaning c.new-drafts.result c.draft.new.drafts (seen c.args.outputs.now)
-    (seen c.draft.new.outputs) (seen c.flush-in-Err-Refused.new.outputs) c.args.outputs.now c.draft.new.outputs
-    (sheet_records setting.delimiter c.args.block.now) c.new-drafts.ensures c.in-Err-Refused.ensures.later
-    c.in-Err-Refused.fault (rw c.in-Err-Refused.field-0-is at c.in-Err-Refused.ensures.stopped) stop
+    rw is (refuses-stops c.new-drafts.ensures c.in-Err-Refused.ensures.later c.in-Err-Refused.fault
+    (rw c.in-Err-Refused.field-0-is at c.in-Err-Refused.ensures.stopped) stop
     c.in_err-flush-in-Err-Refused.ensures.stopped)
 
 -- a header was written in part
 pub returns-in-Err-Failed-clause-stopped : goal.returns-in-Err-Failed-clause-stopped
 returns-in-Err-Failed-clause-stopped g c =
-    let seen = sinks_seen g.W.Sink.written g.W.Sink.write_faults g.C.Sink.written g.C.Sink.write_faults in
-    let setting = c.args.self.now.setting.now in
-    draft-failed g.W.Sink.takes g.C.Sink.takes (g.B.Book.kit c.args.self.now.book.now) setting c.args.cleaning.now
-    c.draft.new.cleaning c.new-drafts.result c.draft.new.drafts (seen c.args.outputs.now) (seen c.draft.new.outputs)
-    c.args.outputs.now c.draft.new.outputs (sheet_records setting.delimiter c.args.block.now) c.new-drafts.ensures
-    (rw c.in-Err-Failed.field-0-is at c.in-Err-Failed.ensures.stopped)
+    draft-failed c.new-drafts.ensures (rw c.in-Err-Failed.field-0-is at c.in-Err-Failed.ensures.stopped)
 
 -- there was no memory
 pub returns-in-Err-NoMemory-clause-stopped : goal.returns-in-Err-NoMemory-clause-stopped
 returns-in-Err-NoMemory-clause-stopped g c =
-    let seen = sinks_seen g.W.Sink.written g.W.Sink.write_faults g.C.Sink.written g.C.Sink.write_faults in
-    let setting = c.args.self.now.setting.now in
-    draft-lost g.W.Sink.takes g.C.Sink.takes (g.B.Book.kit c.args.self.now.book.now) setting c.args.cleaning.now
-    c.draft.new.cleaning c.new-drafts.result c.draft.new.drafts (seen c.args.outputs.now) (seen c.draft.new.outputs)
-    c.args.outputs.now c.draft.new.outputs (sheet_records setting.delimiter c.args.block.now) c.new-drafts.ensures
-    (rw c.in-Err-NoMemory.field-0-is at c.in-Err-NoMemory.ensures.stopped)
+    draft-lost c.new-drafts.ensures (rw c.in-Err-NoMemory.field-0-is at c.in-Err-NoMemory.ensures.stopped)

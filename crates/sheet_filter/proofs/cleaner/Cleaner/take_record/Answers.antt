@@ -27,7 +27,7 @@ returns-in_err-take_header-clause-stopped g c =
 
 -- the header was taken
 pub returns-then-is_none-clause-drafted : goal.returns-then-is_none-clause-drafted
-returns-then-is_none-clause-drafted g c old records sheets drafting =
+returns-then-is_none-clause-drafted g c =
     let seen = sinks_seen g.W.Sink.written g.W.Sink.write_faults g.C.Sink.written g.C.Sink.write_faults in
     let kit = g.B.Book.kit c.args.self.now.book.now in
     let setting = c.args.self.now.setting.now in
@@ -35,13 +35,16 @@ returns-then-is_none-clause-drafted g c old records sheets drafting =
     ap bytes_of c.as_slice.ensures.value ∙ c.in_ok-cells.ensures in
     let taken = rw fields at c.in_ok-take_header.ensures in
     let cleaning = c.args.cleaning.now in
-    let none : is_none cleaning.layout ≡ true = search rules in (
-      heads setting (fields_of c.args.next.now),
-      taken.room,
-      header-drafted kit setting cleaning.layout c.in_ok-take_header.field-0 cleaning.summary c.args.drafts.now old
-          (seen c.args.outputs.now) (seen c.take_header.new.outputs) records sheets (fields_of c.args.next.now)
-          none taken.header taken.fits taken.written drafting,
-    )
+    let none : is_none cleaning.layout ≡ true = search rules in
+    record {
+      drafted = λ old records sheets drafting. (
+        heads setting (fields_of c.args.next.now),
+        taken.room,
+        header-drafted kit setting cleaning.layout c.in_ok-take_header.field-0 cleaning.summary c.args.drafts.now old
+            (seen c.args.outputs.now) (seen c.take_header.new.outputs) records sheets (fields_of c.args.next.now)
+            none taken.header taken.fits taken.written drafting,
+      );
+    }
 
 -- a row was taken
 pub returns-clause-drafted : goal.returns-clause-drafted
@@ -51,9 +54,11 @@ returns-clause-drafted g c =
     let setting = c.args.self.now.setting.now in
     let fields : bytes_of c.as_slice-2.result.now ≡ fields_of c.args.next.now =
     ap bytes_of c.as_slice-2.ensures.value ∙ c.in_ok-cells.ensures in
-    on-value c.take_row.result (rw fields at c.take_row.ensures.drafted) (λ drafted old records sheets drafting. (
-      no_sheets,
-      TakeRest-none g.W.Sink.takes g.C.Sink.takes c.args.outputs.now,
-      subst (Drafting kit setting c.take_row.new.cleaning c.take_row.new.drafts old (seen c.args.outputs.now) _)
-          (sym (joined-none sheets)) (drafted old (seen c.args.outputs.now) records sheets drafting),
-    ))
+    on-value c.take_row.result (rw fields at c.take_row.ensures.drafted) (λ drafted. record {
+      drafted = λ old records sheets drafting. (
+        no_sheets,
+        TakeRest-none g.W.Sink.takes g.C.Sink.takes c.args.outputs.now,
+        subst (Drafting kit setting c.take_row.new.cleaning c.take_row.new.drafts old (seen c.args.outputs.now) _)
+            (sym (joined-none sheets)) (drafted old (seen c.args.outputs.now) records sheets drafting),
+      );
+    })
