@@ -1,10 +1,16 @@
 -- Rows under columns, one column after another.
 use Rattle.std.proofs.Common.{◌≡◌, ◌∙◌, ◌<◌, ◌≤◌, ◌+◌, ℕ, Bool, true, false, List, [], ◌∷◌, ◌++◌, length, get_or, map}
 use Rattle.std.proofs.Common.{take, ap, sym, arith, cond}
-use Rattle.std.specs.Prelude.{filter, zip}
+use Rattle.std.specs.Prelude.{All, filter, slice_index_or, zip}
 use Rattle.std.proofs.lemmas.List.{append-nil, map-append, take_all, take_more}
 use Rattle.std.proofs.lemmas.List.Elements.{filter_more}
 use Rattle.std.proofs.lemmas.Slice.Zip.{get_or-zip, length-zip}
+
+-- a row of a grid has a cell for each column
+pub whole-row : {A B : Type 0} (columns : List A) (rows : List (List B)) (row : ℕ) {width : ℕ}
+    → All (λ one. length one ≡ width) rows → row < length rows → length columns ≡ width
+    → length (slice_index_or rows row []) ≡ length columns
+whole-row columns rows row full within same = full row [] within ∙ sym same
 
 module _ {A B : Type 0} (columns : List A) (texts : List B) (whole : length texts ≡ length columns) where
   -- past the last column there are all cells

@@ -8,6 +8,7 @@ use Rattle.std.proofs.lemmas.List.Elements.{All-map}
 use Rattle.std.proofs.lemmas.List.FromFn.{length-range_with_len}
 use Rattle.std.proofs.lemmas.Slice.Zip.{get_or-zip, length-zip, seconds-zip}
 use Rattle.desk_words.specs.declared.rows.session.SessionRow.{SessionRow}
+use Rattle.desk_valid.specs.Tallies.{typed_bytes}
 use Rattle.machine_core.specs.declared.column.Column.{Column}
 use Rattle.machine_core.specs.Clerk.Batch.{placed, row_session}
 use Rattle.machine_core.proofs.Widths.{length-typed_over}
@@ -35,13 +36,13 @@ placed-more session_of rows row none count within =
     ∙ placed-push so_far one count ∙ ap (λ place. placed count so_far ++ (place, one) ∷ []) (ap (λ n. count + n) long)
 
 -- the sessions without their places
-pub placed-sessions : (count : ℕ) (sessions : List SessionRow)
+placed-sessions : (count : ℕ) (sessions : List SessionRow)
     → map (λ (put : ℕ × SessionRow). put.1) (placed count sessions) ≡ sessions
 placed-sessions count sessions =
     seconds-zip (range_with_len count (length sessions)) sessions (sym (length-range_with_len count (length sessions)))
 
 -- there are as many
-pub length-placed : (count : ℕ) (sessions : List SessionRow) → length (placed count sessions) ≡ length sessions
+length-placed : (count : ℕ) (sessions : List SessionRow) → length (placed count sessions) ≡ length sessions
 length-placed count sessions = omega (
   arith,
   length-zip (range_with_len count (length sessions)) sessions,
@@ -58,20 +59,33 @@ placed-all P count sessions all place past inside =
     subst (λ (put : ℕ × SessionRow). P put.1) (sym (get_or-zip places sessions place past within_too within))
     (all place past.1 within)
 
--- a session of a row has a text for each attribute
-pub narrow-sessions : (edition width batch count : ℕ) (columns : List Column) (rows : List (List (List ℕ))) → width ≤ 48
-    → All (λ (put : ℕ × SessionRow). length put.1.typed ≤ 48)
-    (placed count (map (row_session edition width batch columns) rows))
-narrow-sessions edition width batch count columns rows narrow =
-    let Narrow : SessionRow → Type 0 = λ session. length session.typed ≤ 48 in
-    let session_of : List (List ℕ) → SessionRow = row_session edition width batch columns in
-    placed-all Narrow count (map session_of rows) (All-map Narrow session_of rows (λ index past inside. omega (
-      arith,
-      narrow,
-      length-typed_over (replicate width []) (map (λ cell. (cell.0.attribute, cell.1))
-          (zip columns (get_or rows index past))),
-      length-replicate {A = List ℕ} width [],
-    )))
+module _ (edition width batch count : ℕ) (columns : List Column) (rows : List (List (List ℕ)))
+    {puts : List (ℕ × SessionRow)} (are : puts ≡ placed count (map (row_session edition width batch columns) rows)) where
+  -- there are no more sessions than rows
+  pub few-sessions : length rows ≤ 20000 → length puts ≤ 20000
+  few-sessions few =
+      let session_of : List (List ℕ) → SessionRow = row_session edition width batch columns in
+      omega (arith, few, ap length are, length-placed count (map session_of rows), length-map rows session_of)
+
+  -- a session of a row has a text for each attribute
+  pub narrow-sessions : width ≤ 48 → All (λ (put : ℕ × SessionRow). length put.1.typed ≤ 48) puts
+  narrow-sessions narrow =
+      let Narrow : SessionRow → Type 0 = λ session. length session.typed ≤ 48 in
+      let session_of : List (List ℕ) → SessionRow = row_session edition width batch columns in
+      rw are (placed-all Narrow count (map session_of rows)
+      (All-map Narrow session_of rows (λ index past inside. omega (
+        arith,
+        narrow,
+        length-typed_over (replicate width []) (map (λ cell. (cell.0.attribute, cell.1))
+            (zip columns (get_or rows index past))),
+        length-replicate {A = List ℕ} width [],
+      ))))
+
+  -- the bytes that are typed in them
+  pub bytes-sessions : typed_bytes (map (λ (put : ℕ × SessionRow). put.1) puts)
+      ≡ typed_bytes (map (row_session edition width batch columns) rows)
+  bytes-sessions = ap (λ some. typed_bytes (map (λ (put : ℕ × SessionRow). put.1) some)) are
+      ∙ ap typed_bytes (placed-sessions count (map (row_session edition width batch columns) rows))
 
 -- cells under columns of attributes below a number are of such attributes
 pub cells-within : (width : ℕ) (columns : List Column) (texts : List (List ℕ)) → length texts ≡ length columns

@@ -8,8 +8,8 @@ ghost use Rattle.desk_words.specs.Tables.{published_of, rows_of};
 ghost use Rattle.desk_valid.specs.Tallies.{typed_bytes};
 ghost use Rattle.machine_workplace.specs.Ready.{IsReady};
 ghost use Rattle.machine_core.specs.Checked.{each_following};
-ghost use Rattle.machine_core.specs.Clerk.Batch.{another_column, batch_rows, enter_batch, is_confirmed, is_starred};
-ghost use Rattle.machine_core.specs.Clerk.Batch.{placed, row_session, word_of};
+ghost use Rattle.machine_core.specs.Clerk.Batch.{another_column, batch_of, batch_rows, enter_batch, is_confirmed};
+ghost use Rattle.machine_core.specs.Clerk.Batch.{is_starred, placed, row_session, word_of};
 ghost use Rattle.machine_core.specs.Outcomes.{Finds};
 ghost use Rattle.machine_core.specs.Own.{IsOwn};
 
@@ -133,6 +133,21 @@ fn batch_rows(alloc: Global, own: &Own, heading: &Heading, grid: &Grid) -> Resul
         own.sessions().len() as u64 + u64::from(count),
     )?;
     within(Which::Batches, own.batches().len() as u64 + 1)?;
+    batch_of(alloc, own, heading, grid)
+}
+
+/// The deed of these rows, of whose texts no more bytes come than may stand.
+fn batch_of(alloc: Global, own: &Own, heading: &Heading, grid: &Grid) -> Result<Deed, Stop>
+    requires sessions { length own.now.sessions < 2 ^ 31 }
+    requires batches { length own.now.batches < 2 ^ 31 }
+    requires columns { length heading.now.columns.now ≡ grid.now.columns }
+    requires within { All (λ column. column.attribute < heading.now.width) heading.now.columns.now }
+    requires narrow { heading.now.width ≤ MAX_ATTRIBUTES }
+    requires few { length grid.now.rows ≤ 20000 }
+    ensures { Finds result (batch_of own.now heading.now.edition (length grid.now.rows)
+        (map (row_session heading.now.edition heading.now.width (length own.now.batches + 1) heading.now.columns.now)
+        grid.now.rows)) }
+{
     let first = own.sessions().len() as u32;
     let target = own.batches().len() as u32;
     let sessions = row_sessions(alloc, heading, target + 1, grid, first)?;
@@ -143,7 +158,7 @@ fn batch_rows(alloc: Global, own: &Own, heading: &Heading, grid: &Grid) -> Resul
         batch: Some(BatchRow {
             edition: heading.edition,
             first: first + 1,
-            count,
+            count: grid.rows(),
         }),
         act: Act::Batched,
         target,

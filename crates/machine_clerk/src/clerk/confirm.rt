@@ -3,11 +3,11 @@ ghost use Rattle.std.specs.Prelude.{◌≡◌, ◌<◌, ◌≤◌, All, OnOk, If
 ghost use Rattle.desk_base.specs.declared.limits.TheConstants.{MAX_ATTRIBUTES};
 ghost use Rattle.desk_words.specs.Tables.{published_of, rows_of};
 ghost use Rattle.machine_workplace.specs.Ready.{IsReady};
-ghost use Rattle.machine_core.specs.Clerk.Confirm.{confirm, confirm_row, confirmed_at, with_cells};
+ghost use Rattle.machine_core.specs.Clerk.Confirm.{cells_confirmed, confirm, confirm_row, confirmed_at, with_cells};
 ghost use Rattle.machine_core.specs.Outcomes.{Finds};
 ghost use Rattle.machine_core.specs.Own.{IsOwn};
 
-use crate::clerk::bytes::{bytes_in, within_replaced};
+use crate::clerk::bytes::within_replaced;
 use crate::clerk::enter::type_over;
 use crate::clerk::opening::open_session;
 use desk_base::{List, NoMemory, Shared, Str, Text};
@@ -30,9 +30,7 @@ pub fn confirm_deed(
     ensures ready { IsReady (rows_of tables.now) workplace.new }
 {
     let session = confirm_row(tables, workplace, own, number, cells)?;
-    let old = &own.sessions()[number as usize - 1];
-    let gone = bytes_in(old.typed.as_slice());
-    within_replaced(own, gone, bytes_in(session.typed.as_slice()))?;
+    within_replaced(own, number, &session)?;
     Ok(Deed::puts(workplace.alloc, number - 1, session, Act::Changed)?)
 }
 
@@ -57,8 +55,23 @@ pub fn confirm_row(
         .names
         .attributes
         .as_slice();
-    let texts = typed_cells(workplace.alloc, attributes, cells)?;
-    Ok(with_cells(workplace.alloc, session, texts)?)
+    cells_confirmed(workplace.alloc, attributes, session, cells)
+}
+
+/// A session over these attributes with cells of theirs typed and confirmed.
+fn cells_confirmed(
+    alloc: Global,
+    attributes: &[Text],
+    session: &SessionRow,
+    cells: &[(Str, Str)],
+) -> Result<SessionRow, Stop>
+    requires typed { length session.now.typed ≡ length attributes.now }
+    requires confirmed { length session.now.confirmed ≡ length attributes.now }
+    ensures finds { Finds result (cells_confirmed attributes.now session.now cells.now) }
+    ensures whole { IfOk result (λ after. length after.typed ≡ length session.now.typed) }
+{
+    let texts = typed_cells(alloc, attributes, cells)?;
+    Ok(with_cells(alloc, session, texts)?)
 }
 
 /// The session with these cells typed and confirmed.

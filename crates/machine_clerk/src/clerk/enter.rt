@@ -1,8 +1,9 @@
 //! Enter: a session on the newest version of an edition. Cells that are not given are blank.
-ghost use Rattle.std.specs.Prelude.{◌≡◌, ◌<◌, ◌≤◌, All, IfOk, [], length, replicate};
+ghost use Rattle.std.specs.Prelude.{◌≡◌, ◌<◌, ◌≤◌, ◌^◌, All, IfOk, [], length, replicate};
+ghost use Rattle.desk_base.specs.declared.limits.TheConstants.{MAX_ATTRIBUTES};
 ghost use Rattle.desk_words.specs.Tables.{published_of, rows_of};
 ghost use Rattle.machine_workplace.specs.Ready.{IsReady};
-ghost use Rattle.machine_core.specs.Clerk.Enter.{enter, enter_row, new_session, typed_over};
+ghost use Rattle.machine_core.specs.Clerk.Enter.{enter, enter_row, entered, new_session, typed_over};
 ghost use Rattle.machine_core.specs.Outcomes.{Finds};
 ghost use Rattle.machine_core.specs.Own.{IsOwn};
 
@@ -52,12 +53,28 @@ fn enter_row(
 {
     let place = open_edition(tables, workplace, edition)?;
     let attributes = shelved(&workplace.shelf, place).names.attributes.as_slice();
-    let texts = typed_cells(workplace.alloc, attributes, cells)?;
-    let places = attributes_of(workplace.alloc, attributes, confirmed)?;
+    entered(workplace.alloc, own, place, attributes, cells, confirmed)
+}
+
+/// The new session on an edition of these attributes.
+fn entered(
+    alloc: Global,
+    own: &Own,
+    edition: u32,
+    attributes: &[Text],
+    cells: &[(Str, Str)],
+    confirmed: &[Str],
+) -> Result<SessionRow, Stop>
+    requires sessions { length own.now.sessions < 2 ^ 31 }
+    requires attributes { length attributes.now ≤ MAX_ATTRIBUTES }
+    ensures { Finds result (entered own.now edition attributes.now cells.now confirmed.now) }
+{
+    let texts = typed_cells(alloc, attributes, cells)?;
+    let places = attributes_of(alloc, attributes, confirmed)?;
     within(Which::ActiveSessions, own.active() + 1)?;
     within(Which::Sessions, own.sessions().len() as u64 + 1)?;
     let width = attributes.len() as u16;
-    let session = new_session(workplace.alloc, place, width, texts, places.as_slice(), 0)?;
+    let session = new_session(alloc, edition, width, texts, places.as_slice(), 0)?;
     within_bytes(own, bytes_in(session.typed.as_slice()))?;
     Ok(session)
 }

@@ -1,8 +1,7 @@
-use Rattle.std.proofs.Common.{ap, arith, length}
+use Rattle.std.proofs.Common.{arith}
 use Rattle.desk_words.specs.Tables.{published_of, rows_of}
-use Rattle.machine_core.specs.Shelves.{bound_on}
 use Rattle.machine_core.proofs.Stopping.{EndsWith-stopped}
-use Rattle.machine_core.proofs.Widths.{few-attributes}
+use Rattle.machine_clerk.proofs.FewTexts.{few-words}
 use Rattle.machine_clerk.proofs.clerk.batch.batch_deed.Goals as goal
 
 pub returns-in_err-sheet-clause-finds : goal.returns-in_err-sheet-clause-finds
@@ -13,10 +12,13 @@ returns-in_err-sheet-clause-finds c =
 
 pub columns_of-requires : goal.columns_of-requires
 columns_of-requires c =
-    let bound = c.shelved.ensures.bound (published_of (rows_of c.args.tables.now)) c.in_ok-place.ensures.ready.held in
-    let few = few-attributes (rows_of c.args.tables.now) c.in_ok-place.place (bound_on c.shelved.result.now)
-    c.requires.ready.valid bound in
-    omega (arith, few, ap length c.as_slice-attributes.ensures)
+    let rows = rows_of c.args.tables.now in
+    let bound = c.shelved.ensures.bound (published_of rows) c.in_ok-place.ensures.ready.held in
+    omega (
+      arith,
+      few-words rows c.in_ok-place.place c.shelved.result.now c.requires.ready.valid bound
+          c.as_slice-attributes.ensures,
+    )
 
 pub returns-in_err-columns-clause-finds : goal.returns-in_err-columns-clause-finds
 returns-in_err-columns-clause-finds c =
@@ -28,17 +30,19 @@ returns-in_err-columns-clause-finds c =
 
 pub overflow_cast-heading : goal.overflow_cast-heading
 overflow_cast-heading c =
-    let bound = c.shelved.ensures.bound (published_of (rows_of c.args.tables.now)) c.in_ok-place.ensures.ready.held in
-    let few = few-attributes (rows_of c.args.tables.now) c.in_ok-place.place (bound_on c.shelved.result.now)
-    c.requires.ready.valid bound in
-    omega (arith, few, ap length c.as_slice-attributes.ensures)
+    let rows = rows_of c.args.tables.now in
+    let bound = c.shelved.ensures.bound (published_of rows) c.in_ok-place.ensures.ready.held in
+    omega (
+      arith,
+      few-words rows c.in_ok-place.place c.shelved.result.now c.requires.ready.valid bound
+          c.as_slice-attributes.ensures,
+    )
 
 pub batch_rows-requires-clause-narrow : goal.batch_rows-requires-clause-narrow
 batch_rows-requires-clause-narrow c =
-    let bound = c.shelved.ensures.bound (published_of (rows_of c.args.tables.now)) c.in_ok-place.ensures.ready.held in
-    let few = few-attributes (rows_of c.args.tables.now) c.in_ok-place.place (bound_on c.shelved.result.now)
-    c.requires.ready.valid bound in
-    omega (arith, few, ap length c.as_slice-attributes.ensures)
+    let rows = rows_of c.args.tables.now in
+    let bound = c.shelved.ensures.bound (published_of rows) c.in_ok-place.ensures.ready.held in
+    few-words rows c.in_ok-place.place c.shelved.result.now c.requires.ready.valid bound c.as_slice-attributes.ensures
 
 pub returns-clause-finds : goal.returns-clause-finds
 returns-clause-finds c =

@@ -1,7 +1,7 @@
 use Rattle.std.proofs.Common.{◌≡◌, ◌∙◌, ◌∷◌, ◌++◌, ◌<◌, ℕ, List, [], ap, arith, false, length, map, refl}
-use Rattle.std.proofs.Common.{slice_index_or, sym}
+use Rattle.std.proofs.Common.{slice_index_or}
 use Rattle.machine_core.specs.declared.column.Column.{Column}
-use Rattle.machine_clerk.proofs.Columns.{map-cells_more, zip-all}
+use Rattle.machine_clerk.proofs.Columns.{map-cells_more, whole-row, zip-all}
 use Rattle.machine_clerk.proofs.clerk.batch.cells_of.Goals as goal
 
 -- a cell with its attribute
@@ -11,8 +11,8 @@ attributed cell = (cell.0.attribute, cell.1)
 pub columns-preserved : goal.columns-preserved
 columns-preserved c =
     let texts = slice_index_or c.args.grid.now.rows c.args.row [] in
-    let whole : length texts ≡ length c.args.columns.now =
-    c.requires.full c.args.row [] c.requires.row ∙ sym c.requires.columns in
+    let whole = whole-row c.args.columns.now c.args.grid.now.rows c.args.row c.requires.full c.requires.row
+    c.requires.columns in
     let none : Column = record { attribute = 0; confirms = false } in
     let column : Column = slice_index_or c.args.columns.now c.columns.place none in
     let attribute : c.from-in-columns.result ≡ column.attribute = c.from-in-columns.ensures
@@ -26,8 +26,6 @@ columns-preserved c =
 
 pub returns : goal.returns
 returns c =
-    let texts = slice_index_or c.args.grid.now.rows c.args.row [] in
-    let whole : length texts ≡ length c.args.columns.now =
-    c.requires.full c.args.row [] c.requires.row ∙ sym c.requires.columns in
-    c.columns.invariant ∙ ap (map attributed) (zip-all c.args.columns.now texts whole c.columns.place
-    (omega (arith, c.columns-test.false, c.columns-place-end.ensures, c.requires.columns)))
+    c.columns.invariant ∙ ap (map attributed) (zip-all c.args.columns.now (slice_index_or c.args.grid.now.rows c.args.row [])
+    (whole-row c.args.columns.now c.args.grid.now.rows c.args.row c.requires.full c.requires.row c.requires.columns)
+    c.columns.place (omega (arith, c.columns-test.false, c.columns-place-end.ensures, c.requires.columns)))

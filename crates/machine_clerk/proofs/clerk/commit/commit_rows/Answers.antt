@@ -2,6 +2,7 @@ use Rattle.std.proofs.Common.{◌∙◌, Ok, ap, arith, length, refl, sym}
 use Rattle.desk_words.specs.declared.rows.session.Stage.TheVariants.{Committed}
 use Rattle.desk_words.specs.Tables.{published_of, rows_of}
 use Rattle.machine_core.specs.Shelves.{bound_on}
+use Rattle.machine_core.proofs.Rooms.{IsFullRoom-for}
 use Rattle.machine_core.proofs.Stopping.{EndsWith-stopped}
 use Rattle.machine_core.proofs.Widths.{confirmed-width, kit-width, named-kit, typed-width}
 use Rattle.machine_clerk.proofs.Endings.{commit-recorded, commit-unended}
@@ -30,12 +31,8 @@ pub fixed_end-requires-clause-room : goal.fixed_end-requires-clause-room
 fixed_end-requires-clause-room c =
     let rows = rows_of c.args.tables.now in
     let bound = c.shelved-shelved.ensures.bound (published_of rows) c.in_ok-session.ensures.ready.held in
-    let named = named-kit rows c.in_ok-session.session.now.edition (bound_on c.shelved-shelved.result.now)
-    c.requires.ready.valid bound in
-    record {
-      attributes = omega (arith, named.valid.narrow, c.requires.ready.room.attributes);
-      rules = omega (arith, named.valid.few_rules, c.requires.ready.room.rules);
-    }
+    IsFullRoom-for c.in_ok-session.ensures.ready.room (named-kit rows c.in_ok-session.session.now.edition
+    (bound_on c.shelved-shelved.result.now) c.requires.ready.valid bound).valid
 
 pub returns-in_err-end-clause-answers : goal.returns-in_err-end-clause-answers
 returns-in_err-end-clause-answers c =
