@@ -108,11 +108,6 @@ slice_get-put {T} items place item within = elim (cases_Bool (place == length it
       (slice_get-set_same items place item (omega (arith, within, eqb-false place (length items) inside)))
 ]
 
--- what is read at a place stands there
-pub stands-read : {T : Type 0} (items : List T) (place : ℕ) (item : T) → place < length items
-    → item ≡ get_or items place item → slice_get items place ≡ Some item
-stands-read items place item within is = slice_get-get_or items place item within ∙ ap Some (sym is)
-
 module _ (published : Published) (own : Own)
     (are : AreOwnRows published own.sessions own.records own.batches) where
   -- a clerk's sessions are on editions

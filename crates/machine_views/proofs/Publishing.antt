@@ -10,24 +10,26 @@ use Rattle.desk_base.specs.Grid.{GridRows, cell_text}
 use Rattle.desk_words.specs.declared.published.RegionSheet.{RegionSheet}
 use Rattle.desk_words.specs.declared.refusal.Kind.TheVariants as kind
 use Rattle.desk_words.specs.declared.refusal.Refusal.TheVariants.{NoSuch}
-use Rattle.desk_words.specs.Tables.{Published}
+use Rattle.desk_words.specs.Tables.{Published, Rows, published_of}
 use Rattle.desk_valid.specs.declared.bound.Bound.{Bound}
 use Rattle.desk_valid.specs.Bindings.{bound_at}
 use Rattle.desk_valid.specs.Readings.{all_of, master_at}
+use Rattle.desk_valid.specs.Valid.{AreValid}
 use Rattle.desk_valid.proofs.Named.{all_of-push}
 use Rattle.fix_model.specs.declared.kit.Kit.{Kit}
 use Rattle.fix_model.specs.declared.region.Region.{Region}
 use Rattle.fix_model.specs.declared.region.RowVerdict.{RowVerdict}
-use Rattle.fix_model.specs.Regions.{row_state}
+use Rattle.fix_model.specs.Regions.{IsRegionOf, row_state}
 use Rattle.master_rows.specs.declared.master.Master.{Master}
 use Rattle.machine_core.specs.Checked.{Answer, answer_for, done, Gives, IsFound, some_or}
-use Rattle.machine_core.specs.DeskLook.Region.{region_shown, row_answers, row_verdict}
+use Rattle.machine_core.specs.DeskLook.Region.{region_shown, region_with, row_answers, row_verdict}
 use Rattle.machine_core.specs.DeskLook.Row.{row_shown}
 use Rattle.machine_core.specs.Finding.{edition_named, master_named, numbered}
 use Rattle.machine_core.specs.Look.Suggest.{regions_of}
-use Rattle.machine_core.specs.Views.{edition_at, name_at}
 use Rattle.machine_core.proofs.Chains.{Gives-bind}
+use Rattle.machine_core.proofs.Widths.{kit-width}
 use Rattle.machine_views.specs.Counts.{AreVerdictsOn}
+use Rattle.machine_views.proofs.Advising.{regions-good}
 use Rattle.machine_views.proofs.Counted.{each-push}
 
 -- the next of the rows at some places
@@ -83,7 +85,7 @@ numbered-there items number past some within =
     rw (ne_eqb number 0 some) (slice_get-get_or items (number - 1) past within)
 
 -- what holds of all items holds of that of a number
-pub All-numbered : {T : Type 0} (P : T → Type 0) (items : List T) (number : ℕ) (item : T) → All P items
+All-numbered : {T : Type 0} (P : T → Type 0) (items : List T) (number : ℕ) (item : T) → All P items
     → numbered items number ≡ Some item → P item
 All-numbered P items number item all is = elim (cases_Bool (number == 0)) [
   | inl none ↦ absurd (let nothing = rw none at is in cc)
@@ -96,6 +98,20 @@ All-numbered P items number item all is = elim (cases_Bool (number == 0)) [
         | inr (past, none) ↦ absurd (let nothing = sym none ∙ there in cc)
       ]
 ]
+
+module _ (rows : Rows) (valid : AreValid rows) (place : ℕ) (bound : Bound)
+    (binds : bound_at (published_of rows) place ≡ Some bound) (number : ℕ) (region : Region)
+    (there : numbered (regions_of rows.regions place) number ≡ Some region) where
+  -- the region of a number is one of its edition's kit
+  pub region-good : IsRegionOf bound.kit region
+  region-good = All-numbered (IsRegionOf bound.kit) (regions_of rows.regions place) number region
+      (regions-good rows valid place bound binds) there
+
+  -- and its attributes have names
+  pub region-named : All (λ attribute. attribute < length bound.names.attributes) region.attrs
+  region-named =
+      let Within : ℕ → Type 0 = λ width. All (λ attribute. attribute < width) region.attrs in
+      subst Within (sym (kit-width rows place bound valid binds)) region-good.attributes.attributes_within
 
 -- ---- what is found
 
@@ -116,25 +132,13 @@ pub region-found : (published : Published) (name : List ℕ) (version number pla
     → IsFound (some_or (edition_named published.editions name version) (NoSuch kind.Edition)) place
     → numbered (regions_of published.regions place) number ≡ Some region → bound_at published place ≡ Some bound
     → AreVerdictsOn bound.kit region.attrs region.rows sheet.verdicts
-    → sheet ≡ record {
-      edition = (edition_at published place).name;
-      version = version;
-      region = number;
-      attributes = map (name_at bound.names.attributes) region.attrs;
-      rows = region.rows;
-      verdicts = sheet.verdicts;
-    }
+    → sheet ≡ region_with published place version number bound region sheet.verdicts
     → Gives (region_shown published name version number) (Ok sheet)
 region-found published name version number place region bound sheet found there binds are is =
-    let told : List Answer → RegionSheet = λ answers. record {
-      edition = (edition_at published place).name;
-      version = version;
-      region = number;
-      attributes = map (name_at bound.names.attributes) region.attrs;
-      rows = region.rows;
-      verdicts = map (λ answer. row_verdict answer.verdict) answers;
-    } in
-    let whole : sheet ≡ told are.all = is ∙ (λ i. record (told are.all) { verdicts = are.named i }) in
+    let with_verdicts = region_with published place version number bound region in
+    let told : List Answer → RegionSheet = λ answers. with_verdicts (map (λ answer. row_verdict answer.verdict) answers)
+    in
+    let whole : sheet ≡ told are.all = is ∙ ap with_verdicts are.named in
     rw (found, there, binds) (Gives-bind (row_answers bound.kit region) (λ answers. done (told answers)) are.all
     (Ok sheet)
     are.given (ap Ok whole))

@@ -13,7 +13,7 @@ ghost use Rattle.machine_core.specs.Kept.{kept_made, region_made};
 ghost use Rattle.machine_views.specs.Counts.{AreAtMost, AreRowVerdicts};
 
 use crate::counting::Verdicts;
-use desk_base::{Duplicate, NoMemory, Steps, Text};
+use desk_base::{Duplicate, List, NoMemory, Steps, Text};
 use desk_words::{Act, EditionRow, Made, MasterRow, RegionRow, RulebookRow, SchemaRow, Tables};
 use fix_engine::{Verdict, Work, decide};
 use fix_model::{Book, Region, row_state};
@@ -126,26 +126,27 @@ fn row_verdicts(
 {
     let mut verdicts = Verdicts::none();
     'rows: for texts in region.rows.as_slice() {
-        let verdict = row_verdict(alloc, work, book, region.attrs.as_slice(), texts.as_slice())?;
+        let verdict = row_verdict(alloc, work, book, region, texts)?;
         verdicts = verdicts.with(verdict);
     }
     Ok(verdicts)
 }
 
-/// The verdict on a row of texts for these attributes. The runs are left in the work.
+/// The verdict on a row of a region. The runs are left in the work.
 pub(crate) fn row_verdict(
     alloc: Global,
     work: &mut Work,
     book: &SortedBook,
-    attributes: &[u16],
-    texts: &[Text],
+    region: &Region,
+    texts: &List<Text>,
 ) -> Result<Verdict, NoMemory>
     requires room { IsRoomFor work.old book.now }
-    requires whole { length texts.now ≡ length attributes.now }
-    ensures verdict { IfOk result (λ verdict. IsAnswer book.now (row_state book.now.width attributes.now texts.now)
+    requires whole { length texts.now ≡ length region.now.attrs }
+    ensures verdict { IfOk result (λ verdict. IsAnswer book.now (row_state book.now.width region.now.attrs texts.now)
         work.new.first work.new.second verdict) }
     ensures size { KeepsSize work.old work.new }
 {
+    let (attributes, texts) = (region.attrs.as_slice(), texts.as_slice());
     let mut state = row_state(alloc, Book::<()>::width(book), attributes, texts)?;
     Ok(decide(work, book, &mut state, &mut Steps::new(())))
 }

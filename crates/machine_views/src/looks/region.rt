@@ -85,7 +85,7 @@ fn verdicts_on(
 {
     let mut verdicts = List::new(alloc);
     'rows: for texts in region.rows.as_slice() {
-        let verdict = row_verdict(alloc, work, book, region.attrs.as_slice(), texts.as_slice())?;
+        let verdict = row_verdict(alloc, work, book, region, texts)?;
         verdicts.push(named_verdict(verdict))?;
     }
     Ok(verdicts)

@@ -8,7 +8,7 @@ use Rattle.desk_words.specs.Tables.{published_of, rows_of}
 use Rattle.desk_valid.specs.Rows.Clerk.{HasTarget}
 use Rattle.machine_core.specs.Checked.{Gives}
 use Rattle.machine_core.specs.Kept.{kept_made, region_made}
-use Rattle.machine_views.proofs.Keeping.{stands-read}
+use Rattle.machine_core.proofs.ReadRows.{row-stands}
 use Rattle.machine_views.proofs.Making.{clerk-given, edition-given, kept-told, master-given, region-kept}
 use Rattle.machine_views.proofs.Making.{rulebook-given, schema-given}
 use Rattle.machine_views.proofs.made.kept_made.Goals as goal
@@ -20,8 +20,7 @@ returns-in_ok-copy-in-Clerk-clause-made c =
     let name = c.in_ok-copy-in-Clerk.field-0 in
     let Target : Act → Type 0 = λ what. HasTarget rows 0 what c.args.target in
     let within = (subst Target c.in-Clerk.is c.requires.target).1 in
-    let stands = stands-read rows.clerks c.args.target row within
-    (rw c.as_slice.ensures at c.index-as_slice-place.is) in
+    let stands = row-stands c.as_slice.ensures within c.index-as_slice-place.is in
     let Told : Act → Type 0 = λ what. Gives (kept_made rows what c.args.target) (Ok (made.Clerk name)) in
     subst Told (sym c.in-Clerk.is)
     (clerk-given rows c.args.target name row stands
@@ -33,8 +32,7 @@ returns-in-Schema-clause-made c =
     let row = c.index-as_slice-place-in-Schema.result in
     let Target : Act → Type 0 = λ what. HasTarget rows 0 what c.args.target in
     let within : c.args.target < length rows.schemas = subst Target c.in-Schema.is c.requires.target in
-    let stands = stands-read rows.schemas c.args.target row within
-    (rw c.as_slice-in-Schema.ensures at c.index-as_slice-place-in-Schema.is) in
+    let stands = row-stands c.as_slice-in-Schema.ensures within c.index-as_slice-place-in-Schema.is in
     kept-told rows c.args.target c.args.act act.Schema (made.Schema row.name row.version) c.schema_made.result
     c.in-Schema.is (schema-given rows c.args.target row.name row stands refl) c.schema_made.ensures
 
@@ -44,8 +42,7 @@ returns-in-Master-clause-made c =
     let row = c.index-as_slice-place-in-Master.result in
     let Target : Act → Type 0 = λ what. HasTarget rows 0 what c.args.target in
     let within : c.args.target < length rows.masters = subst Target c.in-Master.is c.requires.target in
-    let stands = stands-read rows.masters c.args.target row within
-    (rw c.as_slice-in-Master.ensures at c.index-as_slice-place-in-Master.is) in
+    let stands = row-stands c.as_slice-in-Master.ensures within c.index-as_slice-place-in-Master.is in
     kept-told rows c.args.target c.args.act act.Master (made.Master row.name row.version) c.master_made.result
     c.in-Master.is (master-given rows c.args.target row.name row stands refl) c.master_made.ensures
 
@@ -55,8 +52,7 @@ returns-in-Rulebook-clause-made c =
     let row = c.index-as_slice-place-in-Rulebook.result in
     let Target : Act → Type 0 = λ what. HasTarget rows 0 what c.args.target in
     let within : c.args.target < length rows.rulebooks = subst Target c.in-Rulebook.is c.requires.target in
-    let stands = stands-read rows.rulebooks c.args.target row within
-    (rw c.as_slice-in-Rulebook.ensures at c.index-as_slice-place-in-Rulebook.is) in
+    let stands = row-stands c.as_slice-in-Rulebook.ensures within c.index-as_slice-place-in-Rulebook.is in
     kept-told rows c.args.target c.args.act act.Rulebook (made.Rulebook row.name row.version) c.rulebook_made.result
     c.in-Rulebook.is (rulebook-given rows c.args.target row.name row stands refl) c.rulebook_made.ensures
 
@@ -66,8 +62,7 @@ returns-in-Edition-clause-made c =
     let row = c.index-as_slice-place-in-Edition.result in
     let Target : Act → Type 0 = λ what. HasTarget rows 0 what c.args.target in
     let within : c.args.target < length rows.editions = subst Target c.in-Edition.is c.requires.target in
-    let stands = stands-read rows.editions c.args.target row within
-    (rw c.as_slice-in-Edition.ensures at c.index-as_slice-place-in-Edition.is) in
+    let stands = row-stands c.as_slice-in-Edition.ensures within c.index-as_slice-place-in-Edition.is in
     kept-told rows c.args.target c.args.act act.Edition (made.Edition row.name row.version) c.edition_made.result
     c.in-Edition.is (edition-given rows c.args.target row.name row stands refl) c.edition_made.ensures
 
@@ -77,8 +72,8 @@ region_made-requires-clause-region c =
     let row = c.index-as_slice-place-in-Region.result in
     let Target : Act → Type 0 = λ what. HasTarget rows 0 what c.args.target in
     let within : c.args.target < length rows.regions = subst Target c.in-Region.is c.requires.target in
-    c.requires.ready.valid.regions c.args.target row (stands-read rows.regions c.args.target row within
-    (rw c.as_slice-in-Region.ensures at c.index-as_slice-place-in-Region.is))
+    c.requires.ready.valid.regions c.args.target row
+    (row-stands c.as_slice-in-Region.ensures within c.index-as_slice-place-in-Region.is)
 
 pub returns-in-Region-clause-made : goal.returns-in-Region-clause-made
 returns-in-Region-clause-made c =
@@ -86,8 +81,7 @@ returns-in-Region-clause-made c =
     let row = c.index-as_slice-place-in-Region.result in
     let Target : Act → Type 0 = λ what. HasTarget rows 0 what c.args.target in
     let within : c.args.target < length rows.regions = subst Target c.in-Region.is c.requires.target in
-    let stands = stands-read rows.regions c.args.target row within
-    (rw c.as_slice-in-Region.ensures at c.index-as_slice-place-in-Region.is) in
+    let stands = row-stands c.as_slice-in-Region.ensures within c.index-as_slice-place-in-Region.is in
     IfOk-weaker c.region_made.result (λ told. Gives (region_made (published_of rows) c.args.target row) (Ok told))
     (λ told. Gives (kept_made rows c.args.act c.args.target) (Ok told))
     (λ told gives. (let Told : Act → Type 0 = λ what. Gives (kept_made rows what c.args.target) (Ok told) in

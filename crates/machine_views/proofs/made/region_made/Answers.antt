@@ -1,7 +1,8 @@
-use Rattle.std.proofs.Common.{◌≡◌, arith, take}
+use Rattle.std.proofs.Common.{◌≡◌, take}
 use Rattle.desk_words.specs.Tables.{published_of, rows_of}
 use Rattle.machine_core.specs.Shelves.{bound_on}
 use Rattle.machine_core.specs.Steward.AddRegion.{region_count}
+use Rattle.machine_core.proofs.Rooms.{IsFullRoom-for}
 use Rattle.machine_views.proofs.Books.{IsNamedBook-at}
 use Rattle.machine_views.proofs.Making.{region-given}
 use Rattle.machine_views.proofs.made.region_made.Goals as goal
@@ -9,12 +10,8 @@ use Rattle.machine_views.proofs.made.region_made.Goals as goal
 pub row_verdicts-requires-clause-room : goal.row_verdicts-requires-clause-room
 row_verdicts-requires-clause-room c =
     let rows = rows_of c.args.tables.now in
-    let book = IsNamedBook-at rows c.args.row.now.edition c.shelved.result.now c.requires.ready.valid
-    (c.shelved.ensures.bound (published_of rows) c.in_ok-hold.ensures.ready.held) in
-    record {
-      attributes = omega (arith, book.named.valid.narrow, c.in_ok-hold.ensures.ready.room.attributes);
-      rules = omega (arith, book.named.valid.few_rules, c.in_ok-hold.ensures.ready.room.rules);
-    }
+    IsFullRoom-for c.in_ok-hold.ensures.ready.room (IsNamedBook-at rows c.args.row.now.edition c.shelved.result.now
+    c.requires.ready.valid (c.shelved.ensures.bound (published_of rows) c.in_ok-hold.ensures.ready.held)).named.valid
 
 pub returns-clause-made : goal.returns-clause-made
 returns-clause-made c =

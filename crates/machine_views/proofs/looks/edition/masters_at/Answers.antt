@@ -1,7 +1,7 @@
-use Rattle.std.proofs.Common.{◌<◌, ◌∙◌, ◌++◌, [], ◌∷◌, List, ℕ, arith, length, sym}
+use Rattle.std.proofs.Common.{◌<◌, ◌∙◌, ◌++◌, [], ◌∷◌, List, ℕ, arith, length, refl, sym}
 use Rattle.std.proofs.lemmas.List.{map-append}
 use Rattle.desk_words.specs.declared.rows.master.MasterRow.{MasterRow}
-use Rattle.machine_views.proofs.Keeping.{stands-read}
+use Rattle.machine_core.proofs.ReadRows.{row-stands}
 use Rattle.machine_views.proofs.Publishing.{standing-more}
 use Rattle.machine_views.proofs.looks.edition.masters_at.Goals as goal
 
@@ -13,7 +13,7 @@ places-preserved c =
     let row = c.index-masters-place.result in
     let count = c.places.place-index in
     let inside : count < length places = omega (arith, c.places-test.true) in
-    let stands = stands-read masters _ row (c.requires count 0 inside) c.index-masters-place.is in
+    let stands = row-stands refl (c.requires count 0 inside) c.index-masters-place.is in
     let image : MasterRow → List ℕ × ℕ = λ one. (one.name, one.version) in (
       rows ++ row ∷ [],
       standing-more masters places count 0 row rows inside stands are,

@@ -9,7 +9,7 @@ use Rattle.fix_model.specs.Run.{end_of}
 use Rattle.fix_model.specs.States.{cell_at, fixed_by}
 use Rattle.fix_engine.specs.Verdicts.{IsAnswer}
 use Rattle.fix_explain.specs.Reasons.{IsFixed}
-use Rattle.machine_core.specs.Answers.{state_of}
+use Rattle.machine_core.specs.Answers.{shown_state, state_of}
 use Rattle.machine_core.specs.Checked.{Answer, Checked, ◌>>◌, IsFound}
 use Rattle.machine_core.specs.Clerk.Commit.{not_in_conflict}
 use Rattle.machine_core.specs.Look.Explain.{explained_on, explanation_of, fixed_at}
@@ -23,13 +23,6 @@ use Rattle.machine_core.specs.Shelves.{bound_on}
 use Rattle.machine_views.specs.Answered.{answer_in}
 use Rattle.machine_views.proofs.Told.{end-shown, first-run}
 use Rattle.machine_views.proofs.looks.explaining.explained_on.Goals as goal
-
--- an attribute that passes the test is fixed
-fixed-is : (state : State) (attribute : ℕ) (word : List ℕ) → IsFound (fixed_at state attribute word) tt
-    → IsFixed state attribute
-fixed-is state attribute word is =
-    unless-ok (is_some (fixed_by (cell_at state attribute))) (NotFixed word) tt
-    (Answers-found (fixed_at state attribute word) (Ok tt) is)
 
 module _ (bound : Bound) (session : SessionRow) (word : List ℕ) (attribute : ℕ) (answer : Answer)
     (found : IsFound (attribute_of bound.names.attributes word) attribute)
@@ -57,23 +50,36 @@ module _ (bound : Bound) (session : SessionRow) (word : List ℕ) (attribute : �
       >> explanation_of bound (state_of session) answer.first attribute) stop result stops
       (Answers-found (not_in_conflict answer.verdict) (Err stop) finds))
 
-  -- or where the attribute is not fixed
-  explained-unfixed : (stop : Stop) (result : Result Explained Stop) → IsErrAnd result (λ one. one ≡ stop)
-      → IsFound (not_in_conflict answer.verdict) tt
-      → Finds {A = Unit {0}} (Err stop) (fixed_at (end_of bound.kit (state_of session) answer.first) attribute word)
-      → Answers result (explained_on bound session word)
-  explained-unfixed stop result stops fix finds =
-      let end : State = end_of bound.kit (state_of session) answer.first in
-      explained-answered result (rw fix (Answers-stopped (fixed_at end attribute word)
-      (λ _. explanation_of bound (state_of session) answer.first attribute) stop result stops
-      (Answers-found (fixed_at end attribute word) (Err stop) finds)))
+  module _ (shown : State) (shows : shown ≡ shown_state bound (state_of session) answer answer.verdict)
+      (fix : IsFound (not_in_conflict answer.verdict) tt) where
+    -- what is shown of a fix is its end
+    is-end : shown ≡ end_of bound.kit (state_of session) answer.first
+    is-end = shows ∙ end-shown bound (state_of session) answer answer.verdict fix
 
-  -- and is else what the run says
-  explained-fixed : (result : Result Explained Stop) → IsFound (not_in_conflict answer.verdict) tt
-      → IsFound (fixed_at (end_of bound.kit (state_of session) answer.first) attribute word) tt
-      → Answers result (explanation_of bound (state_of session) answer.first attribute)
-      → Answers result (explained_on bound session word)
-  explained-fixed result fix fixed answers = explained-answered result (rw (fix, fixed) answers)
+    -- it stops where the attribute is not fixed
+    explained-unfixed : (stop : Stop) (result : Result Explained Stop) → IsErrAnd result (λ one. one ≡ stop)
+        → Finds {A = Unit {0}} (Err stop) (fixed_at shown attribute word)
+        → Answers result (explained_on bound session word)
+    explained-unfixed stop result stops finds =
+        let end : State = end_of bound.kit (state_of session) answer.first in
+        let ends = subst (λ (one : State). Finds {A = Unit {0}} (Err stop) (fixed_at one attribute word)) is-end finds in
+        explained-answered result (rw fix (Answers-stopped (fixed_at end attribute word)
+        (λ _. explanation_of bound (state_of session) answer.first attribute) stop result stops
+        (Answers-found (fixed_at end attribute word) (Err stop) ends)))
+
+    module _ (fixed : IsFound (fixed_at shown attribute word) tt) where
+      -- an attribute that passes the test is fixed
+      end-fixed : IsFixed (end_of bound.kit (state_of session) answer.first) attribute
+      end-fixed = subst (λ (one : State). IsFixed one attribute) is-end
+          (unless-ok (is_some (fixed_by (cell_at shown attribute))) (NotFixed word) tt
+          (Answers-found (fixed_at shown attribute word) (Ok tt) fixed))
+
+      -- and is explained by what the run says
+      explained-fixed : (result : Result Explained Stop)
+          → Answers result (explanation_of bound (state_of session) answer.first attribute)
+          → Answers result (explained_on bound session word)
+      explained-fixed result answers = explained-answered result
+          (rw (fix, subst (λ (one : State). IsFound (fixed_at one attribute word) tt) is-end fixed) answers)
 
 pub returns-in_err-not_in_conflict-clause-explained : goal.returns-in_err-not_in_conflict-clause-explained
 returns-in_err-not_in_conflict-clause-explained c =
@@ -85,34 +91,20 @@ returns-in_err-not_in_conflict-clause-explained c =
 
 pub returns-in_err-fixed_at-clause-explained : goal.returns-in_err-fixed_at-clause-explained
 returns-in_err-fixed_at-clause-explained c =
-    let bound = bound_on c.args.shelved.now in
-    let state = state_of c.args.session.now in
-    let verdict = c.in_ok-answered.answered.verdict in
-    let answer = answer_in c.answer_to.new.work verdict in
-    let attribute = c.in_ok-attribute.field-0 in
-    let word = c.args.word.now in
-    let stop = c.in_err-fixed_at.field-0.0 in
     let found = rw c.as_slice.ensures at c.in_ok-attribute.ensures.finds in
-    let end = c.in_ok-answered.ensures.answered.shown
-    ∙ end-shown bound state answer verdict c.in_ok-not_in_conflict.ensures.finds in
-    explained-unfixed bound c.args.session.now word attribute answer found c.in_ok-answered.ensures.answered.answer stop
-    c.from_residual-in_err-fixed_at.result c.from_residual-in_err-fixed_at.ensures.1
-    c.in_ok-not_in_conflict.ensures.finds
-    (subst (λ (one : State). Finds {A = Unit {0}} (Err stop) (fixed_at one attribute word)) end
-    c.in_err-fixed_at.ensures)
+    explained-unfixed (bound_on c.args.shelved.now) c.args.session.now c.args.word.now c.in_ok-attribute.field-0
+    (answer_in c.answer_to.new.work c.in_ok-answered.answered.verdict) found c.in_ok-answered.ensures.answered.answer
+    c.in_ok-answered.answered.shown c.in_ok-answered.ensures.answered.shown c.in_ok-not_in_conflict.ensures.finds
+    c.in_err-fixed_at.field-0.0 c.from_residual-in_err-fixed_at.result c.from_residual-in_err-fixed_at.ensures.1
+    c.in_err-fixed_at.ensures
 
 pub explanation_of-requires-clause-fixed : goal.explanation_of-requires-clause-fixed
 explanation_of-requires-clause-fixed c =
-    let bound = bound_on c.args.shelved.now in
-    let state = state_of c.args.session.now in
-    let verdict = c.in_ok-answered.answered.verdict in
-    let work = c.answer_to.new.work in
-    let attribute = c.in_ok-attribute.field-0 in
-    let word = c.args.word.now in
-    let end = c.in_ok-answered.ensures.answered.shown
-    ∙ end-shown bound state (answer_in work verdict) verdict c.in_ok-not_in_conflict.ensures.finds in
-    rw (c.in_ok-state.ensures.state, c.first.ensures) (fixed-is (end_of bound.kit state work.first) attribute word
-    (subst (λ (one : State). IsFound (fixed_at one attribute word) tt) end c.in_ok-fixed_at.ensures))
+    let found = rw c.as_slice.ensures at c.in_ok-attribute.ensures.finds in
+    rw (c.in_ok-state.ensures.state, c.first.ensures) (end-fixed (bound_on c.args.shelved.now) c.args.session.now
+    c.args.word.now c.in_ok-attribute.field-0 (answer_in c.answer_to.new.work c.in_ok-answered.answered.verdict) found
+    c.in_ok-answered.ensures.answered.answer c.in_ok-answered.answered.shown c.in_ok-answered.ensures.answered.shown
+    c.in_ok-not_in_conflict.ensures.finds c.in_ok-fixed_at.ensures)
 
 pub explanation_of-requires-clause-run : goal.explanation_of-requires-clause-run
 explanation_of-requires-clause-run c =
@@ -136,16 +128,9 @@ explanation_of-requires-clause-attribute c =
 
 pub returns-clause-explained : goal.returns-clause-explained
 returns-clause-explained c =
-    let bound = bound_on c.args.shelved.now in
-    let state = state_of c.args.session.now in
-    let verdict = c.in_ok-answered.answered.verdict in
-    let answer = answer_in c.answer_to.new.work verdict in
-    let attribute = c.in_ok-attribute.field-0 in
-    let word = c.args.word.now in
     let found = rw c.as_slice.ensures at c.in_ok-attribute.ensures.finds in
-    let end = c.in_ok-answered.ensures.answered.shown
-    ∙ end-shown bound state answer verdict c.in_ok-not_in_conflict.ensures.finds in
-    explained-fixed bound c.args.session.now word attribute answer found c.in_ok-answered.ensures.answered.answer
-    (Ok c.in_ok-explanation_of.field-0) c.in_ok-not_in_conflict.ensures.finds
-    (subst (λ (one : State). IsFound (fixed_at one attribute word) tt) end c.in_ok-fixed_at.ensures)
+    explained-fixed (bound_on c.args.shelved.now) c.args.session.now c.args.word.now c.in_ok-attribute.field-0
+    (answer_in c.answer_to.new.work c.in_ok-answered.answered.verdict) found c.in_ok-answered.ensures.answered.answer
+    c.in_ok-answered.answered.shown c.in_ok-answered.ensures.answered.shown c.in_ok-not_in_conflict.ensures.finds
+    c.in_ok-fixed_at.ensures (Ok c.in_ok-explanation_of.field-0)
     (rw (c.in_ok-state.ensures.state, c.first.ensures) at c.in_ok-explanation_of.ensures)

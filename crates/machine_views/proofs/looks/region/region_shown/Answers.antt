@@ -1,52 +1,35 @@
-use Rattle.std.proofs.Common.{◌<◌, ◌∙◌, ℕ, List, [], ap, arith, get_or, subst, sym}
-use Rattle.std.specs.Prelude.{All}
+use Rattle.std.proofs.Common.{◌∙◌, List, [], ap, get_or, sym}
 use Rattle.std.proofs.lemmas.List.{get_or_default}
 use Rattle.desk_words.specs.declared.published.RegionSheet.{RegionSheet}
 use Rattle.desk_words.specs.declared.rows.edition.EditionRow.{EditionRow}
 use Rattle.desk_words.specs.Tables.{published_of, rows_of}
-use Rattle.fix_model.specs.Regions.{IsRegionOf}
-use Rattle.machine_core.specs.Look.Suggest.{regions_of}
 use Rattle.machine_core.specs.Shelves.{bound_on}
-use Rattle.machine_views.proofs.Advising.{regions-good}
+use Rattle.machine_core.proofs.Rooms.{IsFullRoom-for}
 use Rattle.machine_views.proofs.Books.{IsNamedBook-at}
-use Rattle.machine_views.proofs.Publishing.{All-numbered, region-found}
+use Rattle.machine_views.proofs.Publishing.{region-found, region-good, region-named}
 use Rattle.machine_views.proofs.looks.region.region_shown.Goals as goal
 
 pub verdicts_on-requires-clause-room : goal.verdicts_on-requires-clause-room
 verdicts_on-requires-clause-room c =
     let rows = rows_of c.args.tables.now in
-    let book = IsNamedBook-at rows c.in_ok-place.place c.shelved-shelved.result.now c.requires.ready.valid
-    (c.shelved-shelved.ensures.bound (published_of rows) c.in_ok-hold.ensures.ready.held) in
-    record {
-      attributes = omega (arith, book.named.valid.narrow, c.in_ok-hold.ensures.ready.room.attributes);
-      rules = omega (arith, book.named.valid.few_rules, c.in_ok-hold.ensures.ready.room.rules);
-    }
+    IsFullRoom-for c.in_ok-hold.ensures.ready.room (IsNamedBook-at rows c.in_ok-place.place c.shelved-shelved.result.now
+    c.requires.ready.valid (c.shelved-shelved.ensures.bound (published_of rows) c.in_ok-hold.ensures.ready.held)
+    ).named.valid
 
 pub verdicts_on-requires-clause-whole : goal.verdicts_on-requires-clause-whole
 verdicts_on-requires-clause-whole c =
     let rows = rows_of c.args.tables.now in
-    let place = c.in_ok-place.place in
-    let bound = bound_on c.shelved-shelved.result.now in
-    let there = sym (rw c.as_slice-2.ensures at c.in-Some.ensures) in
-    let good = All-numbered (IsRegionOf bound.kit) (regions_of rows.regions place) c.args.number c.in-Some.region.now
-    (regions-good rows c.requires.ready.valid place bound
-    (c.shelved-shelved.ensures.bound (published_of rows) c.in_ok-hold.ensures.ready.held)) there in
-    good.rows
+    let binds = c.shelved-shelved.ensures.bound (published_of rows) c.in_ok-hold.ensures.ready.held in
+    (region-good rows c.requires.ready.valid c.in_ok-place.place (bound_on c.shelved-shelved.result.now) binds
+    c.args.number c.in-Some.region.now (sym (rw c.as_slice-2.ensures at c.in-Some.ensures))).rows
 
 pub named_attributes-requires : goal.named_attributes-requires
 named_attributes-requires c =
     let rows = rows_of c.args.tables.now in
-    let place = c.in_ok-place.place in
     let binds = c.shelved-shelved.ensures.bound (published_of rows) c.in_ok-hold.ensures.ready.held in
-    let bound = bound_on c.shelved-shelved.result.now in
-    let region = c.in-Some.region.now in
-    let there = sym (rw c.as_slice-2.ensures at c.in-Some.ensures) in
-    let good = All-numbered (IsRegionOf bound.kit) (regions_of rows.regions place) c.args.number region
-    (regions-good rows c.requires.ready.valid place bound binds) there in
-    let book = IsNamedBook-at rows place c.shelved-shelved.result.now c.requires.ready.valid binds in
-    let Within : ℕ → Type 0 = λ width. All (λ attribute. attribute < width) region.attrs in
-    rw (c.as_slice-4.ensures, c.as_slice-words.ensures)
-    (subst Within (sym book.named.attributes) good.attributes.attributes_within)
+    rw (c.as_slice-4.ensures, c.as_slice-words.ensures) (region-named rows c.requires.ready.valid c.in_ok-place.place
+    (bound_on c.shelved-shelved.result.now) binds c.args.number c.in-Some.region.now
+    (sym (rw c.as_slice-2.ensures at c.in-Some.ensures)))
 
 pub returns-clause-region : goal.returns-clause-region
 returns-clause-region c =

@@ -1,23 +1,18 @@
-use Rattle.std.proofs.Common.{◌-◌}
 use Rattle.desk_words.specs.Tables.{published_of, rows_of}
 use Rattle.machine_core.specs.Shelves.{bound_on}
+use Rattle.machine_core.proofs.GoodRows.{own-session}
 use Rattle.machine_views.proofs.Advising.{suggestion-given}
-use Rattle.machine_views.proofs.Keeping.{own-rows, session-stands}
 use Rattle.machine_views.proofs.looks.suggest.suggestion_of.Goals as goal
 
 pub hold-requires-clause-edition : goal.hold-requires-clause-edition
 hold-requires-clause-edition c =
-    let own = c.args.own.now in
-    (session-stands (published_of (rows_of c.args.tables.now)) own
-    (own-rows (rows_of c.args.tables.now) own c.requires.ready.valid c.requires.own) (c.args.number - 1)
-    c.in_ok-session.session.now (rw c.sessions.ensures at c.in_ok-session.ensures.stands)).edition
+    (own-session (rows_of c.args.tables.now) c.args.own.now c.requires.ready.valid c.requires.own c.args.number
+    c.in_ok-session.session.now c.sessions.ensures c.in_ok-session.ensures.stands).edition
 
 pub book_for-shelved-requires-clause-session : goal.book_for-shelved-requires-clause-session
 book_for-shelved-requires-clause-session c =
-    let own = c.args.own.now in
-    session-stands (published_of (rows_of c.args.tables.now)) own
-    (own-rows (rows_of c.args.tables.now) own c.requires.ready.valid c.requires.own) (c.args.number - 1)
-    c.in_ok-session.session.now (rw c.sessions.ensures at c.in_ok-session.ensures.stands)
+    own-session (rows_of c.args.tables.now) c.args.own.now c.requires.ready.valid c.requires.own c.args.number
+    c.in_ok-session.session.now c.sessions.ensures c.in_ok-session.ensures.stands
 
 pub returns-clause-suggestion : goal.returns-clause-suggestion
 returns-clause-suggestion c =
