@@ -1,6 +1,6 @@
 -- What stands first on the shelf, by what is replied to a clerk.
 use Rattle.std.proofs.Common.{◌≡◌, ◌∙◌, ℕ, ◌+◌, ◌-◌, List, [], ◌∷◌, Some, inl, inr, refl, sym, ap, subst, arith}
-use Rattle.std.specs.Prelude.{All, IfSome, Ok, count_by}
+use Rattle.std.specs.Prelude.{All, IfSome, Ok}
 use Rattle.desk_words.specs.declared.command.Command.{Command}
 use Rattle.desk_words.specs.declared.command.Command.TheVariants.{Look}
 use Rattle.desk_words.specs.declared.look.Look.{Look as LookOf}
@@ -10,7 +10,6 @@ use Rattle.desk_words.specs.declared.reply.Reply.TheVariants as reply
 use Rattle.desk_words.specs.declared.reply.Suggested.{Suggested}
 use Rattle.desk_words.specs.declared.rows.act.Act.{Act}
 use Rattle.desk_words.specs.declared.rows.act.Act.TheVariants as act
-use Rattle.desk_words.specs.declared.rows.batch.BatchRow.{BatchRow}
 use Rattle.desk_words.specs.declared.rows.session.SessionRow.{SessionRow}
 use Rattle.desk_words.specs.declared.view.View.{View}
 use Rattle.desk_words.specs.Tables.{Published, Rows, published_of}
@@ -21,9 +20,8 @@ use Rattle.machine_core.specs.Checked.{Answer, Checked, ◌>>=◌, answer_for, d
 use Rattle.machine_core.specs.Content.{Content, advises, content_of, derives, plain, records, refuses, shows}
 use Rattle.machine_core.specs.Clerk.Confirm.{confirm_row}
 use Rattle.machine_core.specs.Finding.{session_at}
-use Rattle.machine_core.specs.Kept.{kept_reply}
+use Rattle.machine_core.specs.Kept.{batch_with, kept_reply}
 use Rattle.machine_core.specs.Look.Preview.{preview}
-use Rattle.machine_core.specs.Look.Report.{Assessment, is_certain_fix, is_conflict, is_partial_fix}
 use Rattle.machine_core.specs.Look.Suggest.{suggestion_of}
 use Rattle.machine_core.specs.Look.View.{view_at}
 use Rattle.machine_core.specs.Look.{look_reply}
@@ -93,17 +91,6 @@ target-first published own deed held sound act.Edition told first = tt
 target-first published own deed held sound act.Region told first = tt
 target-first published own deed held sound act.Committed told first = tt
 target-first published own deed held sound act.Batched told first = tt
-
--- the reply for a batch, with the verdicts on its sessions
-abbrev batch_with : ℕ → BatchRow → List Assessment → Reply
-batch_with number row sessions = reply.Batched (record {
-  batch = number;
-  first = row.first;
-  rows = row.count;
-  certain = count_by (λ one. is_certain_fix one.verdict) sessions;
-  partial = count_by (λ one. is_partial_fix one.verdict) sessions;
-  conflict = count_by (λ one. is_conflict one.verdict) sessions;
-})
 
 module _ (rows : Rows) (held : List (ℕ × Shelved)) where
   -- what stewards published
