@@ -1,9 +1,11 @@
 pub mod Accepted
+pub mod Beginnings
 pub mod Limits
 pub mod OneSummary
 pub mod Openings
 pub mod Reports
 pub mod Served
+pub mod Sights
 pub mod Summaries
 pub mod Turns
 pub mod Visiting

@@ -36,7 +36,7 @@ IsUsed (fail.Damaged damage) old new = new ≡ loaded old
 IsUsed fail.Unavailable old new = new ≡ failed old
 IsUsed fail.NoMemory old new = new ≡ loaded old
 
-pub is_used : (why : StartFail) (old new : Uses) → new.calls ≡ risen old.calls
+is_used : (why : StartFail) (old new : Uses) → new.calls ≡ risen old.calls
     → CountsStart {T = Unit {0}} old.faults new.faults (Err why) → IsUsed why old new
 is_used (fail.Damaged damage) old new called counts = is_loaded old new called counts
 is_used fail.Unavailable old new called counts = is_failed old new called counts
@@ -57,15 +57,33 @@ stays_damaged old new damage Refused why used tells = absurd tells
 stays_damaged old new damage Limit why used tells = absurd tells
 
 -- no machine began
-pub stays_shut : (old new : World) (why : StartFail) (status : Status)
+shut_for : (old new : World) (why : StartFail) (status : Status)
     → IsUnstarted old.told new.told old.uses.faults new.uses.faults why → IsUsed why old.uses new.uses
     → TellsFail why old.link new.link status → StaysShut old new status
-stays_shut old new (fail.Damaged damage) status is used tells = stays_damaged old new damage status is used tells
-stays_shut old new fail.Unavailable status is used tells = rw tells.0 (is.0, tells.1, used)
-stays_shut old new fail.NoMemory status is used tells = rw tells.0 (is, tells.1, used)
+shut_for old new (fail.Damaged damage) status is used tells = stays_damaged old new damage status is used tells
+shut_for old new fail.Unavailable status is used tells = rw tells.0 (is.0, tells.1, used)
+shut_for old new fail.NoMemory status is used tells = rw tells.0 (is, tells.1, used)
+
+-- no machine began, for this reason, and this status tells it
+pub record IsStopped (old new : World) (why : StartFail) (status : Status) : Type 0 where
+  pub unstarted : IsUnstarted old.told new.told old.uses.faults new.uses.faults why
+  pub used : IsUsed why old.uses new.uses
+  pub tells : TellsFail why old.link new.link status
+
+-- by what is known of the keeper that was to load tables, and of the output
+pub stopped : (old new : World) (why : StartFail) (status : Status)
+    → IsUnstarted old.told new.told old.uses.faults new.uses.faults why → new.uses.calls ≡ risen old.uses.calls
+    → CountsStart {T = Unit {0}} old.uses.faults new.uses.faults (Err why) → TellsFail why old.link new.link status
+    → IsStopped old new why status
+stopped old new why status unstarted called counts tells =
+    record { unstarted = unstarted; used = is_used why old.uses new.uses called counts; tells = tells }
+
+pub stays_shut : {old new : World} {why : StartFail} {status : Status} → IsStopped old new why status
+    → StaysShut old new status
+stays_shut {old} {new} {why} {status} is = shut_for old new why status is.unstarted is.used is.tells
 
 -- what is told of it may be due
-pub takes_fail : (takes : ℕ → Type 0) (old new : World) (why : StartFail)
+takes_fail : (takes : ℕ → Type 0) (old new : World) (why : StartFail)
     → IsUnstarted old.told new.told old.uses.faults new.uses.faults why
     → ((text : List ℕ) → MayBeDamageLine old.told text → takes (length text)) → TakesFail takes why
 takes_fail takes old new (fail.Damaged damage) is all =
@@ -97,16 +115,22 @@ shut_status old new Damaged stays loads wrote = inr (stays, refl)
 shut_status old new Refused stays loads wrote = absurd stays
 shut_status old new Limit stays loads wrote = absurd stays
 
--- over devices that do not fail
-pub is_shut : (old new : World) (why : StartFail) (status : Status)
-    → IsUnstarted old.told new.told old.uses.faults new.uses.faults why → IsUsed why old.uses new.uses
-    → TellsFail why old.link new.link status → why ≢ fail.Unavailable → status ≢ WriteFault → IsShut old new
-    (status_code status)
-is_shut old new why status is used tells loads wrote =
-    shut_status old new status (stays_shut old new why status is used tells)
-    (available old.link new.link why status tells loads) wrote
+-- over a keeper that does not fail, and an output that takes a line that may be due
+pub is_shut : {old new : World} {why : StartFail} {status : Status} (takes : ℕ → Type 0)
+    → IsStopped old new why status → why ≢ fail.Unavailable → (TakesFail takes why → status ≢ WriteFault)
+    → ((text : List ℕ) → MayBeDamageLine old.told text → takes (length text)) → IsShut old new (status_code status)
+is_shut {old} {new} {why} {status} takes is loads wrote all =
+    shut_status old new status (stays_shut is) (available old.link new.link why status is.tells loads)
+    (wrote (takes_fail takes old new why is.unstarted all))
 
 -- and its code
-pub shut_code : (old new : World) (code : ℕ) → IsShut old new code → (code ≡ 5) ⊎ (code ≡ 6)
-shut_code old new code (inl short) = inl short.1
-shut_code old new code (inr damaged) = inr damaged.1
+code_of_shut : (old new : World) (code : ℕ) → IsShut old new code → (code ≡ 5) ⊎ (code ≡ 6)
+code_of_shut old new code (inl short) = inl short.1
+code_of_shut old new code (inr damaged) = inr damaged.1
+
+pub shut_code : {old new : World} {why : StartFail} {status : Status} (takes : ℕ → Type 0)
+    → IsStopped old new why status → why ≢ fail.Unavailable → (TakesFail takes why → status ≢ WriteFault)
+    → ((text : List ℕ) → MayBeDamageLine old.told text → takes (length text))
+    → (status_code status ≡ 5) ⊎ (status_code status ≡ 6)
+shut_code {old} {new} {why} {status} takes is loads wrote all =
+    code_of_shut old new (status_code status) (is_shut takes is loads wrote all)

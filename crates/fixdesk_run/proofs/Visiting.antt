@@ -162,10 +162,10 @@ PassesCount-none front desk door accepted live =
     record { visits = []; pass = PassesAll-none front desk door accepted live; all = refl; early_is = refl }
 
 -- one more was served
-pub PassesAll-push : (front : Front) (before mid after : Standing) (old now new : Door) (end : Ended) (visits : List Visit)
-    → PassesAll front before mid old now visits → (one : PassesOne front mid after now new end)
+pub PassesAll-push : {front : Front} {before mid after : Standing} {old now new : Door} {end : Ended}
+    {visits : List Visit} → PassesAll front before mid old now visits → (one : PassesOne front mid after now new end)
     → PassesAll front before after old new (visits ++ one.visit ∷ [])
-PassesAll-push front before mid after old now new end visits all one =
+PassesAll-push {front} {before} {mid} {after} {old} {now} {new} {visits} all one =
     let visit = one.visit in
     let is : IsVisit front (last_standing before visits) visit =
     subst (λ (desk : Standing). IsVisit front desk visit) (sym all.after_is) one.is in
@@ -195,12 +195,12 @@ PassesAll-push front before mid after old now new end visits all one =
     }
 
 -- and counted
-pub PassesCount-push : (front : Front) (before mid after : Standing) (old now new : Door) (end : Ended) (count early : ℕ)
-    → PassesCount front before mid old now count early → PassesOne front mid after now new end
+pub PassesCount-push : {front : Front} {before mid after : Standing} {old now new : Door} {end : Ended}
+    {count early : ℕ} → PassesCount front before mid old now count early → PassesOne front mid after now new end
     → PassesCount front before after old new (count + 1) (early + from_bool (is_early end))
-PassesCount-push front before mid after old now new end count early all one = record {
+PassesCount-push {end} {early} all one = record {
   visits = all.visits ++ one.visit ∷ [];
-  pass = PassesAll-push front before mid after old now new end all.visits all.pass one;
+  pass = PassesAll-push all.pass one;
   all = length_push all.visits one.visit ∙ ap (λ (n : ℕ). n + 1) all.all;
   early_is = ap (λ (n : ℕ). early + n) (early_byte (is_early end))
       ∙ ap (λ (e : Ended). early + cond (is_early e) 1 0) (sym one.end_is)
@@ -212,8 +212,8 @@ PassesCount-push front before mid after old now new end count early all one = re
 
 -- what is left where a machine began does not speak of the keeper before
 pub EndsServing-before : (front : Front) (plan : Plan) (begun : Standing) (old : Site) (told : Option Rows) (used : Uses) (new : Site)
-    (end : ServeEnd) → EndsServing front plan begun old new end
-    → EndsServing front plan begun (with_keeper old told used) new end
+    (end : ServeEnd) → EndsServing front plan begun (with_keeper old told used) new end
+    → EndsServing front plan begun old new end
 EndsServing-before front plan begun old told used new Done ends = ends
 EndsServing-before front plan begun old told used new WriteFault ends = ends
 EndsServing-before front plan begun old told used new NoMemory ends = ends

@@ -70,12 +70,12 @@ end_code DoorFault = 9
 
 -- ---- a call
 
--- the usage line was written, or a part of it where the output failed; keeper and door were not called
-pub record TellsUsage (old new : Site) (code : ℕ) : Type 0 where
+-- this usage line was written, or a part of it where the output failed; keeper and door were not called
+pub record TellsUsage (usage : List ℕ) (old new : Site) (code : ℕ) : Type 0 where
   pub uncalled : IsUncalled old.world new.world
   pub unbound : new.door ≡ old.door
-  pub written : ((code ≡ 1) × Says serve_usage old.world.link new.world.link)
-      ⊎ ((code ≡ 3) × SaysPart serve_usage old.world.link new.world.link)
+  pub written : ((code ≡ 1) × Says usage old.world.link new.world.link)
+      ⊎ ((code ≡ 3) × SaysPart usage old.world.link new.world.link)
 
 -- no machine began, and the door was not called
 pub record StaysClosed (old new : Site) (code : ℕ) : Type 0 where
@@ -84,26 +84,33 @@ pub record StaysClosed (old new : Site) (code : ℕ) : Type 0 where
   pub stays : StaysShut old.world new.world status
   pub unbound : new.door ≡ old.door
 
--- a machine began over the tables that were loaded, and served links; these are the tables that the keeper held at
--- first, where it tells tables in the end
-pub record ServesOver (holds : Rows → Type 0) (plan : Plan) (old new : Site) (code : ℕ) : Type 0 where
+-- a machine began over the tables that were loaded, and served links, which left this; these are the tables that the
+-- keeper held at first, where it tells tables in the end
+pub record ServesOver (holds : Rows → Type 0) (leaves : Standing → Site → Site → ServeEnd → Type 0) (old new : Site)
+    (code : ℕ) : Type 0 where
   pub begun : Standing
   pub started : AreStarted old.world.told begun.told begun.tables
   pub held : LoadsHeld holds new.world.told begun.tables
   pub called_once : begun.uses ≡ loaded old.world.uses
   pub end : ServeEnd
   pub told : code ≡ end_code end
-  pub ends : EndsServing bare plan begun old new end
+  pub ends : leaves begun old new end
 
--- what is left by a plan, or by words that are none, with this exit status, over a keeper that held such tables
-abbrev pub EndsServe : (Rows → Type 0) → Option Plan → Site → Site → ℕ → Type 0
-EndsServe holds None old new code = TellsUsage old new code
-EndsServe holds (Some plan) old new code = StaysClosed old new code ⊎ ServesOver holds plan old new code
+-- a program of such a usage line, over a keeper that held such tables; serving by a plan leaves this
+module _ (usage : List ℕ) (holds : Rows → Type 0) (leaves : Plan → Standing → Site → Site → ServeEnd → Type 0) where
+  -- what is left by a plan, or by words that are none, with this exit status
+  abbrev pub EndsServe : Option Plan → Site → Site → ℕ → Type 0
+  EndsServe None old new code = TellsUsage usage old new code
+  EndsServe (Some plan) old new code = StaysClosed old new code ⊎ ServesOver holds (leaves plan) old new code
+
+  -- what a call leaves, and answers
+  pub record Leaves (plan : Option Plan) (old new : Site) (code : ℕ) : Type 0 where
+    pub ends : EndsServe plan old new code
+    pub later : Later old new
 
 -- what a call with these words leaves over a keeper that held such tables, and answers
-pub record LeavesServed (holds : Rows → Type 0) (words : List (List ℕ)) (old new : Site) (code : ℕ) : Type 0 where
-  pub ends : EndsServe holds (plan_of words) old new code
-  pub later : Later old new
+abbrev pub LeavesServed : (Rows → Type 0) → List (List ℕ) → Site → Site → ℕ → Type 0
+LeavesServed holds words = Leaves serve_usage holds (EndsServing bare) (plan_of words)
 
 -- ---- steady devices
 

@@ -1,12 +1,14 @@
 -- What a clause of `serve` sees: an output, a keeper and a door.
-use Rattle.std.specs.Prelude.{◌≡◌, ℕ, ◌<◌, ◌≤◌, List, Option, Some, None, length}
+use Rattle.std.specs.Prelude.{◌≡◌, ℕ, ◌<◌, ◌≤◌, List, [], Option, Some, None, length}
 use Rattle.desk_base.specs.Faults.{Rose}
 use Rattle.desk_links.specs.Doors.{Closes, HandsOut, LinkSeen, one_more}
 use Rattle.desk_words.specs.Tables.{Rows}
 use Rattle.keeper_core.specs.Keeping.{uses}
 use Rattle.http_desk.specs.declared.serving.Ended.{Ended}
 use Rattle.http_desk.specs.Fronts.{Front}
+use Rattle.http_desk.specs.Logs.{last_line}
 use Rattle.http_desk.specs.Scenes.{RoseBy, RoseWithin}
+use Rattle.http_desk.specs.Streams.{IfShown}
 use Rattle.fixdesk_run.specs.Link.{link_with}
 use Rattle.fixdesk_run.specs.Standing.{Standing}
 use Rattle.fixdesk_run.specs.Visits.{AreClosed, AreHandedOut, AreVisits, IsVisit, Visit, early_count}
@@ -82,6 +84,11 @@ pub record PassesOne (front : Front) (before after : Standing) (old new : Door) 
   pub live : new.live ≡ 0
   pub waiting : HandsOut old.waiting new.waiting visit.opened
   pub closed : Closes old.closed new.closed visit.closed
+
+-- so it was, and the line that is shown is that of its request
+abbrev pub LogsOne : Front → Standing → Standing → Door → Door → Option (List ℕ) → Ended → Type 0
+LogsOne front before after old new line end =
+    (passes : PassesOne front before after old new end) × IfShown line (last_line [] passes.visit.answers)
 
 -- these links were handed out, served one after another over a front and the desk before, and closed
 pub record PassesAll (front : Front) (before after : Standing) (old new : Door) (visits : List Visit) : Type 0 where

@@ -18,6 +18,7 @@ mod serving;
 mod tally;
 mod task;
 mod top;
+mod usage;
 mod visits;
 
 pub use desk_made::made;
@@ -26,3 +27,5 @@ pub use opening::stay_shut;
 pub use plan::{Plan, plan_of};
 pub use serving::{ServeEnd, serve};
 pub use top::run;
+pub use usage::tell_usage;
+pub use visits::serve_next;

@@ -1,17 +1,16 @@
 //! The top call of the program `fixdeskd`.
-ghost use Rattle.std.specs.Prelude.{◌≡◌, ◌≤◌, ◌⊎◌, length, map, string_bytes, None};
+ghost use Rattle.std.specs.Prelude.{◌≡◌, ◌≤◌, ◌⊎◌, map, string_bytes};
 ghost use Rattle.keeper_core.specs.Keeping.{IfTold};
-ghost use Rattle.once_run.specs.Status.{status_code};
-ghost use Rattle.fixdesk_run.specs.Link.{Says, SaysPart, link_with};
 ghost use Rattle.fixdesk_run.specs.Plan.{plan_of};
 ghost use Rattle.fixdesk_run.specs.Serve.{AreSteadyFor, EndsServing, IsServedFaultless, LeavesServed, TakesSaid};
-ghost use Rattle.fixdesk_run.specs.Serve.{TakesTally, end_code, serve_usage};
+ghost use Rattle.fixdesk_run.specs.Serve.{TakesTally, end_code};
 ghost use Rattle.fixdesk_run.specs.Site.{Later, site};
 ghost use Rattle.fixdesk_run.specs.Standing.{standing};
 
 use crate::opening::stay_shut;
 use crate::plan::{Plan, plan_of};
 use crate::tally::{begin_line, end_line};
+use crate::usage::tell_usage;
 use crate::visits::serve_links;
 use desk_base::{Failed, NoMemory, Sink, write_all};
 use desk_links::Listener;
@@ -19,7 +18,6 @@ use http_cut::Intake;
 use http_desk::Front;
 use keeper_core::Keeper;
 use machine_core::Machine;
-use once_run::Status;
 use std::alloc::Global;
 
 /// The line that answers words which are no port and count.
@@ -82,60 +80,32 @@ pub fn serve<M: Machine + Drop, K: Keeper, L: Listener, W: Sink>(
         → IsServedFaultless plan result }
 {
     let Some(plan) = plan_of(words) else {
-        return tell_usage(out).code();
+        return tell_usage(USAGE, out).code();
     };
-    match M::start(alloc, keeper) {
-        Ok(mut machine) => serve_plan(
-            alloc,
-            &Front::bare(),
-            plan,
-            &mut machine,
-            keeper,
-            door,
-            out,
-        ).code(),
-        Err(fail) => stay_shut(alloc, fail, out).code(),
-    }
-}
-
-/// Serves the links of a plan over a front and a machine that began, with one intake for all of them, and writes the line that
-/// counts them.
-fn serve_plan<M: Machine + Drop, K: Keeper, L: Listener, W: Sink>(
-    alloc: Global,
-    front: &Front<'_>,
-    plan: Plan,
-    machine: &mut M,
-    keeper: &mut K,
-    door: &mut L,
-    out: &mut W,
-) -> ServeEnd
-    requires few { plan.count ≤ 1000000 }
-    requires idle { L.live door.old ≡ 0 }
-    requires told { IfTold (K.tables keeper.old) (M.rows machine.old) }
-    ensures ends { let site = site W.written W.write_faults K.tables K.calls K.faults L.door_faults L.port L.accepted
-        L.live L.waiting L.closed in
-        EndsServing front.now plan (standing M.rows K.tables K.calls K.faults machine.old keeper.old) (site out.old keeper.old
-        door.old)
-        (site out.new keeper.new door.new) result }
-    ensures later { let site = site W.written W.write_faults K.tables K.calls K.faults L.door_faults L.port
-        L.accepted L.live L.waiting L.closed in
-        Later (site out.old keeper.old door.old) (site out.new keeper.new door.new) }
-    ensures idle { L.live door.new ≡ 0 }
-    ensures complete { L.offers door.old plan.count → TakesTally (W.takes out.old) plan.count
-        → (end_code result ≡ 0) ⊎ (end_code result ≡ 5) }
-{
+    let mut machine = match M::start(alloc, keeper) {
+        Ok(machine) => machine,
+        Err(fail) => return stay_shut(alloc, fail, out).code(),
+    };
     let mut intake = match Intake::new(alloc) {
         Ok(intake) => intake,
-        Err(NoMemory) => return ServeEnd::NoMemory,
+        Err(NoMemory) => return ServeEnd::NoMemory.code(),
     };
-    let end = serve_all(alloc, front, plan, &mut intake, machine, keeper, door, out);
+    let end = serve_plan(
+        &Front::bare(),
+        plan,
+        &mut intake,
+        &mut machine,
+        keeper,
+        door,
+        out,
+    );
     drop(intake);
-    end
+    end.code()
 }
 
-/// The same with this intake.
-fn serve_all<M: Machine + Drop, K: Keeper, L: Listener, W: Sink>(
-    alloc: Global,
+/// Serves the links of a plan over a front and a machine that began, with one intake for all of them, and writes the
+/// line that counts them.
+fn serve_plan<M: Machine + Drop, K: Keeper, L: Listener, W: Sink>(
     front: &Front<'_>,
     plan: Plan,
     intake: &mut Intake,
@@ -159,35 +129,19 @@ fn serve_all<M: Machine + Drop, K: Keeper, L: Listener, W: Sink>(
     ensures complete { L.offers door.old plan.count → TakesTally (W.takes out.old) plan.count
         → (end_code result ≡ 0) ⊎ (end_code result ≡ 5) }
 {
-    let line = match begin_line(alloc, plan.count) {
+    let line = match begin_line(intake.allocator(), plan.count) {
         Ok(line) => line,
         Err(NoMemory) => return ServeEnd::NoMemory,
     };
     if let Err(Failed) = door.bind(plan.port) {
         return ServeEnd::DoorFault;
     }
-    let early = match serve_links::<M, K, L>(
-        alloc, front, plan.count, intake, machine, keeper, door,
-    ) {
+    let early = match serve_links::<M, K, L>(front, plan.count, intake, machine, keeper, door) {
         Ok(early) => early,
         Err(Failed) => return ServeEnd::DoorFault,
     };
     match write_all(out, end_line(line, early).as_slice()) {
         Ok(()) => ServeEnd::Done,
         Err(Failed) => ServeEnd::WriteFault,
-    }
-}
-
-/// Writes the usage line.
-fn tell_usage<W: Sink>(out: &mut W) -> Status
-    ensures told { let seen = link_with W.written W.write_faults None 0 in
-        ((status_code result ≡ 1) × Says serve_usage (seen out.old) (seen out.new))
-        ⊎ ((status_code result ≡ 3) × SaysPart serve_usage (seen out.old) (seen out.new)) }
-    ensures later { W.write_faults out.old ≤ W.write_faults out.new }
-    ensures complete { W.takes out.old (length serve_usage) → status_code result ≡ 1 }
-{
-    match write_all(out, USAGE) {
-        Ok(()) => Status::NoCommand,
-        Err(Failed) => Status::WriteFault,
     }
 }

@@ -3,22 +3,20 @@ ghost use Rattle.std.specs.Prelude.{◌≡◌, ◌+◌, ◌<◌, ◌≤◌, ℕ,
 ghost use Rattle.desk_base.specs.Faults.{Rose};
 ghost use Rattle.desk_links.specs.Doors.{MayAccept};
 ghost use Rattle.keeper_core.specs.Keeping.{IfTold};
-ghost use Rattle.fixdesk_run.specs.Site.{IsUnchanged, PassesCount, PassesFewer, PassesOne, door_seen};
+ghost use Rattle.fixdesk_run.specs.Site.{IsUnchanged, LogsOne, PassesCount, PassesFewer, door_seen};
 ghost use Rattle.fixdesk_run.specs.Standing.{standing};
 ghost use Rattle.fixdesk_run.specs.Visits.{is_early};
 
 use desk_base::Failed;
 use desk_links::Listener;
 use http_cut::Intake;
-use http_desk::{Ended, Front, serve_link};
+use http_desk::{Ended, Front, Log, NoLog, serve_link};
 use keeper_core::Keeper;
 use machine_core::Machine;
-use std::alloc::Global;
 
-/// Serves so many links of a door that was bound, over a front, one after another, with one intake for all of them, and answers how
-/// many of them ended early.
+/// Serves so many links of a door that was bound, over a front, one after another, with one intake for all of them, and
+/// answers how many of them ended early.
 pub fn serve_links<M: Machine + Drop, K: Keeper, L: Listener>(
-    alloc: Global,
     front: &Front<'_>,
     count: u32,
     intake: &mut Intake,
@@ -46,29 +44,30 @@ pub fn serve_links<M: Machine + Drop, K: Keeper, L: Listener>(
     let mut served: u32 = 0;
     let mut early: u32 = 0;
     'links: while served < count {
-        let end = serve_next::<M, K, L>(alloc, front, intake, machine, keeper, door)?;
+        let end = serve_next::<M, K, L, NoLog>(front, intake, machine, keeper, door, &mut NoLog)?;
         early += u32::from(is_early(end));
         served += 1;
     }
     Ok(early)
 }
 
-/// Serves the next link of a door over a front, with at most one request, and closes it. Answers how its stream ended.
-fn serve_next<M: Machine + Drop, K: Keeper, L: Listener>(
-    alloc: Global,
+/// Serves the next link of a door over a front, with at most one request, closes it, and tells its request in a log.
+/// Answers how its stream ended. Where the door fails, nothing else has changed.
+pub fn serve_next<M: Machine + Drop, K: Keeper, L: Listener, G: Log>(
     front: &Front<'_>,
     intake: &mut Intake,
     machine: &mut M,
     keeper: &mut K,
     door: &mut L,
+    log: &mut G,
 ) -> Result<Ended, Failed>
     requires idle { L.live door.old ≡ 0 }
     requires bound { MayAccept (L.accepted door.old) }
     requires told { IfTold (K.tables keeper.old) (M.rows machine.old) }
     ensures passed { let desk = standing M.rows K.tables K.calls K.faults in
         let seen = door_seen L.door_faults L.port L.accepted L.live L.waiting L.closed in
-        IfOk result (PassesOne front.now (desk machine.old keeper.old) (desk machine.new keeper.new) (seen door.old)
-        (seen door.new)) }
+        IfOk result (LogsOne front.now (desk machine.old keeper.old) (desk machine.new keeper.new) (seen door.old)
+        (seen door.new) (G.line log.new)) }
     ensures refused { let desk = standing M.rows K.tables K.calls K.faults in
         let seen = door_seen L.door_faults L.port L.accepted L.live L.waiting L.closed in
         OnErr result ((desk machine.new keeper.new ≡ desk machine.old keeper.old)
@@ -78,7 +77,7 @@ fn serve_next<M: Machine + Drop, K: Keeper, L: Listener>(
     ensures offers { (count : ℕ) → L.offers door.old (count + 1) → IsOk result × L.offers door.new count }
 {
     let mut link = door.accept()?;
-    let end = serve_link(alloc, front, intake, machine, keeper, &mut link, 1);
+    let end = serve_link(front, intake, machine, keeper, &mut link, 1, log);
     door.close(link);
     Ok(end)
 }

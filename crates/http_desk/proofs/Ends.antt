@@ -1,9 +1,10 @@
 -- How a stream ends.
 use Rattle.std.proofs.Common.{◌≡◌, inl, inr, ◌∙◌, ℕ, ◌+◌, ◌<◌, ◌≤◌, ◌==◌, Bool, true, List, [], ◌∷◌, ◌++◌, length}
-use Rattle.std.proofs.Common.{take, refl, sym, subst, arith, length-append, append-nil, Result, Ok, Err}
+use Rattle.std.proofs.Common.{take, refl, sym, subst, arith, length-append, append-nil, Option, Result, Ok, Err}
 use Rattle.std.specs.Prelude.{◌↔◌, ◌⊎◌, IsTrue}
 use Rattle.desk_base.specs.declared.error.Failed.{Failed}
 use Rattle.http_cut.specs.declared.step.Request.{Request}
+use Rattle.http_cut.specs.declared.step.Step.{Step}
 use Rattle.http_cut.specs.declared.step.Step.TheVariants as step
 use Rattle.std.specs.Io.KnownBytes.{Appends, IsAtEnd}
 use Rattle.std.proofs.KnownBytes.{Consumes-nil}
@@ -20,6 +21,7 @@ use Rattle.http_cut.specs.Cut.{WholeRequest, BeginsRequest, Begins, IsOpen, IsBa
 use Rattle.http_cut.specs.Cut.{IsEnd}
 use Rattle.http_cut.specs.Cut.{IsCut}
 use Rattle.http_cut.specs.Head.{AsksHead}
+use Rattle.http_cut.specs.Looks.{IsStep}
 use Rattle.http_cut.specs.Taking.{Fetches, Reading, ReadsNoFurther, ReadsOn, Takes}
 use Rattle.http_cut.proofs.Cuts.{IsBadRest-append, Begins-more, open_end}
 use Rattle.http_desk.specs.declared.serving.Ended.{Ended}
@@ -33,7 +35,8 @@ use Rattle.http_desk.specs.Streams.{Left, Progress, Streams, IsRestText, IsEndOf
 use Rattle.http_desk.specs.Streams.{CutsEnd, CutsText, EndsStream, IsFaultless, bad_end, fault_end}
 use Rattle.http_desk.proofs.Cutting.{AsksHead-append}
 use Rattle.http_desk.proofs.Progress.{failures-push, texts-push}
-use Rattle.http_desk.proofs.Underway.{Serving, Serving-none, Serving-takes, Serving-weighs, TakesTurns-push, answered}
+use Rattle.http_desk.proofs.Underway.{Serving, Serving-none, Serving-reads, Serving-takes, Serving-weighs, TakesTurns-push}
+use Rattle.http_desk.proofs.Underway.{answered, read_to}
 use Rattle.http_desk.proofs.Taking.{HasNoRoom-following, some_left, none_left}
 
 -- what a stream leaves of which these bytes were left, and of which so many were taken
@@ -56,7 +59,7 @@ streams_from {bytes} {after} {taken} {rest} {answers} left progress later ends =
 
 module _ {S : Type 0} {calls : S → S → ℕ → Result ℕ Failed → Type 0} where
   -- what was read up to a whole request
-  pub found_whole : {old new : S} {before now : List ℕ} {request : Request}
+  found_whole : {old new : S} {before now : List ℕ} {request : Request}
       → ReadsNoFurther calls old new before now (Ok (step.Whole request))
       → (given : List (Reading S)) × ReadsOn calls old before given new now
   found_whole {old} {before} {now} found = (
@@ -64,6 +67,18 @@ module _ {S : Type 0} {calls : S → S → ℕ → Result ℕ Failed → Type 0}
     subst (λ (s : S). ReadsOn calls old before found.given s now) (sym found.ends.0)
         (subst (λ (b : List ℕ). ReadsOn calls old before found.given found.last b) (sym found.ends.1) found.in_turn),
   )
+
+  -- the source is read up to a whole request
+  pub Serving-whole : {front : Front} {source last at : S} {held : List ℕ} {steady : Type 0} {takes taking : ℕ → Type 0}
+      {limit : ℕ} {old mid : Scene} {left : Option (List ℕ)} (faults : ℕ) {count : ℕ} {window now : List ℕ}
+      {one : Step} {request : Request} → one ≡ step.Whole request
+      → Serving front calls source last held steady takes taking limit old mid count window
+      → Fetches mid.left left window now (Ok one) → ReadsNoFurther calls last at window now (Ok one)
+      → mid.read_faults ≤ faults
+      → Serving front calls source last held steady takes taking limit old (read_to mid left faults) count now
+      × IsStep now (step.Whole request) × ((given : List (Reading S)) × ReadsOn calls last window given at now)
+  Serving-whole faults is s fetched order later =
+      let (serving, stands, found) = Serving-reads faults is s fetched order later in (serving, stands, found_whole found)
 
   -- what was lost for want of memory says nothing of what stands
   lost : {last at : S} {held now : List ℕ} (other : List ℕ)

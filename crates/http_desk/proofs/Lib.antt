@@ -9,6 +9,7 @@ pub mod Fronts
 pub mod Guarding
 pub mod Lengths
 pub mod LogLines
+pub mod Logging
 pub mod Named
 pub mod Numbered
 pub mod Progress

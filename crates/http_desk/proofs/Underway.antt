@@ -106,6 +106,23 @@ module _ {S : Type 0} {front : Front} {calls : S → S → ℕ → Result ℕ Fa
     turns = record { turns = []; are = refl; in_turn = (refl, refl) };
   }
 
+  -- the same bytes are held
+  abbrev pub Serving-same : {last : S} {steady : Type 0} {takes taking : ℕ → Type 0} {limit : ℕ} {old new : Scene}
+      {count : ℕ} {window now : List ℕ} → now ≡ window
+      → Serving front calls source last window steady takes taking limit old new count window
+      → Serving front calls source last now steady takes taking limit old new count now
+  Serving-same same s = record {
+    taken = s.taken;
+    answers = s.answers;
+    progress = rw same s.progress;
+    counted = s.counted;
+    written = s.written;
+    later = s.later;
+    settled = s.settled;
+    room = s.room;
+    turns = rw same s.turns;
+  }
+
   -- bytes are taken
   abbrev pub Serving-takes : {last : S} {held : List ℕ} {steady : Type 0} {takes taking : ℕ → Type 0} {limit : ℕ}
       {old mid : Scene} (new : Scene) {count : ℕ} {window now : List ℕ}

@@ -32,7 +32,7 @@ pub record Progress (front : Front) (limit : ℕ) (old new : Scene) (taken : Lis
   pub failed : RoseBy (failures answers) old.uses.faults new.uses.faults
   pub called : RoseWithin (all_sure_calls answers) (all_most_calls answers) old.uses.calls new.uses.calls
 
--- the source had these bytes left, where it told them
+-- these are the bytes that are shown, where any are
 abbrev pub IfShown : Option (List ℕ) → List ℕ → Type 0
 IfShown None bytes = ⊤
 IfShown (Some told) bytes = told ≡ bytes

@@ -11,23 +11,25 @@ ghost use Rattle.desk_base.specs.Faults.{HasCause};
 ghost use Rattle.http_desk.specs.Answered.{IsAnswered, IsAsked, Responds, asks_head, text_bytes};
 ghost use Rattle.http_desk.specs.Checked.{Checked};
 ghost use Rattle.http_desk.specs.Fronts.{command_over};
+ghost use Rattle.http_desk.specs.Logs.{logged};
 ghost use Rattle.http_desk.specs.Replies.{reply_text};
+ghost use Rattle.http_desk.specs.Streams.{IfShown};
 
 use crate::commanding::command_over;
 use crate::front::Front;
+use crate::log::Log;
 use crate::refusal::Refused;
 use crate::replying::{declined_text, reply_text};
 use crate::text::Text;
 use desk_base::{Failed, NoMemory, Sink, write_all};
 use desk_words::Command;
-use http_cut::{Intake, Request, Routes};
+use http_cut::{Intake, Request};
 use keeper_core::Keeper;
 use machine_core::{Machine, SettleFail, Weighed};
 use std::alloc::Global;
 
-/// Answers a request that stands in the intake, over a front, and writes the response.
-pub fn respond<M: Machine, K: Keeper, W: Sink>(
-    alloc: Global,
+/// Answers a request that stands in the intake, over a front, tells of it in a log and writes the response.
+pub fn respond<M: Machine, K: Keeper, W: Sink, L: Log>(
     front: &Front<'_>,
     intake: &Intake,
     machine: &mut M,
@@ -35,55 +37,54 @@ pub fn respond<M: Machine, K: Keeper, W: Sink>(
     sink: &mut W,
     request: &Request,
     closing: bool,
+    log: &mut L,
 ) -> Result<(), Failed>
     requires told { IfTold (K.tables keeper.old) (M.rows machine.old) }
     requires shows { (head : RequestHead) × ShowsRequest intake.now request.now head }
     ensures responds { (head : RequestHead) → ShowsRequest intake.now request.now head
-        → Responds front.now (K.is_steady keeper.old) (W.takes sink.old) (W.takes sink.new) (M.rows machine.old) closing
-        (head, span_bytes intake.now request.now.body) (M.rows machine.new) (uses K.calls K.faults keeper.old)
-        (uses K.calls K.faults keeper.new) (W.written sink.old) (W.written sink.new) result }
+        → (responds : Responds front.now (K.is_steady keeper.old) (W.takes sink.old) (W.takes sink.new)
+        (M.rows machine.old) closing (head, span_bytes intake.now request.now.body) (M.rows machine.new)
+        (uses K.calls K.faults keeper.old) (uses K.calls K.faults keeper.new) (W.written sink.old)
+        (W.written sink.new) result)
+        × IfShown (L.line log.new) (logged (head, span_bytes intake.now request.now.body) responds.text) }
     ensures told { IfTold (K.tables keeper.new) (M.rows machine.new) }
     ensures no_more { TellsNoMore (K.tables keeper.old) (K.tables keeper.new) }
     ensures steady { K.is_steady keeper.old → K.is_steady keeper.new }
     ensures cause { HasCause (W.write_faults sink.old) (W.write_faults sink.new) result }
 {
-    let text = answer(
-        alloc,
-        front,
-        intake.routes(),
-        machine,
-        keeper,
-        intake.bytes(),
-        request,
-        closing,
+    let text = answer(front, intake, machine, keeper, request, closing);
+    let bytes = intake.bytes();
+    log.tell(
+        request.method.of(bytes),
+        request.target.of(bytes),
+        text.bytes(),
     );
     write_all(sink, text.bytes())
 }
 
-/// What is answered to a request, as its text. What it changes is kept.
-pub fn answer<M: Machine, K: Keeper>(
-    alloc: Global,
+/// What is answered to a request that stands in the intake, as its text. What it changes is kept.
+fn answer<M: Machine, K: Keeper>(
     front: &Front<'_>,
-    routes: &Routes,
+    intake: &Intake,
     machine: &mut M,
     keeper: &mut K,
-    bytes: &[u8],
     request: &Request,
     closing: bool,
 ) -> Text
     requires told { IfTold (K.tables keeper.old) (M.rows machine.old) }
-    requires shows { (head : RequestHead) × ShowsRequest bytes.now request.now head }
-    ensures answered { (head : RequestHead) → ShowsRequest bytes.now request.now head
+    requires shows { (head : RequestHead) × ShowsRequest intake.now request.now head }
+    ensures answered { (head : RequestHead) → ShowsRequest intake.now request.now head
         → IsAnswered (K.is_steady keeper.old) (M.rows machine.old)
-        (command_over front.now (head, span_bytes bytes.now request.now.body)) closing
-        (asks_head (head, span_bytes bytes.now request.now.body)) (M.rows machine.new) (text_bytes result)
+        (command_over front.now (head, span_bytes intake.now request.now.body)) closing
+        (asks_head (head, span_bytes intake.now request.now.body)) (M.rows machine.new) (text_bytes result)
         (uses K.calls K.faults keeper.old) (uses K.calls K.faults keeper.new) }
     ensures told { IfTold (K.tables keeper.new) (M.rows machine.new) }
     ensures no_more { TellsNoMore (K.tables keeper.old) (K.tables keeper.new) }
     ensures steady { K.is_steady keeper.old → K.is_steady keeper.new }
 {
-    let asks_head = request.method.of(bytes) == b"HEAD".as_slice();
-    match command_over(alloc, front, routes, bytes, request) {
+    let alloc = intake.allocator();
+    let asks_head = request.method.of(intake.bytes()) == b"HEAD".as_slice();
+    match command_over(front, intake, request) {
         Ok(command) => perform(alloc, machine, keeper, &command, closing, asks_head),
         Err(why) => declined_text(alloc, &why, closing, asks_head),
     }

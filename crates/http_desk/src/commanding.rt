@@ -15,44 +15,38 @@ use crate::front::Front;
 use crate::parameters::route_in;
 use desk_json::command_of;
 use desk_words::{Command, Digest};
-use http_cut::{Request, RouteMatch, Routes};
+use http_cut::{Intake, Request, RouteMatch};
 use std::alloc::Global;
 
 /// The command that a whole request is over a front, or why it is answered before the machine.
 pub fn command_over(
-    alloc: Global,
     front: &Front<'_>,
-    routes: &Routes,
-    bytes: &[u8],
+    intake: &Intake,
     request: &Request,
 ) -> Result<Command, Declined>
-    requires { (head : RequestHead) × ShowsRequest bytes.now request.now head }
-    ensures command { (head : RequestHead) → ShowsRequest bytes.now request.now head
-        → Finds result (command_over front.now (head, span_bytes bytes.now request.now.body)) }
+    requires { (head : RequestHead) × ShowsRequest intake.now request.now head }
+    ensures command { (head : RequestHead) → ShowsRequest intake.now request.now head
+        → Finds result (command_over front.now (head, span_bytes intake.now request.now.body)) }
     ensures numbered { IfOk result (λ command. IsNumbered command) }
 {
-    match front.stop(bytes, request) {
+    match front.stop(intake.bytes(), request) {
         Some(why) => Err(why),
-        None => command_for(alloc, routes, bytes, request),
+        None => command_for(intake, request),
     }
 }
 
 /// The command that a whole request is, or the first test before the machine that it fails.
-fn command_for(
-    alloc: Global,
-    routes: &Routes,
-    bytes: &[u8],
-    request: &Request,
-) -> Result<Command, Declined>
-    requires { (head : RequestHead) × ShowsRequest bytes.now request.now head }
-    ensures command { (head : RequestHead) → ShowsRequest bytes.now request.now head
-        → Finds result (command_for (head, span_bytes bytes.now request.now.body)) }
+fn command_for(intake: &Intake, request: &Request) -> Result<Command, Declined>
+    requires { (head : RequestHead) × ShowsRequest intake.now request.now head }
+    ensures command { (head : RequestHead) → ShowsRequest intake.now request.now head
+        → Finds result (command_for (head, span_bytes intake.now request.now.body)) }
     ensures numbered { IfOk result (λ command. IsNumbered command) }
 {
-    let found = asked(routes, bytes, request)?;
+    let bytes = intake.bytes();
+    let found = asked(intake.routes(), bytes, request)?;
     let target = request.target.of(bytes);
     let body = request.body.of(bytes);
-    command_at(alloc, &found, digest_of(target, body), body)
+    command_at(intake.allocator(), &found, digest_of(target, body), body)
 }
 
 /// The command of a target that matched a pattern.

@@ -1,8 +1,7 @@
 //! The line by which an answered request is logged. Room for it is taken beforehand.
-ghost use Rattle.std.specs.Prelude.{◌≡◌, ◌+◌, ◌≤◌, [], ◌++◌, codes, length, IfOk};
-ghost use Rattle.desk_base.specs.declared.limits.TheConstants.{MAX_HEAD};
-ghost use Rattle.http_desk.specs.Logs.{status_in};
+ghost use Rattle.std.specs.Prelude.{◌≡◌, [], IfOk};
 
+use crate::log::Log;
 use desk_base::{MAX_HEAD as HEAD, NoMemory};
 use std::alloc::Global;
 use std::marker::Model;
@@ -43,21 +42,18 @@ impl LogLine {
     {
         self.line.as_slice()
     }
+}
 
-    /// Forgets the line.
-    pub fn clear(&mut self)
-        ensures { self.new ≡ [] }
-    {
+impl Log for LogLine {
+    ghost use Rattle.std.specs.Prelude.{Some};
+
+    ghost line = { λ l. Some l };
+
+    fn clear(&mut self) {
         self.line.clear();
     }
 
-    /// Tells of a request with this method and this target, which was answered with this text.
-    pub fn tell(&mut self, method: &[u8], target: &[u8], text: &[u8])
-        requires head { length method.now + length target.now ≤ MAX_HEAD }
-        requires response { 12 ≤ length text.now }
-        ensures { self.new
-            ≡ method.now ++ (codes " " ++ (target.now ++ (codes " " ++ (status_in text.now ++ codes "\n")))) }
-    {
+    fn tell(&mut self, method: &[u8], target: &[u8], text: &[u8]) {
         self.line.clear();
         self.line.extend_from_slice(method).unwrap();
         self.line.push(b' ').unwrap();

@@ -1,13 +1,15 @@
 //! Serving a stream of requests.
 ghost use Rattle.std.specs.Prelude.{◌≡◌, ◌≤◌, [], true};
 ghost use Rattle.keeper_core.specs.Keeping.{IfTold};
+ghost use Rattle.http_desk.specs.Logs.{LogsStream, ServesLogged};
 ghost use Rattle.http_desk.specs.Refusals.{refused_rest, refusal_text};
 ghost use Rattle.http_desk.specs.Scenes.{scene};
-ghost use Rattle.http_desk.specs.Streams.{IsEndOf, IsFaultless, RefusesRest, Streams, bad_end, fault_end};
-ghost use Rattle.http_desk.specs.Turns.{Serves, ServesPromptly};
+ghost use Rattle.http_desk.specs.Streams.{IfShown, IsEndOf, IsFaultless, RefusesRest, Streams, bad_end, fault_end};
+ghost use Rattle.http_desk.specs.Turns.{ServesPromptly};
 
 use crate::answering::respond;
 use crate::front::Front;
+use crate::log::{Log, NoLog};
 use crate::refusal::Refused;
 use desk_base::{Both, Failed, NoMemory, Sink, Source, write_all};
 use http_cut::{BadRest, Intake, IntakeFault, Step};
@@ -70,20 +72,20 @@ pub fn serve_stream<M: Machine, K: Keeper, S: Source, W: Sink>(
         (scene link.new.source link.new.sink machine.new keeper.new) result }
 {
     match Intake::new(alloc) {
-        Ok(mut intake) => serve_link(alloc, front, &mut intake, machine, keeper, link, limit),
+        Ok(mut intake) => serve_link(front, &mut intake, machine, keeper, link, limit, &mut NoLog),
         Err(NoMemory) => Ended::NoMemory,
     }
 }
 
-/// The same, with an intake that serves the links of many streams, one after another.
-pub fn serve_link<M: Machine, K: Keeper, S: Source, W: Sink>(
-    alloc: Global,
+/// The same, with an intake that serves the links of many streams, one after another, and a log.
+pub fn serve_link<M: Machine, K: Keeper, S: Source, W: Sink, L: Log>(
     front: &Front<'_>,
     intake: &mut Intake,
     machine: &mut M,
     keeper: &mut K,
     link: &mut Both<S, W>,
     limit: u32,
+    log: &mut L,
 ) -> Ended
     requires limit { 1 ≤ limit }
     requires told { IfTold (K.tables keeper.old) (M.rows machine.old) }
@@ -100,53 +102,59 @@ pub fn serve_link<M: Machine, K: Keeper, S: Source, W: Sink>(
         S.is_steady link.old.source → K.is_steady keeper.old
         → IsFaultless front.now (W.takes link.old.sink) limit (scene link.old.source link.old.sink machine.old keeper.old)
         (scene link.new.source link.new.sink machine.new keeper.new) result }
+
+    // A log that shows its line shows that of the last request that was answered, or no bytes where none was.
+    ensures logged { let scene = scene S.left S.read_faults W.written W.write_faults M.rows K.tables K.calls K.faults in
+        LogsStream front.now limit (scene link.old.source link.old.sink machine.old keeper.old)
+        (scene link.new.source link.new.sink machine.new keeper.new) result (L.line log.new) }
 {
     intake.clear();
-    serve(
-        alloc,
-        front,
-        intake,
-        machine,
-        keeper,
-        &mut link.source,
-        &mut link.sink,
-        limit,
-    )
+    log.clear();
+    serve(front, intake, machine, keeper, link, limit, log)
 }
 
-/// Answers the requests of a source in a sink, with an intake that holds no bytes.
-fn serve<M: Machine, K: Keeper, S: Source, W: Sink>(
-    alloc: Global,
+/// The same, with an intake that holds no bytes, and a log without a line.
+fn serve<M: Machine, K: Keeper, S: Source, W: Sink, L: Log>(
     front: &Front<'_>,
     intake: &mut Intake,
     machine: &mut M,
     keeper: &mut K,
-    source: &mut S,
-    sink: &mut W,
+    link: &mut Both<S, W>,
     limit: u32,
+    log: &mut L,
 ) -> Ended
     requires limit { 1 ≤ limit }
     requires empty { intake.old ≡ [] }
+    requires unlogged { IfShown (L.line log.old) [] }
     requires told { IfTold (K.tables keeper.old) (M.rows machine.old) }
     ensures { let scene = scene S.left S.read_faults W.written W.write_faults M.rows K.tables K.calls K.faults in
-        Serves S.reads front.now source.old source.new (S.is_steady source.old) (W.takes sink.old) (K.is_steady keeper.old) limit
-        (scene source.old sink.old machine.old keeper.old) (scene source.new sink.new machine.new keeper.new) result }
+        ServesLogged S.reads front.now link.old.source link.new.source (S.is_steady link.old.source)
+        (W.takes link.old.sink) (K.is_steady keeper.old) limit
+        (scene link.old.source link.old.sink machine.old keeper.old)
+        (scene link.new.source link.new.sink machine.new keeper.new) result (L.line log.new) }
 {
     let mut answered: u32 = 0;
     'requests: while answered < limit {
-        let step = match intake.next_step(source) {
+        let step = match intake.next_step(&mut link.source) {
             Ok(step) => step,
             Err(fault) => return fault_end(fault),
         };
         let request = match step {
             Step::Whole(request) => request,
             Step::NeedMore(_) => return end_of(intake.bytes()),
-            Step::Bad(kind, asks_head) => return refuse(sink, kind, asks_head),
+            Step::Bad(kind, asks_head) => return refuse(&mut link.sink, kind, asks_head),
         };
         answered += 1;
         let closing = answered == limit;
         match respond(
-            alloc, front, intake, machine, keeper, sink, &request, closing,
+            front,
+            intake,
+            machine,
+            keeper,
+            &mut link.sink,
+            &request,
+            closing,
+            log,
         ) {
             Ok(()) => intake.skip(request.body.end),
             Err(Failed) => return Ended::WriteFault,
@@ -156,7 +164,7 @@ fn serve<M: Machine, K: Keeper, S: Source, W: Sink>(
 }
 
 /// How a stream ends, of which no more could be taken.
-pub fn fault_end(fault: IntakeFault) -> Ended
+fn fault_end(fault: IntakeFault) -> Ended
     ensures { result ≡ fault_end fault }
 {
     match fault {
@@ -166,7 +174,7 @@ pub fn fault_end(fault: IntakeFault) -> Ended
 }
 
 /// How a stream ends, with these bytes after its last request.
-pub fn end_of(rest: &[u8]) -> Ended
+fn end_of(rest: &[u8]) -> Ended
     ensures { IsEndOf rest.now result }
 {
     if rest.is_empty() {
@@ -177,7 +185,7 @@ pub fn end_of(rest: &[u8]) -> Ended
 }
 
 /// Writes the response to a bad rest, which ends the stream.
-pub fn refuse<W: Sink>(sink: &mut W, kind: BadRest, asks_head: bool) -> Ended
+fn refuse<W: Sink>(sink: &mut W, kind: BadRest, asks_head: bool) -> Ended
     ensures { RefusesRest (W.takes sink.old) (W.written sink.old) (W.written sink.new) (W.write_faults sink.old)
         (W.write_faults sink.new) kind (refusal_text (refused_rest kind) true asks_head) result }
 {

@@ -16,6 +16,7 @@ use Rattle.fixdesk_run.specs.Serve.{Serves}
 use Rattle.fixdesk_run.specs.Site.{Door, PassesAll, Site}
 use Rattle.fixdesk_run.specs.Standing.{Standing}
 use Rattle.fixdesk_run.specs.Visits.{AreClosed, AreHandedOut, Visit, most_visits, refusals, sure_visits}
+use Rattle.fixdesk_run.proofs.Beginnings.{begun_at}
 use Rattle.fixdesk_run.proofs.Visiting.{PassesAll-none, Serves-no_more, with_keeper}
 use Rattle.web_run.specs.Links.{EndsLinks, log_of_visits}
 use Rattle.web_run.specs.Serving.{EndsPages, TakesAll, listens_line}
@@ -133,16 +134,16 @@ EndsPages-unsaid front plan begun old new door desk accepted live part = (
 -- ---- a call
 
 -- what is left where a machine began does not speak of the keeper before
-pub EndsPages-before : (front : Front) (plan : Plan) (begun : Standing) (old : Site) (told : Option Rows)
-    (used : Uses) (new : Site) (end : ServeEnd) → EndsPages front plan begun old new end
-    → EndsPages front plan begun (with_keeper old told used) new end
+EndsPages-before : (front : Front) (plan : Plan) (begun : Standing) (old : Site) (told : Option Rows)
+    (used : Uses) (new : Site) (end : ServeEnd) → EndsPages front plan begun (with_keeper old told used) new end
+    → EndsPages front plan begun old new end
 EndsPages-before front plan begun old told used new Done ends = ends
 EndsPages-before front plan begun old told used new WriteFault ends = ends
 EndsPages-before front plan begun old told used new NoMemory ends = ends
 EndsPages-before front plan begun old told used new DoorFault ends = ends
 
 -- what is told in the end was told when the machine began
-pub EndsPages-no_more : (front : Front) (plan : Plan) (begun : Standing) (old new : Site) (end : ServeEnd)
+EndsPages-no_more : (front : Front) (plan : Plan) (begun : Standing) (old new : Site) (end : ServeEnd)
     → EndsPages front plan begun old new end → TellsNoMore begun.told new.world.told
 EndsPages-no_more front plan begun old new Done ends = Serves-no_more front plan.port begun old.door new ends.0 ends.1
 EndsPages-no_more front plan begun old new WriteFault ends =
@@ -152,6 +153,14 @@ EndsPages-no_more front plan begun old new DoorFault ends = elim ends.0 [
   | inl idle ↦ λ some. subst IsSome idle.0.told some
   | inr served ↦ Serves-no_more front plan.port begun old.door new served.0 served.1
 ]
+
+-- what serving leaves does not speak of the keeper before, and what is told in the end was told when the machine began
+pub EndsPages-begun : (front : Front) (plan : Plan) (begun : Standing) (old new : Site) (end : ServeEnd)
+    → EndsPages front plan begun (begun_at old begun) new end
+    → EndsPages front plan begun old new end × TellsNoMore begun.told new.world.told
+EndsPages-begun front plan begun old new end ends =
+    let all = EndsPages-before front plan begun old begun.told begun.uses new end ends in
+    (all, EndsPages-no_more front plan begun old new end all)
 
 -- ---- an output that takes all
 

@@ -9,13 +9,15 @@ use Rattle.std.proofs.Math.Seq.{take-append-add}
 use Rattle.desk_base.specs.Faults.{AppendsPart}
 use Rattle.desk_base.proofs.Growth.{Appends-then}
 use Rattle.http_desk.specs.Fronts.{Front}
-use Rattle.http_desk.specs.Logs.{log_of}
+use Rattle.http_desk.specs.declared.serving.Ended.{Ended}
+use Rattle.http_desk.specs.Logs.{last_line, log_of}
+use Rattle.http_desk.proofs.Logging.{Streams-log}
 use Rattle.http_desk.proofs.Taking.{Appends-none}
-use Rattle.fixdesk_run.specs.Site.{Door, PassesAll}
+use Rattle.fixdesk_run.specs.Site.{Door, LogsOne, PassesAll}
 use Rattle.fixdesk_run.specs.Standing.{Standing}
-use Rattle.fixdesk_run.specs.Visits.{Visit}
+use Rattle.fixdesk_run.specs.Visits.{IsVisit, Visit}
 use Rattle.fixdesk_run.proofs.Visiting.{PassesAll-none, PassesAll-push}
-use Rattle.web_run.specs.Links.{LogsOne, log_of_visits}
+use Rattle.web_run.specs.Links.{log_of_visits}
 
 -- a text grew, and then by a part of another
 pub AppendsPart-then : (old mid new : Option (List ℕ)) (xs ys : List ℕ) → Appends old mid xs → AppendsPart mid new ys
@@ -26,6 +28,11 @@ AppendsPart-then old mid new xs ys first (count, short, second) = (
   subst (λ (text : List ℕ). Appends old new text) (sym (take-append-add xs ys count))
       (Appends-then old mid new xs (take count ys) first second),
 )
+
+-- the line of the request of one link is its log
+visit-log : {front : Front} {before : Standing} {visit : Visit} → IsVisit front before visit
+    → last_line [] visit.answers ≡ log_of visit.answers
+visit-log is = rw is.answers (Streams-log is.streams)
 
 -- the log of one link more
 pub log_of_visits-push : (visits : List Visit) (visit : Visit)
@@ -62,26 +69,26 @@ pub record Served (front : Front) (before after : Standing) (old new : Door) (sa
   pub written : Appends said now earlier
   pub log : log_of_visits visits ≡ earlier ++ text
 
-pub Served-push : (front : Front) (before mid after : Standing) (old now new : Door) (said saying : Option (List ℕ))
-    (count : ℕ) (text : List ℕ) → Logged front before mid old now said saying count
-    → LogsOne front mid after now new text → Served front before after old new said saying count text
-Served-push front before mid after old now new said saying count text logged one =
-    let visit = one.passes.visit in
+pub Served-push : {front : Front} {before mid after : Standing} {old now new : Door} {said saying : Option (List ℕ)}
+    {count : ℕ} {text : List ℕ} {end : Ended} → Logged front before mid old now said saying count
+    → LogsOne front mid after now new (Some text) end → Served front before after old new said saying count text
+Served-push {front} {mid} {text} logged (passes, line) =
+    let visit = passes.visit in
     record {
       visits = logged.visits ++ visit ∷ [];
-      pass = PassesAll-push front before mid after old now new one.end logged.visits logged.pass one.passes;
+      pass = PassesAll-push logged.pass passes;
       all = length_push logged.visits visit ∙ ap (λ (n : ℕ). n + 1) logged.all;
       earlier = log_of_visits logged.visits;
       written = logged.written;
       log = log_of_visits-push logged.visits visit
-          ∙ ap (λ (line : List ℕ). log_of_visits logged.visits ++ line) (sym one.is);
+          ∙ ap (λ (log : List ℕ). log_of_visits logged.visits ++ log) (sym (line ∙ visit-log passes.is));
     }
 
 -- and logged
-pub Logged-then : (front : Front) (before after : Standing) (old new : Door) (said mid saying : Option (List ℕ))
-    (count : ℕ) (text : List ℕ) → Served front before after old new said mid count text → Appends mid saying text
+pub Logged-then : {front : Front} {before after : Standing} {old new : Door} {said mid saying : Option (List ℕ)}
+    {count : ℕ} {text : List ℕ} → Served front before after old new said mid count text → Appends mid saying text
     → Logged front before after old new said saying (count + 1)
-Logged-then front before after old new said mid saying count text served writes = record {
+Logged-then {said} {mid} {saying} {text} served writes = record {
   visits = served.visits;
   pass = served.pass;
   all = served.all;
@@ -90,9 +97,9 @@ Logged-then front before after old new said mid saying count text served writes 
 }
 
 -- or logged in part
-pub log-part : (front : Front) (before after : Standing) (old new : Door) (said mid saying : Option (List ℕ))
-    (count : ℕ) (text : List ℕ) → (served : Served front before after old new said mid count text)
+pub log-part : {front : Front} {before after : Standing} {old new : Door} {said mid : Option (List ℕ)} {count : ℕ}
+    {text : List ℕ} (saying : Option (List ℕ)) (served : Served front before after old new said mid count text)
     → AppendsPart mid saying text → AppendsPart said saying (log_of_visits served.visits)
-log-part front before after old new said mid saying count text served part =
+log-part {said} {mid} {text} saying served part =
     subst (λ (log : List ℕ). AppendsPart said saying log) (sym served.log)
     (AppendsPart-then said mid saying served.earlier text served.written part)

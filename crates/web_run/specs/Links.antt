@@ -3,21 +3,14 @@ use Rattle.std.specs.Prelude.{◌≡◌, ℕ, ◌<◌, ◌≤◌, List, length}
 use Rattle.std.specs.List.{flat_map}
 use Rattle.desk_base.specs.Faults.{Rose}
 use Rattle.desk_links.specs.Doors.{LinkSeen}
-use Rattle.http_desk.specs.declared.serving.Ended.{Ended}
 use Rattle.http_desk.specs.Fronts.{Front}
 use Rattle.http_desk.specs.Logs.{log_of}
 use Rattle.fixdesk_run.specs.declared.serving.ServeEnd.{ServeEnd}
 use Rattle.fixdesk_run.specs.declared.serving.ServeEnd.TheVariants.{Done, WriteFault, NoMemory, DoorFault}
 use Rattle.fixdesk_run.specs.Link.{Says, SaysPart}
-use Rattle.fixdesk_run.specs.Site.{Door, PassesAll, PassesOne}
+use Rattle.fixdesk_run.specs.Site.{Door, PassesAll}
 use Rattle.fixdesk_run.specs.Standing.{Standing}
 use Rattle.fixdesk_run.specs.Visits.{Visit}
-
--- the next link was handed out, served over a front and the desk before, and closed, and this is its log
-pub record LogsOne (front : Front) (before after : Standing) (old new : Door) (text : List ℕ) : Type 0 where
-  pub end : Ended
-  pub passes : PassesOne front before after old new end
-  pub is : text ≡ log_of passes.visit.answers
 
 -- the log of links: the lines of all requests that were answered, in their order
 abbrev pub log_of_visits : List Visit → List ℕ

@@ -1,21 +1,18 @@
 -- What a call of `serve_pages` leaves of the output, the keeper and the door, and when no fault comes.
-use Rattle.std.specs.Prelude.{◌≡◌, ◌⊎◌, ℕ, ◌<◌, ◌≤◌, List, ◌++◌, length, Option, Some, None, codes, decimal}
+use Rattle.std.specs.Prelude.{◌≡◌, ◌⊎◌, ℕ, ◌<◌, ◌≤◌, List, ◌++◌, length, Some, codes, decimal}
 use Rattle.desk_base.specs.Faults.{Rose}
 use Rattle.json_parts.specs.Shapes.{line}
 use Rattle.desk_words.specs.Tables.{Rows}
-use Rattle.keeper_core.specs.Keeping.{LoadsHeld}
-use Rattle.machine_core.specs.Starting.{AreStarted}
 use Rattle.http_desk.specs.declared.front.Page.{Page}
 use Rattle.http_desk.specs.Fronts.{Front}
 use Rattle.fixdesk_run.specs.declared.plan.Plan.{Plan}
 use Rattle.fixdesk_run.specs.declared.serving.ServeEnd.{ServeEnd}
 use Rattle.fixdesk_run.specs.declared.serving.ServeEnd.TheVariants.{Done, WriteFault, NoMemory, DoorFault}
 use Rattle.fixdesk_run.specs.Link.{IsSilent, Says, SaysPart}
-use Rattle.fixdesk_run.specs.Serve.{IsIdle, Serves, StaysClosed, end_code}
-use Rattle.fixdesk_run.specs.Site.{IsUnchanged, Later, Site}
+use Rattle.fixdesk_run.specs.Serve.{IsIdle, Leaves, Serves}
+use Rattle.fixdesk_run.specs.Site.{IsUnchanged, Site}
 use Rattle.fixdesk_run.specs.Standing.{Standing}
 use Rattle.fixdesk_run.specs.Visits.{Visit}
-use Rattle.fixdesk_run.specs.World.{IsUncalled, loaded}
 use Rattle.web_run.specs.Links.{log_of_visits}
 use Rattle.web_run.specs.Plans.{web_plan}
 
@@ -55,35 +52,9 @@ EndsPages front plan begun old new DoorFault =
 
 -- ---- a call
 
--- the usage line was written, or a part of it where the output failed; keeper and door were not called
-pub record TellsWebUsage (old new : Site) (code : ℕ) : Type 0 where
-  pub uncalled : IsUncalled old.world new.world
-  pub unbound : new.door ≡ old.door
-  pub written : ((code ≡ 1) × Says web_usage old.world.link new.world.link)
-      ⊎ ((code ≡ 3) × SaysPart web_usage old.world.link new.world.link)
-
--- a machine began over the tables that were loaded, and served links; these are the tables that the keeper held at
--- first, where it tells tables in the end
-pub record ServesPages (holds : Rows → Type 0) (pages : List Page) (plan : Plan) (old new : Site) (code : ℕ) : Type 0
-  where
-    pub begun : Standing
-    pub started : AreStarted old.world.told begun.told begun.tables
-    pub held : LoadsHeld holds new.world.told begun.tables
-    pub called_once : begun.uses ≡ loaded old.world.uses
-    pub end : ServeEnd
-    pub told : code ≡ end_code end
-    pub ends : EndsPages (front_of pages plan) plan begun old new end
-
--- what is left by a plan, or by words that are none, with this exit status, over a keeper that held such tables
-abbrev pub EndsWeb : (Rows → Type 0) → List Page → Option Plan → Site → Site → ℕ → Type 0
-EndsWeb holds pages None old new code = TellsWebUsage old new code
-EndsWeb holds pages (Some plan) old new code = StaysClosed old new code ⊎ ServesPages holds pages plan old new code
-
 -- what a call with these pages and these words leaves over a keeper that held such tables, and answers
-pub record LeavesPages (holds : Rows → Type 0) (pages : List Page) (words : List (List ℕ)) (old new : Site) (code : ℕ)
-    : Type 0 where
-  pub ends : EndsWeb holds pages (web_plan words) old new code
-  pub later : Later old new
+abbrev pub LeavesPages : (Rows → Type 0) → List Page → List (List ℕ) → Site → Site → ℕ → Type 0
+LeavesPages holds pages words = Leaves web_usage holds (λ plan. EndsPages (front_of pages plan) plan) (web_plan words)
 
 -- ---- steady devices
 

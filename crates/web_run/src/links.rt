@@ -1,27 +1,23 @@
 //! The links of a door, served one after another, and logged.
-ghost use Rattle.std.specs.Prelude.{◌≡◌, ◌+◌, ◌≤◌, ◌⊎◌, ℕ, IfOk, IsOk, OnErr, Some, None};
-ghost use Rattle.desk_base.specs.Faults.{Rose};
-ghost use Rattle.desk_links.specs.Doors.{MayAccept};
+ghost use Rattle.std.specs.Prelude.{◌≡◌, ◌≤◌, Some, None};
 ghost use Rattle.keeper_core.specs.Keeping.{IfTold};
 ghost use Rattle.fixdesk_run.specs.Link.{link_with};
-ghost use Rattle.fixdesk_run.specs.Site.{IsUnchanged, door_seen};
+ghost use Rattle.fixdesk_run.specs.Site.{door_seen};
 ghost use Rattle.fixdesk_run.specs.Standing.{standing};
-ghost use Rattle.web_run.specs.Links.{EndsLinks, LogsOne};
+ghost use Rattle.web_run.specs.Links.{EndsLinks};
 ghost use Rattle.web_run.specs.Serving.{TakesAll};
 
 use desk_base::{Failed, Sink, write_all};
 use desk_links::Listener;
-use fixdesk_run::ServeEnd;
+use fixdesk_run::{ServeEnd, serve_next};
 use http_cut::Intake;
-use http_desk::{Front, LogLine, serve_logged};
+use http_desk::{Front, LogLine};
 use keeper_core::Keeper;
 use machine_core::Machine;
-use std::alloc::Global;
 
 /// Serves so many links of a door that was bound, over a front, one after another, with one intake for all of them, and
 /// logs each on the output once it is closed.
 pub fn serve_links<M: Machine + Drop, K: Keeper, L: Listener, W: Sink>(
-    alloc: Global,
     front: &Front<'_>,
     count: u32,
     intake: &mut Intake,
@@ -47,8 +43,8 @@ pub fn serve_links<M: Machine + Drop, K: Keeper, L: Listener, W: Sink>(
 {
     let mut served: u32 = 0;
     'links: while served < count {
-        if let Err(Failed) = serve_next::<M, K, L>(
-            alloc, front, intake, log, machine, keeper, door,
+        if let Err(Failed) = serve_next::<M, K, L, LogLine>(
+            front, intake, machine, keeper, door, log,
         ) {
             return ServeEnd::DoorFault;
         }
@@ -58,35 +54,4 @@ pub fn serve_links<M: Machine + Drop, K: Keeper, L: Listener, W: Sink>(
         served += 1;
     }
     ServeEnd::Done
-}
-
-/// Serves the next link of a door over a front, with at most one request, closes it, and tells its log.
-fn serve_next<M: Machine + Drop, K: Keeper, L: Listener>(
-    alloc: Global,
-    front: &Front<'_>,
-    intake: &mut Intake,
-    log: &mut LogLine,
-    machine: &mut M,
-    keeper: &mut K,
-    door: &mut L,
-) -> Result<(), Failed>
-    requires idle { L.live door.old ≡ 0 }
-    requires bound { MayAccept (L.accepted door.old) }
-    requires told { IfTold (K.tables keeper.old) (M.rows machine.old) }
-    ensures logged { let desk = standing M.rows K.tables K.calls K.faults in
-        let seen = door_seen L.door_faults L.port L.accepted L.live L.waiting L.closed in
-        IfOk result (λ _. LogsOne front.now (desk machine.old keeper.old) (desk machine.new keeper.new)
-        (seen door.old) (seen door.new) log.new) }
-    ensures refused { let desk = standing M.rows K.tables K.calls K.faults in
-        let seen = door_seen L.door_faults L.port L.accepted L.live L.waiting L.closed in
-        OnErr result ((desk machine.new keeper.new ≡ desk machine.old keeper.old)
-        × IsUnchanged (seen door.old) (seen door.new) × Rose (L.door_faults door.old) (L.door_faults door.new)) }
-    ensures told { IfTold (K.tables keeper.new) (M.rows machine.new) }
-    ensures later { L.door_faults door.old ≤ L.door_faults door.new }
-    ensures offers { (count : ℕ) → L.offers door.old (count + 1) → IsOk result × L.offers door.new count }
-{
-    let mut link = door.accept()?;
-    let _end = serve_logged(alloc, front, intake, machine, keeper, &mut link, log);
-    door.close(link);
-    Ok(())
 }

@@ -1,5 +1,5 @@
 //! The top call of the program `fixdesk_web`.
-ghost use Rattle.std.specs.Prelude.{◌≡◌, ◌⊎◌, map, string_bytes, None};
+ghost use Rattle.std.specs.Prelude.{◌≡◌, ◌⊎◌, map, string_bytes};
 ghost use Rattle.keeper_core.specs.Keeping.{IfTold};
 ghost use Rattle.fixdesk_run.specs.Serve.{AreSteadyFor, IsServedFaultless, end_code};
 ghost use Rattle.fixdesk_run.specs.Site.{Later, site};
@@ -10,15 +10,18 @@ ghost use Rattle.web_run.specs.Serving.{EndsPages, LeavesPages, TakesAll};
 use crate::links::serve_links;
 use crate::pages::PageTable;
 use crate::plan::web_plan;
-use crate::saying::{listens_line, tell_usage};
+use crate::saying::listens_line;
 use desk_base::{Failed, NoMemory, Sink, write_all};
 use desk_links::Listener;
-use fixdesk_run::{Plan, ServeEnd, stay_shut};
+use fixdesk_run::{Plan, ServeEnd, stay_shut, tell_usage};
 use http_cut::Intake;
 use http_desk::{Front, LogLine};
 use keeper_core::Keeper;
 use machine_core::Machine;
 use std::alloc::Global;
+
+/// The line that answers words which are neither a port nor a port and a count.
+const USAGE: &[u8] = b"usage: fixdesk_web PORT [COUNT]\n";
 
 /// Serves the links of a door and these pages, as the words say, which are without the program's name: a port, from 1
 /// to 65,535, and how many links, from 1 to 1,000,000; without that word as many as a door hands out, which is
@@ -49,52 +52,24 @@ pub fn serve_pages<M: Machine + Drop, K: Keeper, P: PageTable, L: Listener, W: S
         → IsServedFaultless plan result }
 {
     let Some(plan) = web_plan(words) else {
-        return tell_usage(out).code();
+        return tell_usage(USAGE, out).code();
     };
-    match M::start(alloc, keeper) {
-        Ok(mut machine) => {
-            let front = Front::guarded(plan.port, pages.pages());
-            serve_plan(alloc, &front, plan, &mut machine, keeper, door, out).code()
-        }
-        Err(fail) => stay_shut(alloc, fail, out).code(),
-    }
+    let mut machine = match M::start(alloc, keeper) {
+        Ok(machine) => machine,
+        Err(fail) => return stay_shut(alloc, fail, out).code(),
+    };
+    let front = Front::guarded(plan.port, pages.pages());
+    let mut intake = match Intake::new(alloc) {
+        Ok(intake) => intake,
+        Err(NoMemory) => return ServeEnd::NoMemory.code(),
+    };
+    let end = serve_plan(&front, plan, &mut intake, &mut machine, keeper, door, out);
+    drop(intake);
+    end.code()
 }
 
 /// Serves the links of a plan over a front and a machine that began, with one intake and one line for all of them.
 fn serve_plan<M: Machine + Drop, K: Keeper, L: Listener, W: Sink>(
-    alloc: Global,
-    front: &Front<'_>,
-    plan: Plan,
-    machine: &mut M,
-    keeper: &mut K,
-    door: &mut L,
-    out: &mut W,
-) -> ServeEnd
-    requires idle { L.live door.old ≡ 0 }
-    requires told { IfTold (K.tables keeper.old) (M.rows machine.old) }
-    ensures ends { let site = site W.written W.write_faults K.tables K.calls K.faults L.door_faults L.port L.accepted
-        L.live L.waiting L.closed in
-        EndsPages front.now plan (standing M.rows K.tables K.calls K.faults machine.old keeper.old)
-        (site out.old keeper.old door.old) (site out.new keeper.new door.new) result }
-    ensures later { let site = site W.written W.write_faults K.tables K.calls K.faults L.door_faults L.port
-        L.accepted L.live L.waiting L.closed in
-        Later (site out.old keeper.old door.old) (site out.new keeper.new door.new) }
-    ensures idle { L.live door.new ≡ 0 }
-    ensures complete { L.offers door.old plan.count → TakesAll (W.takes out.old)
-        → (end_code result ≡ 0) ⊎ (end_code result ≡ 5) }
-{
-    let mut intake = match Intake::new(alloc) {
-        Ok(intake) => intake,
-        Err(NoMemory) => return ServeEnd::NoMemory,
-    };
-    let end = serve_with(alloc, front, plan, &mut intake, machine, keeper, door, out);
-    drop(intake);
-    end
-}
-
-/// The same with this intake.
-fn serve_with<M: Machine + Drop, K: Keeper, L: Listener, W: Sink>(
-    alloc: Global,
     front: &Front<'_>,
     plan: Plan,
     intake: &mut Intake,
@@ -116,6 +91,7 @@ fn serve_with<M: Machine + Drop, K: Keeper, L: Listener, W: Sink>(
     ensures complete { L.offers door.old plan.count → TakesAll (W.takes out.old)
         → (end_code result ≡ 0) ⊎ (end_code result ≡ 5) }
 {
+    let alloc = intake.allocator();
     let mut log = match LogLine::new(alloc) {
         Ok(log) => log,
         Err(NoMemory) => return ServeEnd::NoMemory,
@@ -131,6 +107,6 @@ fn serve_with<M: Machine + Drop, K: Keeper, L: Listener, W: Sink>(
         return ServeEnd::WriteFault;
     }
     serve_links(
-        alloc, front, plan.count, intake, &mut log, machine, keeper, door, out,
+        front, plan.count, intake, &mut log, machine, keeper, door, out,
     )
 }

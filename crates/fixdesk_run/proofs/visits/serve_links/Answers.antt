@@ -24,17 +24,11 @@ links-init g c =
 -- one more was served
 pub links-preserved : goal.links-preserved
 links-preserved g c =
-    let desk = standing g.M.Machine.rows g.K.Keeper.tables g.K.Keeper.calls g.K.Keeper.faults in
-    let seen = door_seen g.L.Listener.door_faults g.L.Listener.port g.L.Listener.accepted g.L.Listener.live
-    g.L.Listener.waiting g.L.Listener.closed in
     let left = c.args.count - (c.links.served + 1) in
     let more : c.args.count - c.links.served ≡ left + 1 = omega (arith, c.links-test.true) in
     record {
       passed = rw (c.from-early.ensures, c.is_early.ensures)
-          (PassesCount-push c.args.front.now (desk c.args.machine.now c.args.keeper.now) (desk c.links.machine c.links.keeper)
-          (desk c.serve_next.new.machine c.serve_next.new.keeper) (seen c.args.door.now) (seen c.links.door)
-          (seen c.serve_next.new.door) c.in_ok-end.end c.links.served c.links.early c.links.invariant.passed
-          c.in_ok-end.ensures.passed);
+          (PassesCount-push c.links.invariant.passed c.in_ok-end.ensures.passed.0);
       told = c.serve_next.ensures.told;
       later = omega (arith, c.links.invariant.later, c.serve_next.ensures.later);
       offers = λ offers.

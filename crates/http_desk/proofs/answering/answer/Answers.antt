@@ -15,10 +15,10 @@ returns-in-Err-clause-answered g c =
     let steady : Type 0 = g.K.Keeper.is_steady c.args.keeper.now in
     let rows = g.M.Machine.rows c.args.machine.now in
     let used = uses g.K.Keeper.calls g.K.Keeper.faults c.args.keeper.now in
-    let asks = command_over c.args.front.now (head, span_bytes c.args.bytes.now c.args.request.now.body) in
+    let asks = command_over c.args.front.now (head, span_bytes c.args.intake.now c.args.request.now.body) in
     let named : c.eq-asks_head.result ≡ bytes_eq c.of.result.now (codes "HEAD") = search rules in
     let method : c.of.result.now ≡ head.method =
-    subst (λ (m : List ℕ). c.of.result.now ≡ m) shows.method c.of.ensures in
+    subst (λ (m : List ℕ). c.of.result.now ≡ m) shows.method (rw c.bytes.ensures at c.of.ensures) in
     let same : c.eq-asks_head.result ≡ bytes_eq head.method (codes "HEAD") =
     subst (λ (m : List ℕ). c.eq-asks_head.result ≡ bytes_eq m (codes "HEAD")) method named in
     subst (λ (asks_head : Bool). IsAnswered steady rows asks c.args.closing asks_head rows

@@ -10,14 +10,14 @@ use Rattle.http_desk.proofs.commanding.command_over.Goals as goal
 -- the front stopped it
 pub returns-in-Some-clause-command : goal.returns-in-Some-clause-command
 returns-in-Some-clause-command c = λ head shows apart.
-    let body = span_bytes c.args.bytes.now c.args.request.now.body in
+    let body = span_bytes c.args.intake.now c.args.request.now.body in
     ap (λ (why : Option Declined). or_stopped why (command_for (head, body)))
-    (sym (c.stop.ensures head shows) ∙ c.in-Some.is)
+    (sym ((rw c.bytes.ensures at c.stop.ensures) head shows) ∙ c.in-Some.is)
 
 -- nothing did
 pub returns-in-None-clause-command : goal.returns-in-None-clause-command
 returns-in-None-clause-command c = λ head shows.
-    let body = span_bytes c.args.bytes.now c.args.request.now.body in
-    let none = sym (c.stop.ensures head shows) ∙ c.in-None.is in
+    let body = span_bytes c.args.intake.now c.args.request.now.body in
+    let none = sym ((rw c.bytes.ensures at c.stop.ensures) head shows) ∙ c.in-None.is in
     subst (Finds c.command_for.result) (sym (nothing-stops c.args.front.now (head, body) none))
     (c.command_for.ensures.command head shows)

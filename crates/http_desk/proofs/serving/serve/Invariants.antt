@@ -1,6 +1,8 @@
-use Rattle.std.proofs.Common.{◌-◌, ◌<◌, ◌≤◌, length}
+use Rattle.std.proofs.Common.{◌-◌, ◌<◌, ◌≤◌, [], length}
 use Rattle.http_cut.specs.declared.intake.TheConstants.{PIECE}
+use Rattle.http_desk.specs.Logs.{last_line}
 use Rattle.http_desk.specs.Scenes.{scene}
+use Rattle.http_desk.specs.Streams.{IfShown}
 use Rattle.http_desk.proofs.Underway.{Serving}
 use Rattle.http_desk.proofs.serving.serve.Given as goal
 
@@ -9,11 +11,12 @@ invariant-requests g l =
     let at = scene g.S.Source.left g.S.Source.read_faults g.W.Sink.written g.W.Sink.write_faults g.M.Machine.rows
     g.K.Keeper.tables g.K.Keeper.calls g.K.Keeper.faults in
     record {
-      serving : Serving l.front g.S.Source.reads l.fn.source l.source l.intake (g.K.Keeper.is_steady l.fn.keeper)
-          (g.W.Sink.takes l.fn.sink) (g.W.Sink.takes l.sink) l.limit
-          (at l.fn.source l.fn.sink l.fn.machine l.fn.keeper) (at l.source l.sink l.machine l.keeper) l.answered
-          l.intake;
-      reads : g.S.Source.is_steady l.fn.source → g.S.Source.is_steady l.source;
+      serving : Serving l.front g.S.Source.reads l.fn.link.source l.link.source l.intake
+          (g.K.Keeper.is_steady l.fn.keeper) (g.W.Sink.takes l.fn.link.sink) (g.W.Sink.takes l.link.sink) l.limit
+          (at l.fn.link.source l.fn.link.sink l.fn.machine l.fn.keeper)
+          (at l.link.source l.link.sink l.machine l.keeper) l.answered l.intake;
+      logged : IfShown (g.L.Log.line l.log) (last_line [] serving.answers);
+      reads : g.S.Source.is_steady l.fn.link.source → g.S.Source.is_steady l.link.source;
       keeps : g.K.Keeper.is_steady l.fn.keeper → g.K.Keeper.is_steady l.keeper;
       within : l.answered ≤ l.limit;
       few : length l.intake < PIECE;

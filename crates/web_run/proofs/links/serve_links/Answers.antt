@@ -35,14 +35,7 @@ returns-in-Err-clause-complete g c = λ offers takes.
 -- the last link was logged in part
 pub returns-in-Err-write_all-clause-ends : goal.returns-in-Err-write_all-clause-ends
 returns-in-Err-write_all-clause-ends g c =
-    let desk = standing g.M.Machine.rows g.K.Keeper.tables g.K.Keeper.calls g.K.Keeper.faults in
-    let seen = door_seen g.L.Listener.door_faults g.L.Listener.port g.L.Listener.accepted g.L.Listener.live
-    g.L.Listener.waiting g.L.Listener.closed in
-    let served = Served-push c.args.front.now (desk c.args.machine.now c.args.keeper.now)
-    (desk c.links.machine c.links.keeper) (desk c.serve_next.new.machine c.serve_next.new.keeper)
-    (seen c.args.door.now) (seen c.links.door) (seen c.serve_next.new.door) (g.W.Sink.written c.args.out.now)
-    (g.W.Sink.written c.links.out) c.links.served c.serve_next.new.log c.links.invariant.logged
-    c.in_default.ensures.logged in
+    let served = Served-push c.links.invariant.logged c.in_default.ensures.passed in
     let below = c.links-test.true in
     let all = served.all in
     let before = c.links.invariant.later_out in
@@ -52,11 +45,7 @@ returns-in-Err-write_all-clause-ends g c =
       omega (arith, below, all),
       record {
         unread = record { left = refl; read_faults = refl };
-        written = log-part c.args.front.now (desk c.args.machine.now c.args.keeper.now)
-            (desk c.serve_next.new.machine c.serve_next.new.keeper) (seen c.args.door.now)
-            (seen c.serve_next.new.door) (g.W.Sink.written c.args.out.now) (g.W.Sink.written c.links.out)
-            (g.W.Sink.written c.write_all.new.sink) c.links.served c.serve_next.new.log served
-            (rw c.bytes.ensures at c.in-Err-write_all.ensures.part);
+        written = log-part _ served (rw c.bytes.ensures at c.in-Err-write_all.ensures.part);
         failed = omega (arith, before, rose);
       },
     )
@@ -64,14 +53,7 @@ returns-in-Err-write_all-clause-ends g c =
 -- the next link was served and logged
 pub links-preserved : goal.links-preserved
 links-preserved g c =
-    let desk = standing g.M.Machine.rows g.K.Keeper.tables g.K.Keeper.calls g.K.Keeper.faults in
-    let seen = door_seen g.L.Listener.door_faults g.L.Listener.port g.L.Listener.accepted g.L.Listener.live
-    g.L.Listener.waiting g.L.Listener.closed in
-    let served = Served-push c.args.front.now (desk c.args.machine.now c.args.keeper.now)
-    (desk c.links.machine c.links.keeper) (desk c.serve_next.new.machine c.serve_next.new.keeper)
-    (seen c.args.door.now) (seen c.links.door) (seen c.serve_next.new.door) (g.W.Sink.written c.args.out.now)
-    (g.W.Sink.written c.links.out) c.links.served c.serve_next.new.log c.links.invariant.logged
-    c.in_default.ensures.logged in
+    let served = Served-push c.links.invariant.logged c.in_default.ensures.passed in
     let left : ℕ = c.args.count - c.links.served - 1 in
     let below = c.links-test.true in
     let before = c.links.invariant.later in
@@ -79,10 +61,7 @@ links-preserved g c =
     let before_out = c.links.invariant.later_out in
     let now_out = c.write_all.ensures.cause.later in
     record {
-      logged = Logged-then c.args.front.now (desk c.args.machine.now c.args.keeper.now)
-          (desk c.serve_next.new.machine c.serve_next.new.keeper) (seen c.args.door.now) (seen c.serve_next.new.door)
-          (g.W.Sink.written c.args.out.now) (g.W.Sink.written c.links.out) (g.W.Sink.written c.write_all.new.sink)
-          c.links.served c.serve_next.new.log served (rw c.bytes.ensures at c.in_default-write_all.ensures.written);
+      logged = Logged-then served (rw c.bytes.ensures at c.in_default-write_all.ensures.written);
       told = c.serve_next.ensures.told;
       later = omega (arith, before, now);
       later_out = omega (arith, before_out, now_out);

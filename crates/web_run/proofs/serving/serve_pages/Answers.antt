@@ -1,95 +1,72 @@
 use Rattle.std.proofs.Common.{◌≡◌, ◌∙◌, ℕ, List, length, map, refl, sym, inl, inr, arith, string_bytes}
 use Rattle.std.specs.Prelude.{None, Some}
-use Rattle.keeper_core.specs.Keeping.{uses}
-use Rattle.once_run.specs.Status.{status_code}
-use Rattle.fixdesk_run.specs.Site.{Site, site}
-use Rattle.fixdesk_run.specs.Standing.{standing}
-use Rattle.fixdesk_run.proofs.Openings.{is_shut, is_used, shut_code, stays_shut, takes_fail}
-use Rattle.fixdesk_run.proofs.Served.{is_loaded}
+use Rattle.fixdesk_run.specs.declared.serving.ServeEnd.TheVariants.{NoMemory}
+use Rattle.fixdesk_run.specs.Site.{Site}
+use Rattle.fixdesk_run.proofs.Beginnings.{IsSilent-same, Later-begun, Later-said, Leaves-served, Leaves-shut, begins}
+use Rattle.fixdesk_run.proofs.Beginnings.{one_of_three}
+use Rattle.fixdesk_run.proofs.Openings.{shut_code, stopped}
+use Rattle.fixdesk_run.proofs.Sights.{desk_by, site_by}
 use Rattle.web_run.specs.Plans.{web_plan}
 use Rattle.web_run.specs.Serving.{front_of}
-use Rattle.web_run.proofs.Leaving.{EndsPages-before, EndsPages-no_more}
+use Rattle.web_run.proofs.Leaving.{EndsPages-begun}
 use Rattle.web_run.proofs.serving.serve_pages.Goals as goal
 
--- links were served
-pub returns-in-Ok-clause-leaves : goal.returns-in-Ok-clause-leaves
-returns-in-Ok-clause-leaves g c =
-    let some : web_plan (map string_bytes c.args.words.now) ≡ Some c.in-Some.plan =
-    sym c.web_plan.ensures ∙ c.in-Some.is in
-    let at = site g.W.Sink.written g.W.Sink.write_faults g.K.Keeper.tables g.K.Keeper.calls g.K.Keeper.faults
-    g.L.Listener.door_faults g.L.Listener.port g.L.Listener.accepted g.L.Listener.live g.L.Listener.waiting
-    g.L.Listener.closed in
-    let front = front_of (g.P.PageTable.listed c.args.pages.now) c.in-Some.plan in
-    let ends = rw (c.guarded-front.ensures, c.pages.ensures) at c.serve_plan.ensures.ends in
-    let later = c.serve_plan.ensures.later in
-    record {
-      ends = rw some (inr (record {
-        begun = standing g.M.Machine.rows g.K.Keeper.tables g.K.Keeper.calls g.K.Keeper.faults c.in-Ok.machine
-            c.start.new.keeper;
-        started = c.in-Ok.ensures.started;
-        held = λ other holding some. c.in-Ok.ensures.kept other holding
-            (EndsPages-no_more front c.in-Some.plan _ (at c.args.out.now c.start.new.keeper c.args.door.now)
-            (at c.serve_plan.new.out c.serve_plan.new.keeper c.serve_plan.new.door) c.serve_plan.result ends some);
-        called_once = is_loaded (uses g.K.Keeper.calls g.K.Keeper.faults c.args.keeper.now)
-            (uses g.K.Keeper.calls g.K.Keeper.faults c.start.new.keeper) c.start.ensures.called
-            c.in-Ok.ensures.faults;
-        end = c.serve_plan.result;
-        told = c.code-in-Ok.ensures;
-        ends = EndsPages-before front c.in-Some.plan _ (at c.args.out.now c.start.new.keeper c.args.door.now)
-            (g.K.Keeper.tables c.args.keeper.now) (uses g.K.Keeper.calls g.K.Keeper.faults c.args.keeper.now)
-            (at c.serve_plan.new.out c.serve_plan.new.keeper c.serve_plan.new.door) c.serve_plan.result ends;
-      }));
-      later = record {
-        world = record {
-          read_faults = omega arith;
-          write_faults = later.world.write_faults;
-        };
-        door = later.door;
-      };
-    }
-
 -- no machine began
-pub returns-in-Err-clause-leaves : goal.returns-in-Err-clause-leaves
-returns-in-Err-clause-leaves g c =
+pub returns-in-Err : goal.returns-in-Err
+returns-in-Err g c =
     let some : web_plan (map string_bytes c.args.words.now) ≡ Some c.in-Some.plan =
     sym c.web_plan.ensures ∙ c.in-Some.is in
-    let at = site g.W.Sink.written g.W.Sink.write_faults g.K.Keeper.tables g.K.Keeper.calls g.K.Keeper.faults
-    g.L.Listener.door_faults g.L.Listener.port g.L.Listener.accepted g.L.Listener.live g.L.Listener.waiting
-    g.L.Listener.closed in
+    let at = site_by g.W.Sink g.K.Keeper g.L.Listener in
     let old : Site = at c.args.out.now c.args.keeper.now c.args.door.now in
     let new : Site = at c.stay_shut.new.out c.start.new.keeper c.args.door.now in
+    let is = stopped old.world new.world c.in-Err.fail c.stay_shut.result c.in-Err.ensures.unstarted
+    c.start.ensures.called c.in-Err.ensures.faults (c.stay_shut.ensures.told None 0) in
     record {
-      ends = rw some (inl (record {
-        status = c.stay_shut.result;
-        told = c.code-in-Err.ensures;
-        stays = stays_shut old.world new.world c.in-Err.fail c.stay_shut.result c.in-Err.ensures.unstarted
-            (is_used c.in-Err.fail old.world.uses new.world.uses c.start.ensures.called c.in-Err.ensures.faults)
-            (c.stay_shut.ensures.told None 0);
-        unbound = refl;
-      }));
-      later = record {
-        world = record {
-          read_faults = omega arith;
-          write_faults = c.stay_shut.ensures.write_faults;
-        };
-        door = omega arith;
-      };
+      leaves = rw (some, c.code-in-Err.ensures) (Leaves-shut old new is refl refl c.stay_shut.ensures.write_faults);
+      idle = c.requires;
+      complete = rw some (λ steady takes. rw c.code-in-Err.ensures (inr (shut_code
+          (g.W.Sink.takes c.args.out.now) is (c.in-Err.ensures.steady steady.0).0 c.stay_shut.ensures.complete
+          (λ (text : List ℕ) due. takes (length text)))));
     }
 
--- the keeper did not fail, and the output took the line that names a damaged row
-pub returns-in-Err-clause-complete : goal.returns-in-Err-clause-complete
-returns-in-Err-clause-complete g c =
+-- there was no memory for links
+pub returns-in-Err-new : goal.returns-in-Err-new
+returns-in-Err-new g c =
     let some : web_plan (map string_bytes c.args.words.now) ≡ Some c.in-Some.plan =
     sym c.web_plan.ensures ∙ c.in-Some.is in
-    let at = site g.W.Sink.written g.W.Sink.write_faults g.K.Keeper.tables g.K.Keeper.calls g.K.Keeper.faults
-    g.L.Listener.door_faults g.L.Listener.port g.L.Listener.accepted g.L.Listener.live g.L.Listener.waiting
-    g.L.Listener.closed in
+    let at = site_by g.W.Sink g.K.Keeper g.L.Listener in
     let old : Site = at c.args.out.now c.args.keeper.now c.args.door.now in
-    let new : Site = at c.stay_shut.new.out c.start.new.keeper c.args.door.now in
-    rw some (λ steady takes.
-    let room = takes_fail (g.W.Sink.takes c.args.out.now) old.world new.world c.in-Err.fail
-    c.in-Err.ensures.unstarted (λ (text : List ℕ) due. takes (length text)) in
-    let shut = is_shut old.world new.world c.in-Err.fail c.stay_shut.result c.in-Err.ensures.unstarted
-    (is_used c.in-Err.fail old.world.uses new.world.uses c.start.ensures.called c.in-Err.ensures.faults)
-    (c.stay_shut.ensures.told None 0) (c.in-Err.ensures.steady steady.0).0 (c.stay_shut.ensures.complete room) in
-    rw c.code-in-Err.ensures (inr (shut_code old.world new.world (status_code c.stay_shut.result) shut)))
+    let new : Site = at c.args.out.now c.start.new.keeper c.args.door.now in
+    let desk = desk_by g.M.Machine g.K.Keeper c.in-Ok.machine c.start.new.keeper in
+    let begun = begins (g.K.Keeper.holds c.args.keeper.now) old.world desk c.in-Ok.ensures.started c.in-Ok.ensures.kept
+    c.start.ensures.called c.in-Ok.ensures.faults in
+    record {
+      leaves = rw (some, c.code-in-Err-new.ensures) (Leaves-served NoMemory begun
+          (EndsPages-begun (front_of (g.P.PageTable.listed c.args.pages.now) c.in-Some.plan) c.in-Some.plan desk old new
+          NoMemory (record { told = refl; uses = refl }, refl, IsSilent-same new.world.link))
+          (Later-said old new refl refl (omega arith)));
+      idle = c.requires;
+      complete = rw some (λ steady takes. rw c.code-in-Err-new.ensures (inr (inl refl)));
+    }
+
+-- links were served
+pub returns : goal.returns
+returns g c =
+    let some : web_plan (map string_bytes c.args.words.now) ≡ Some c.in-Some.plan =
+    sym c.web_plan.ensures ∙ c.in-Some.is in
+    let at = site_by g.W.Sink g.K.Keeper g.L.Listener in
+    let old : Site = at c.args.out.now c.args.keeper.now c.args.door.now in
+    let new : Site = at c.serve_plan-end.new.out c.serve_plan-end.new.keeper c.serve_plan-end.new.door in
+    let desk = desk_by g.M.Machine g.K.Keeper c.in-Ok.machine c.start.new.keeper in
+    let begun = begins (g.K.Keeper.holds c.args.keeper.now) old.world desk c.in-Ok.ensures.started c.in-Ok.ensures.kept
+    c.start.ensures.called c.in-Ok.ensures.faults in
+    record {
+      leaves = rw (some, c.code-2.ensures) (Leaves-served c.serve_plan-end.result begun
+          (EndsPages-begun (front_of (g.P.PageTable.listed c.args.pages.now) c.in-Some.plan) c.in-Some.plan desk old new
+          c.serve_plan-end.result
+          (rw (c.guarded-front.ensures, c.pages.ensures) at c.serve_plan-end.ensures.ends))
+          (Later-begun old desk new c.serve_plan-end.ensures.later));
+      idle = c.serve_plan-end.ensures.idle;
+      complete = rw some (λ steady takes.
+          rw c.code-2.ensures (one_of_three _ (c.serve_plan-end.ensures.complete steady.1 takes)));
+    }

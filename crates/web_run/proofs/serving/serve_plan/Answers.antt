@@ -2,19 +2,15 @@ use Rattle.std.proofs.Common.{ap, inl, length, refl, None}
 use Rattle.fixdesk_run.specs.Link.{link_with}
 use Rattle.fixdesk_run.specs.Serve.{end_code}
 use Rattle.fixdesk_run.specs.declared.serving.ServeEnd.{ServeEnd}
-use Rattle.fixdesk_run.specs.Site.{door_seen, site}
-use Rattle.fixdesk_run.specs.Standing.{Standing, standing}
+use Rattle.fixdesk_run.proofs.Sights.{desk_by, door_by, site_by}
 use Rattle.web_run.proofs.Leaving.{EndsPages-linked, EndsPages-unsaid, TakesAll-then}
-use Rattle.web_run.proofs.serving.serve_with.Goals as goal
+use Rattle.web_run.proofs.serving.serve_plan.Goals as goal
 
 -- a part of the first line was written
 pub returns-in-Err-write_all-clause-ends : goal.returns-in-Err-write_all-clause-ends
 returns-in-Err-write_all-clause-ends g c =
-    let begun : Standing = standing g.M.Machine.rows g.K.Keeper.tables g.K.Keeper.calls g.K.Keeper.faults
-    c.args.machine.now c.args.keeper.now in
-    let at = site g.W.Sink.written g.W.Sink.write_faults g.K.Keeper.tables g.K.Keeper.calls g.K.Keeper.faults
-    g.L.Listener.door_faults g.L.Listener.port g.L.Listener.accepted g.L.Listener.live g.L.Listener.waiting
-    g.L.Listener.closed in
+    let begun = desk_by g.M.Machine g.K.Keeper c.args.machine.now c.args.keeper.now in
+    let at = site_by g.W.Sink g.K.Keeper g.L.Listener in
     EndsPages-unsaid c.args.front.now c.args.plan begun (at c.args.out.now c.args.keeper.now c.args.door.now)
     (at c.write_all.new.sink c.args.keeper.now c.bind.new.self)
     (record {
@@ -34,15 +30,11 @@ returns-in-Err-write_all-clause-ends g c =
 -- links were served after it
 pub returns-clause-ends : goal.returns-clause-ends
 returns-clause-ends g c =
-    let desk = standing g.M.Machine.rows g.K.Keeper.tables g.K.Keeper.calls g.K.Keeper.faults in
-    let seen = door_seen g.L.Listener.door_faults g.L.Listener.port g.L.Listener.accepted g.L.Listener.live
-    g.L.Listener.waiting g.L.Listener.closed in
-    let at = site g.W.Sink.written g.W.Sink.write_faults g.K.Keeper.tables g.K.Keeper.calls g.K.Keeper.faults
-    g.L.Listener.door_faults g.L.Listener.port g.L.Listener.accepted g.L.Listener.live g.L.Listener.waiting
-    g.L.Listener.closed in
+    let desk = desk_by g.M.Machine g.K.Keeper in
+    let at = site_by g.W.Sink g.K.Keeper g.L.Listener in
     EndsPages-linked c.args.front.now c.args.plan (desk c.args.machine.now c.args.keeper.now)
     (desk c.serve_links.new.machine c.serve_links.new.keeper) (at c.args.out.now c.args.keeper.now c.args.door.now)
-    (at c.serve_links.new.out c.serve_links.new.keeper c.serve_links.new.door) (seen c.bind.new.self)
+    (at c.serve_links.new.out c.serve_links.new.keeper c.serve_links.new.door) (door_by g.L.Listener c.bind.new.self)
     (link_with g.W.Sink.written g.W.Sink.write_faults None 0 c.write_all.new.sink) c.serve_links.result
     (record {
       port_is = c.in_default.ensures.port;
