@@ -1,44 +1,33 @@
-//! The program `fixdesk`: its words, standard streams, and the tables in `desk.db`, handed to `file_desk`.
+//! The program `fixdesk`: standard streams, and the tables in `desk.db`, handed to `file_desk`.
 #![tactic(auto)]
 
-use desk_base::{Both, NoMemory, StdSink, StdSource, Str};
-use file_desk::{Called, end, run_over, words};
-use fixdesk_run::{Said, Status, tell};
+use desk_base::{Both, StdSink, StdSource, Str};
+use file_desk::{Called, Program, end, run_over, start};
+use fixdesk_run::Said;
 use sqlite::Unknown;
-use std::alloc::AllocError;
 use std::process::ExitCode;
 
 fn main(rt: HostRuntime) -> ExitCode {
-    let code = match words(&rt) {
-        Ok(words) => run_words(&rt, words.as_slice()),
-        Err(AllocError) => no_memory(&rt),
-    };
-    ExitCode::from(code)
+    start(&rt, &Fixdesk)
 }
 
-/// Runs over `desk.db`, of which nothing is known beforehand.
-fn run_words(rt: &HostRuntime, words: &[String]) -> u8 {
-    let mut link = Both {
-        source: StdSource::new(rt.stdin()),
-        sink: StdSink::new(rt.stdout()),
-    };
-    let called = Called {
-        program: "fixdesk",
-        words,
-    };
-    let mut said = Said::nothing();
-    match Str::new(rt.alloc(), "desk.db") {
-        Ok(path) => {
-            let run = run_over(rt, words, path, Unknown, &mut link, &mut said);
-            end(rt, called, run, &said)
-        }
-        Err(NoMemory) => no_memory(rt),
+/// The program.
+#[derive(Drop)]
+struct Fixdesk;
+
+impl Program for Fixdesk {
+    fn name(&self) -> &str {
+        "fixdesk"
     }
-}
 
-/// Says that there is no memory to begin with, and gives that status.
-fn no_memory(rt: &HostRuntime) -> u8 {
-    let code = Status::NoMemory.code();
-    tell(rt, "fixdesk", code);
-    code
+    /// Runs over files of which nothing is known beforehand.
+    fn run(&self, rt: &HostRuntime, called: Called<'_>, path: Str) -> u8 {
+        let mut link = Both {
+            source: StdSource::new(rt.stdin()),
+            sink: StdSink::new(rt.stdout()),
+        };
+        let mut said = Said::nothing();
+        let run = run_over(rt, called.words, path, Unknown, &mut link, &mut said);
+        end(rt, called, run, &said)
+    }
 }

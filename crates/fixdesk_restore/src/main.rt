@@ -1,55 +1,36 @@
-//! The program `fixdesk_restore`: its words, standard streams, and the tables in `desk.db`, handed to `file_desk`.
+//! The program `fixdesk_restore`: standard streams, and the tables in `desk.db`, handed to `file_desk`.
 #![tactic(auto)]
 
-use desk_base::{Both, NoMemory, StdSink, StdSource, Str};
-use file_desk::{Called, end_restoring, is_there, restore_over, words};
+use desk_base::{Both, StdSink, StdSource, Str};
+use file_desk::{Called, Program, end_restoring, is_there, restore_over, start};
 use restore_run::RestoreEnd;
 use sqlite::Unknown;
-use std::alloc::AllocError;
 use std::process::ExitCode;
 
-/// The file of the desk.
-const FILE: &str = "desk.db";
-
 fn main(rt: HostRuntime) -> ExitCode {
-    let code = match words(&rt) {
-        Ok(words) => run_words(&rt, words.as_slice()),
-        Err(AllocError) => stopped(&rt, &[], RestoreEnd::NoMemory),
-    };
-    ExitCode::from(code)
+    start(&rt, &FixdeskRestore)
 }
 
-/// Restores into `desk.db`, unless it is there.
-fn run_words(rt: &HostRuntime, words: &[String]) -> u8 {
-    if words.is_empty() && is_there(rt, FILE) {
-        return stopped(rt, words, RestoreEnd::Standing);
+/// The program.
+#[derive(Drop)]
+struct FixdeskRestore;
+
+impl Program for FixdeskRestore {
+    fn name(&self) -> &str {
+        "fixdesk_restore"
     }
-    match Str::new(rt.alloc(), FILE) {
-        Ok(path) => restored(rt, words, path),
-        Err(NoMemory) => stopped(rt, words, RestoreEnd::NoMemory),
-    }
-}
 
-/// Restores into the files at a path, of which nothing is known beforehand.
-fn restored(rt: &HostRuntime, words: &[String], path: Str) -> u8 {
-    let mut link = Both {
-        source: StdSource::new(rt.stdin()),
-        sink: StdSink::new(rt.stdout()),
-    };
-    let restoring = restore_over(rt, words, path, Unknown, &mut link);
-    end_restoring(rt, called(words), restoring)
-}
-
-/// Says why nothing was begun, and gives that status.
-fn stopped(rt: &HostRuntime, words: &[String], end: RestoreEnd) -> u8 {
-    called(words).tell_restoring(rt, end, None);
-    end.code()
-}
-
-/// The program with these words.
-fn called<'w>(words: &'w [String]) -> Called<'w> {
-    Called {
-        program: "fixdesk_restore",
-        words,
+    /// Restores into the files, of which nothing is known beforehand, unless they are there.
+    fn run(&self, rt: &HostRuntime, called: Called<'_>, path: Str) -> u8 {
+        if called.words.is_empty() && is_there(rt, path.as_str()) {
+            called.tell_restoring(rt, RestoreEnd::Standing, None);
+            return RestoreEnd::Standing.code();
+        }
+        let mut link = Both {
+            source: StdSource::new(rt.stdin()),
+            sink: StdSink::new(rt.stdout()),
+        };
+        let restoring = restore_over(rt, called.words, path, Unknown, &mut link);
+        end_restoring(rt, called, restoring)
     }
 }
