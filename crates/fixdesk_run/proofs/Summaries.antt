@@ -25,7 +25,8 @@ pub all_served : (limit : ℕ) (bytes : List ℕ) (before : Rows) (old new : Sce
     → Streams bare limit old new end → end ≡ ended.Clean → old.left ≡ Some bytes → old.tables ≡ before
     → AreValid old.tables → AllServed limit bytes before new.tables
 all_served limit bytes before old new end ends clean_end left is valid =
-    let streams : Streams bare limit old new ended.Clean = subst (λ one. Streams bare limit old new one) clean_end ends in
+    let streams : Streams bare limit old new ended.Clean =
+    subst (λ one. Streams bare limit old new one) clean_end ends in
     let answers = streams.answers in
     let whole : IsCut streams.bytes (requests answers) (streams.rest ++ streams.after) clean = streams.ends.0.0 in
     let shown : bytes ≡ streams.bytes = subst (λ told. IfShown told streams.bytes) left streams.left.had in

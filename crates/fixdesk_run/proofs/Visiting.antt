@@ -1,38 +1,30 @@
 -- Links that are served one after another.
 use Rattle.std.proofs.Common.{◌≡◌, ◌∙◌, ℕ, ◌+◌, ◌≤◌, Bool, true, false, List, [], ◌∷◌, ◌++◌, map, refl, ap, sym}
-use Rattle.std.proofs.Common.{append-nil, arith, cond, inl, inr, lit≤, subst}
+use Rattle.std.proofs.Common.{append-nil, arith, cond, lit≤, subst}
 use Rattle.std.specs.Int.{from_bool}
-use Rattle.std.specs.Prelude.{IsSome, Option, Some, None}
+use Rattle.std.specs.Prelude.{Option, Some, None}
 use Rattle.std.proofs.lemmas.List.{append_assoc, length_push, map-append}
 use Rattle.std.proofs.lemmas.List.Sums.{sum_by-append}
 use Rattle.desk_links.specs.Doors.{Closes, HandsOut, IsFresh, LinkSeen, one_more}
-use Rattle.keeper_core.specs.Keeping.{TellsNoMore, Uses}
 use Rattle.http_desk.specs.declared.serving.Ended.{Ended}
 use Rattle.http_desk.specs.Answered.{all_most_calls, all_sure_calls, failures}
 use Rattle.http_desk.specs.Fronts.{Front}
 use Rattle.http_desk.specs.Scenes.{RoseBy, RoseWithin}
 use Rattle.http_desk.proofs.Progress.{RoseBy-then, RoseWithin-then, not_raised}
-use Rattle.desk_words.specs.Tables.{Rows}
-use Rattle.fixdesk_run.specs.declared.plan.Plan.{Plan}
-use Rattle.fixdesk_run.specs.declared.serving.ServeEnd.{ServeEnd}
-use Rattle.fixdesk_run.specs.declared.serving.ServeEnd.TheVariants.{Done, WriteFault, NoMemory, DoorFault}
-use Rattle.fixdesk_run.specs.Serve.{EndsServing, Serves}
-use Rattle.fixdesk_run.specs.Site.{Door, PassesAll, PassesCount, PassesOne, Site}
+use Rattle.fixdesk_run.specs.Site.{Door, PassesAll, PassesCount, PassesOne}
 use Rattle.fixdesk_run.specs.Standing.{Standing}
 use Rattle.fixdesk_run.specs.Visits.{AreClosed, AreFirst, AreHandedOut, AreVisits, IsVisit, Visit, early_count}
 use Rattle.fixdesk_run.specs.Visits.{is_early, last_standing, most_visits, refusals, sure_visits, with_bytes}
 
--- a site with another keeper
-abbrev pub with_keeper : Site → Option Rows → Uses → Site
-with_keeper old told used = record old { world = record old.world { told = told; uses = used } }
-
 -- ---- one more link
 
 -- it is served over the desk that the others left
-AreVisits-push : (front : Front) (before : Standing) (visits : List Visit) (visit : Visit) → AreVisits front before visits
-    → IsVisit front (last_standing before visits) visit → AreVisits front before (visits ++ visit ∷ [])
+AreVisits-push : (front : Front) (before : Standing) (visits : List Visit) (visit : Visit)
+    → AreVisits front before visits → IsVisit front (last_standing before visits) visit
+    → AreVisits front before (visits ++ visit ∷ [])
 AreVisits-push front before [] visit are is = (is, tt)
-AreVisits-push front before (first ∷ visits) visit are is = (are.0, AreVisits-push front first.after visits visit are.1 is)
+AreVisits-push front before (first ∷ visits) visit are is =
+    (are.0, AreVisits-push front first.after visits visit are.1 is)
 
 -- and leaves the desk
 last_standing-push : (before : Standing) (visits : List Visit) (visit : Visit)
@@ -207,39 +199,3 @@ PassesCount-push {end} {early} all one = record {
       ∙ ap (λ (n : ℕ). n + cond (is_early one.visit.end) 1 0) all.early_is
       ∙ sym (early_count-push all.visits one.visit);
 }
-
--- ---- a call
-
--- what is left where a machine began does not speak of the keeper before
-pub EndsServing-before : (front : Front) (plan : Plan) (begun : Standing) (old : Site) (told : Option Rows) (used : Uses) (new : Site)
-    (end : ServeEnd) → EndsServing front plan begun (with_keeper old told used) new end
-    → EndsServing front plan begun old new end
-EndsServing-before front plan begun old told used new Done ends = ends
-EndsServing-before front plan begun old told used new WriteFault ends = ends
-EndsServing-before front plan begun old told used new NoMemory ends = ends
-EndsServing-before front plan begun old told used new DoorFault ends = ends
-
--- ---- what the keeper tells
-
--- no visit has it tell what it did not tell before
-visits_no_more : (front : Front) (before : Standing) (visits : List Visit) → AreVisits front before visits
-    → TellsNoMore before.told (last_standing before visits).told
-visits_no_more front before [] are = λ some. some
-visits_no_more front before (visit ∷ visits) are =
-    λ some. are.0.streams.later.told (visits_no_more front visit.after visits are.1 some)
-
-pub Serves-no_more : (front : Front) (port : ℕ) (begun : Standing) (old : Door) (new : Site) (visits : List Visit)
-    → Serves front port begun old new visits → TellsNoMore begun.told new.world.told
-Serves-no_more front port begun old new visits s =
-    λ some. visits_no_more front begun visits s.are (subst IsSome s.told some)
-
--- so what is told in the end was told when the machine began
-pub EndsServing-no_more : (front : Front) (plan : Plan) (begun : Standing) (old new : Site) (end : ServeEnd)
-    → EndsServing front plan begun old new end → TellsNoMore begun.told new.world.told
-EndsServing-no_more front plan begun old new Done ends = Serves-no_more front plan.port begun old.door new ends.0 ends.1
-EndsServing-no_more front plan begun old new WriteFault ends = Serves-no_more front plan.port begun old.door new ends.0 ends.1
-EndsServing-no_more front plan begun old new NoMemory ends = λ some. subst IsSome ends.0.told some
-EndsServing-no_more front plan begun old new DoorFault ends = elim ends.0 [
-  | inl idle ↦ λ some. subst IsSome idle.0.told some
-  | inr served ↦ Serves-no_more front plan.port begun old.door new served.0 served.1
-]

@@ -1,25 +1,33 @@
--- Why no machine begins over a keeper's tables, and what a call leaves then.
-use Rattle.std.specs.Prelude.{◌≡◌, ℕ, List, ◌++◌, length, Option, codes, decimal, ⊤}
+-- How a machine begins over a keeper's tables; why none does, and what a call leaves then.
+use Rattle.std.specs.Prelude.{◌≡◌, ◌⊎◌, ℕ, List, ◌++◌, length, Option, codes, decimal, ⊤}
 use Rattle.desk_links.specs.Doors.{LinkSeen}
 use Rattle.json_parts.specs.Shapes.{line}
 use Rattle.desk_words.specs.Tables.{Rows}
 use Rattle.desk_valid.specs.declared.damage.Damage.{Damage}
 use Rattle.desk_valid.specs.Damage.{IsFirstDamage}
 use Rattle.desk_valid.specs.Valid.{AreValid}
-use Rattle.keeper_core.specs.Keeping.{IfTold, IsLoaded, StayTold}
+use Rattle.keeper_core.specs.Keeping.{IfTold, IsLoaded, LoadsHeld, StayTold, Uses}
 use Rattle.machine_core.specs.declared.machine.StartFail.{StartFail}
 use Rattle.machine_core.specs.declared.machine.StartFail.TheVariants as fail
-use Rattle.machine_core.specs.Starting.{IfStillTold}
+use Rattle.machine_core.specs.Starting.{AreStarted, IfStillTold}
 use Rattle.once_run.specs.declared.status.Status.{Status}
 use Rattle.once_run.specs.declared.status.Status.TheVariants.{Done, NoCommand, ReadFault, WriteFault, Unavailable}
 use Rattle.once_run.specs.declared.status.Status.TheVariants.{NoMemory, Damaged, Refused, Limit}
 use Rattle.fixdesk_run.specs.Link.{IsSilent, Says, SaysPart}
+use Rattle.fixdesk_run.specs.Standing.{Standing}
 use Rattle.fixdesk_run.specs.World.{World, failed, loaded}
 
 -- the tables over which a machine began: valid ones, which the keeper told, if it told any
 pub record AreOpened (told : Option Rows) (rows : Rows) : Type 0 where
   pub loaded : IfTold told rows
   pub valid : AreValid rows
+
+-- the desk of a machine that began over the tables that were loaded from a keeper, which held such tables, told this
+-- and was used so
+pub record Begins (holds : Rows → Type 0) (told : Option Rows) (used : Uses) (begun : Standing) : Type 0 where
+  pub started : AreStarted told begun.told begun.tables
+  pub kept : LoadsHeld holds begun.told begun.tables
+  pub called : begun.uses ≡ loaded used
 
 -- the first damage of the tables that were loaded from a keeper, which told this before and that after
 pub record IsDamaged (old new : Option Rows) (damage : Damage) : Type 0 where
@@ -55,6 +63,10 @@ StaysShut old new Damaged = (text : List ℕ) × IsDamageLine old.told new.told 
     × (new.uses ≡ loaded old.uses)
 StaysShut old new Refused = ⊥
 StaysShut old new Limit = ⊥
+
+-- a status where no machine began, though neither the keeper failed nor the output
+abbrev pub IsUnfailed : Status → Type 0
+IsUnfailed status = (status ≡ NoMemory) ⊎ (status ≡ Damaged)
 
 -- ---- the link alone
 

@@ -31,15 +31,17 @@ served_line count early = line (codes "served " ++ decimal count ++ codes " earl
 
 -- ---- where a machine began
 
--- these links were served over a front and the desk that began, and the keeper tells the tables that are left after the last
-pub record Serves (front : Front) (port : ℕ) (begun : Standing) (old : Door) (new : Site) (visits : List Visit) : Type 0 where
-  pub are : AreVisits front begun visits
-  pub told : new.world.told ≡ (last_standing begun visits).told
-  pub uses : new.world.uses ≡ (last_standing begun visits).uses
-  pub kept : IfTold new.world.told (last_standing begun visits).tables
-  pub failed : RoseBy (refusals visits) begun.uses.faults new.world.uses.faults
-  pub called : RoseWithin (sure_visits visits) (most_visits visits) begun.uses.calls new.world.uses.calls
-  pub door : IsPassed (Some port) old new.door visits
+-- these links were served over a front and the desk that began, and the keeper tells the tables that are left after the
+-- last
+pub record Serves (front : Front) (port : ℕ) (begun : Standing) (old : Door) (new : Site) (visits : List Visit) : Type 0
+  where
+    pub are : AreVisits front begun visits
+    pub told : new.world.told ≡ (last_standing begun visits).told
+    pub uses : new.world.uses ≡ (last_standing begun visits).uses
+    pub kept : IfTold new.world.told (last_standing begun visits).tables
+    pub failed : RoseBy (refusals visits) begun.uses.faults new.world.uses.faults
+    pub called : RoseWithin (sure_visits visits) (most_visits visits) begun.uses.calls new.world.uses.calls
+    pub door : IsPassed (Some port) old new.door visits
 
 -- the keeper was not called again
 pub record IsIdle (begun : Standing) (new : Site) : Type 0 where
@@ -52,7 +54,8 @@ abbrev pub EndsServing : Front → Plan → Standing → Site → Site → Serve
 EndsServing front plan begun old new Done = (visits : List Visit) × Serves front plan.port begun old.door new visits
     × (length visits ≡ plan.count)
     × Says (served_line plan.count (early_count visits)) old.world.link new.world.link
-EndsServing front plan begun old new WriteFault = (visits : List Visit) × Serves front plan.port begun old.door new visits
+EndsServing front plan begun old new WriteFault = (visits : List Visit)
+    × Serves front plan.port begun old.door new visits
     × (length visits ≡ plan.count)
     × SaysPart (served_line plan.count (early_count visits)) old.world.link new.world.link
 EndsServing front plan begun old new NoMemory =
@@ -132,6 +135,13 @@ TakesTally takes count = (early : ℕ) → early ≤ count → takes (length (se
 -- and whatever may be due of a call
 abbrev pub TakesSaid : (ℕ → Type 0) → Option Plan → Site → Type 0
 TakesSaid takes plan old = (text : List ℕ) → MayBeSaid plan old text → takes (length text)
+
+-- an output that takes so many bytes takes whatever may be due of a call with this usage line, where it takes what
+-- serving by a plan needs
+abbrev pub TakesDue : List ℕ → ((ℕ → Type 0) → Plan → Type 0) → (ℕ → Type 0) → Option Plan → Site → Type 0
+TakesDue usage needs takes None old = takes (length usage)
+TakesDue usage needs takes (Some plan) old =
+    needs takes plan × ((text : List ℕ) → MayBeDamageLine old.world.told text → takes (length text))
 
 -- what is answered where nothing fails: 1 for words that are no port and count, and for no others; never 3, 4 or 9
 abbrev pub IsServedFaultless : Option Plan → ℕ → Type 0

@@ -3,7 +3,7 @@ use Rattle.std.specs.Prelude.{◌≡◌, ℕ, ◌<◌, ◌≤◌, List, [], Opti
 use Rattle.desk_base.specs.Faults.{Rose}
 use Rattle.desk_links.specs.Doors.{Closes, HandsOut, LinkSeen, one_more}
 use Rattle.desk_words.specs.Tables.{Rows}
-use Rattle.keeper_core.specs.Keeping.{uses}
+use Rattle.keeper_core.specs.Keeping.{Uses, uses}
 use Rattle.http_desk.specs.declared.serving.Ended.{Ended}
 use Rattle.http_desk.specs.Fronts.{Front}
 use Rattle.http_desk.specs.Logs.{last_line}
@@ -56,6 +56,10 @@ site written write_faults told calls faults door_faults port accepted live waiti
   };
   door = door_seen door_faults port accepted live waiting closed door;
 }
+
+-- a site with another keeper
+abbrev pub with_keeper : Site → Option Rows → Uses → Site
+with_keeper old told used = record old { world = record old.world { told = told; uses = used } }
 
 -- nothing of the door changed but how often it has failed
 pub record IsUnchanged (old new : Door) : Type 0 where

@@ -5,6 +5,7 @@ use Rattle.desk_base.specs.Counts.{risen}
 use Rattle.desk_links.specs.Doors.{LinkSeen, link_seen}
 use Rattle.desk_words.specs.Tables.{Rows}
 use Rattle.keeper_core.specs.Keeping.{Uses, uses}
+use Rattle.fixdesk_run.specs.Link.{link_with}
 
 -- a link, the tables that a keeper tells, if it tells any, and how often the keeper was called and failed
 pub record World : Type 0 where
@@ -17,6 +18,15 @@ abbrev pub world : {S W K : Type 0} → (S → Option (List ℕ)) → (S → ℕ
     → (K → Option Rows) → (K → ℕ) → (K → ℕ) → Both S W → K → World
 world left read_faults written write_faults told calls faults link keeper = record {
   link = link_seen left read_faults written write_faults link;
+  told = told keeper;
+  uses = uses calls faults keeper;
+}
+
+-- the same of an output, of a link that has this left to read and has failed so often to be read
+abbrev pub world_with : {W K : Type 0} → (W → Option (List ℕ)) → (W → ℕ) → (K → Option Rows) → (K → ℕ) → (K → ℕ)
+    → Option (List ℕ) → ℕ → W → K → World
+world_with written write_faults told calls faults left read_faults out keeper = record {
+  link = link_with written write_faults left read_faults out;
   told = told keeper;
   uses = uses calls faults keeper;
 }

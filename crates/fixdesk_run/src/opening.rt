@@ -1,13 +1,42 @@
-//! What is told where no machine begins over a keeper's tables.
-ghost use Rattle.std.specs.Prelude.{◌≡◌, ◌≢◌, ◌≤◌, ℕ, List, Option, length, IfOk};
+//! A machine that begins over a keeper's tables, and what is told where none does.
+ghost use Rattle.std.specs.Prelude.{◌≡◌, ◌≢◌, ◌≤◌, ℕ, List, Option, length, IfErr, IfOk, OnOk};
+ghost use Rattle.keeper_core.specs.Keeping.{uses};
 ghost use Rattle.fixdesk_run.specs.Link.{link_with};
-ghost use Rattle.fixdesk_run.specs.Opening.{TakesFail, TellsDamage, TellsFail, damage_line};
+ghost use Rattle.fixdesk_run.specs.Opening.{Begins, IsUnfailed, MayBeDamageLine, StaysShut, TakesFail, TellsDamage};
+ghost use Rattle.fixdesk_run.specs.Opening.{TellsFail, damage_line};
+ghost use Rattle.fixdesk_run.specs.Standing.{standing};
+ghost use Rattle.fixdesk_run.specs.World.{world_with};
 
 use desk_base::{Failed, List, NoMemory, Sink, write_all};
 use desk_valid::Damage;
-use machine_core::StartFail;
+use keeper_core::Keeper;
+use machine_core::{Machine, StartFail};
 use once_run::Status;
 use std::alloc::Global;
+
+/// A machine over the keeper's tables. Where none begins it is told why, as by `stay_shut`, and the status says so.
+pub(crate) fn begin_machine<M: Machine, K: Keeper, W: Sink>(
+    alloc: Global,
+    keeper: &mut K,
+    out: &mut W,
+) -> Result<M, Status>
+    ensures begun { IfOk result (λ machine. Begins (K.holds keeper.old) (K.tables keeper.old)
+        (uses K.calls K.faults keeper.old) (standing M.rows K.tables K.calls K.faults machine keeper.new)) }
+    ensures silent { OnOk result (out.new ≡ out.old) }
+    ensures shut { (left : Option (List ℕ)) (read_faults : ℕ)
+        → let world = world_with W.written W.write_faults K.tables K.calls K.faults left read_faults in
+        IfErr result (StaysShut (world out.old keeper.old) (world out.new keeper.new)) }
+    ensures write_faults { W.write_faults out.old ≤ W.write_faults out.new }
+    ensures steady { K.is_steady keeper.old → OnOk result (K.is_steady keeper.new) }
+    ensures complete { K.is_steady keeper.old
+        → ((text : List ℕ) → MayBeDamageLine (K.tables keeper.old) text → W.takes out.old (length text))
+        → IfErr result IsUnfailed }
+{
+    match M::start(alloc, keeper) {
+        Ok(machine) => Ok(machine),
+        Err(fail) => Err(stay_shut(alloc, fail, out)),
+    }
+}
 
 /// Tells why no machine began: a line that names the first damaged row, and nothing else. Of a link with this output
 /// the input stays, whatever it is.

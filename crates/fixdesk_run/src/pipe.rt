@@ -6,7 +6,7 @@ ghost use Rattle.fixdesk_run.specs.Run.{IsFaultless, TakesText};
 ghost use Rattle.fixdesk_run.specs.World.{Later, world};
 ghost use Rattle.fixdesk_run.specs.declared.task.Task.TheVariants.{Pipe};
 
-use crate::opening::stay_shut;
+use crate::opening::begin_machine;
 use desk_base::{Both, Sink, Source};
 use http_desk::{Ended, Front, serve_stream};
 use keeper_core::Keeper;
@@ -32,7 +32,7 @@ pub fn pipe<M: Machine + Drop, K: Keeper, S: Source, W: Sink>(
         → IsFaultless (W.takes link.old.sink) (Some (Pipe limit)) (world link.old keeper.old)
         (world link.new keeper.new) (status_code result) }
 {
-    match M::start(alloc, keeper) {
+    match begin_machine::<M, K, W>(alloc, keeper, &mut link.sink) {
         Ok(mut machine) => end_status(serve_stream(
             alloc,
             &Front::bare(),
@@ -41,7 +41,7 @@ pub fn pipe<M: Machine + Drop, K: Keeper, S: Source, W: Sink>(
             link,
             limit,
         )),
-        Err(fail) => stay_shut(alloc, fail, &mut link.sink),
+        Err(status) => status,
     }
 }
 

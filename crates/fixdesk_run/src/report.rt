@@ -6,7 +6,7 @@ ghost use Rattle.fixdesk_run.specs.Run.{IsFaultless, TakesText};
 ghost use Rattle.fixdesk_run.specs.World.{Later, world};
 ghost use Rattle.fixdesk_run.specs.declared.task.Task.TheVariants.{Report};
 
-use crate::opening::stay_shut;
+use crate::opening::begin_machine;
 use desk_base::{Both, Failed, List, NoMemory, Sink, Source, write_all};
 use desk_sheets::report_text;
 use desk_words::{Command, DeskLook, Reply};
@@ -16,7 +16,6 @@ use once_run::Status;
 use std::alloc::Global;
 
 /// Writes the report over the sessions of all clerks in the keeper's tables.
-#[tactic(auto, using(crate::proofs::Served::is_loaded))]
 pub fn report<M: Machine + Drop, K: Keeper, S: Source, W: Sink>(
     alloc: Global,
     keeper: &mut K,
@@ -32,9 +31,9 @@ pub fn report<M: Machine + Drop, K: Keeper, S: Source, W: Sink>(
         → IsFaultless (W.takes link.old.sink) (Some Report) (world link.old keeper.old) (world link.new keeper.new)
         (status_code result) }
 {
-    let mut machine = match M::start(alloc, keeper) {
+    let mut machine = match begin_machine::<M, K, W>(alloc, keeper, &mut link.sink) {
         Ok(machine) => machine,
-        Err(fail) => return stay_shut(alloc, fail, &mut link.sink),
+        Err(status) => return status,
     };
     let text = match report_of(alloc, &mut machine) {
         Ok(text) => text,

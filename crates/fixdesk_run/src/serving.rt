@@ -1,16 +1,14 @@
 //! The top call of the program `fixdeskd`.
-ghost use Rattle.std.specs.Prelude.{◌≡◌, ◌≤◌, ◌⊎◌, map, string_bytes};
-ghost use Rattle.keeper_core.specs.Keeping.{IfTold};
+ghost use Rattle.std.specs.Prelude.{◌≡◌, map, string_bytes};
+ghost use Rattle.http_desk.specs.Fronts.{bare};
 ghost use Rattle.fixdesk_run.specs.Plan.{plan_of};
 ghost use Rattle.fixdesk_run.specs.Serve.{AreSteadyFor, EndsServing, IsServedFaultless, LeavesServed, TakesSaid};
-ghost use Rattle.fixdesk_run.specs.Serve.{TakesTally, end_code};
-ghost use Rattle.fixdesk_run.specs.Site.{Later, site};
-ghost use Rattle.fixdesk_run.specs.Standing.{standing};
+ghost use Rattle.fixdesk_run.specs.Serve.{TakesTally, end_code, serve_usage};
+ghost use Rattle.fixdesk_run.specs.Site.{site};
 
-use crate::opening::stay_shut;
 use crate::plan::{Plan, plan_of};
+use crate::service::{Service, run_service};
 use crate::tally::{begin_line, end_line};
-use crate::usage::tell_usage;
 use crate::visits::serve_links;
 use desk_base::{Failed, NoMemory, Sink, write_all};
 use desk_links::Listener;
@@ -79,69 +77,65 @@ pub fn serve<M: Machine + Drop, K: Keeper, L: Listener, W: Sink>(
         → TakesSaid (W.takes out.old) plan (site out.old keeper.old door.old)
         → IsServedFaultless plan result }
 {
-    let Some(plan) = plan_of(words) else {
-        return tell_usage(USAGE, out).code();
-    };
-    let mut machine = match M::start(alloc, keeper) {
-        Ok(machine) => machine,
-        Err(fail) => return stay_shut(alloc, fail, out).code(),
-    };
-    let mut intake = match Intake::new(alloc) {
-        Ok(intake) => intake,
-        Err(NoMemory) => return ServeEnd::NoMemory.code(),
-    };
-    let end = serve_plan(
-        &Front::bare(),
-        plan,
-        &mut intake,
-        &mut machine,
-        keeper,
-        door,
-        out,
-    );
-    drop(intake);
-    end.code()
+    run_service::<M, _, K, L, W>(alloc, &Counting, words, keeper, door, out)
 }
 
-/// Serves the links of a plan over a front and a machine that began, with one intake for all of them, and writes the
-/// line that counts them.
-fn serve_plan<M: Machine + Drop, K: Keeper, L: Listener, W: Sink>(
-    front: &Front<'_>,
-    plan: Plan,
-    intake: &mut Intake,
-    machine: &mut M,
-    keeper: &mut K,
-    door: &mut L,
-    out: &mut W,
-) -> ServeEnd
-    requires few { plan.count ≤ 1000000 }
-    requires idle { L.live door.old ≡ 0 }
-    requires told { IfTold (K.tables keeper.old) (M.rows machine.old) }
-    ensures ends { let site = site W.written W.write_faults K.tables K.calls K.faults L.door_faults L.port L.accepted
-        L.live L.waiting L.closed in
-        EndsServing front.now plan (standing M.rows K.tables K.calls K.faults machine.old keeper.old) (site out.old keeper.old
-        door.old)
-        (site out.new keeper.new door.new) result }
-    ensures later { let site = site W.written W.write_faults K.tables K.calls K.faults L.door_faults L.port
-        L.accepted L.live L.waiting L.closed in
-        Later (site out.old keeper.old door.old) (site out.new keeper.new door.new) }
-    ensures idle { L.live door.new ≡ 0 }
-    ensures complete { L.offers door.old plan.count → TakesTally (W.takes out.old) plan.count
-        → (end_code result ≡ 0) ⊎ (end_code result ≡ 5) }
-{
-    let line = match begin_line(intake.allocator(), plan.count) {
-        Ok(line) => line,
-        Err(NoMemory) => return ServeEnd::NoMemory,
-    };
-    if let Err(Failed) = door.bind(plan.port) {
-        return ServeEnd::DoorFault;
+/// Links that are served over a bare front, and counted.
+#[derive(Debug, Drop)]
+struct Counting;
+
+impl Service for Counting {
+    ghost usage_line = { λ _. serve_usage };
+
+    ghost planned = { λ _. plan_of };
+
+    ghost leaves = { λ _. EndsServing bare };
+
+    ghost takes = { λ _ takes plan. TakesTally takes plan.count };
+
+    fn usage(&self) -> &[u8] {
+        USAGE
     }
-    let early = match serve_links::<M, K, L>(front, plan.count, intake, machine, keeper, door) {
-        Ok(early) => early,
-        Err(Failed) => return ServeEnd::DoorFault,
-    };
-    match write_all(out, end_line(line, early).as_slice()) {
-        Ok(()) => ServeEnd::Done,
-        Err(Failed) => ServeEnd::WriteFault,
+
+    fn plan(&self, words: &[String]) -> Option<Plan> {
+        plan_of(words)
+    }
+
+    fn serve_plan<M: Machine + Drop, K: Keeper, L: Listener, W: Sink>(
+        &self,
+        alloc: Global,
+        plan: Plan,
+        machine: &mut M,
+        keeper: &mut K,
+        door: &mut L,
+        out: &mut W,
+    ) -> ServeEnd {
+        let mut intake = match Intake::new(alloc) {
+            Ok(intake) => intake,
+            Err(NoMemory) => return ServeEnd::NoMemory,
+        };
+        let line = match begin_line(alloc, plan.count) {
+            Ok(line) => line,
+            Err(NoMemory) => return ServeEnd::NoMemory,
+        };
+        if let Err(Failed) = door.bind(plan.port) {
+            return ServeEnd::DoorFault;
+        }
+        let front = Front::bare();
+        let early = match serve_links::<M, K, L>(
+            &front,
+            plan.count,
+            &mut intake,
+            machine,
+            keeper,
+            door,
+        ) {
+            Ok(early) => early,
+            Err(Failed) => return ServeEnd::DoorFault,
+        };
+        match write_all(out, end_line(line, early).as_slice()) {
+            Ok(()) => ServeEnd::Done,
+            Err(Failed) => ServeEnd::WriteFault,
+        }
     }
 }

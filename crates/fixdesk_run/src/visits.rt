@@ -2,7 +2,7 @@
 ghost use Rattle.std.specs.Prelude.{◌≡◌, ◌+◌, ◌<◌, ◌≤◌, ℕ, IfOk, IsOk, OnErr, Some};
 ghost use Rattle.desk_base.specs.Faults.{Rose};
 ghost use Rattle.desk_links.specs.Doors.{MayAccept};
-ghost use Rattle.keeper_core.specs.Keeping.{IfTold};
+ghost use Rattle.keeper_core.specs.Keeping.{IfTold, TellsNoMore};
 ghost use Rattle.fixdesk_run.specs.Site.{IsUnchanged, LogsOne, PassesCount, PassesFewer, door_seen};
 ghost use Rattle.fixdesk_run.specs.Standing.{standing};
 ghost use Rattle.fixdesk_run.specs.Visits.{is_early};
@@ -24,7 +24,6 @@ pub fn serve_links<M: Machine + Drop, K: Keeper, L: Listener>(
     keeper: &mut K,
     door: &mut L,
 ) -> Result<u32, Failed>
-    requires few { count ≤ 1000000 }
     requires bound { L.accepted door.old ≡ Some 0 }
     requires idle { L.live door.old ≡ 0 }
     requires told { IfTold (K.tables keeper.old) (M.rows machine.old) }
@@ -37,6 +36,7 @@ pub fn serve_links<M: Machine + Drop, K: Keeper, L: Listener>(
         OnErr result (PassesFewer front.now (desk machine.old keeper.old) (desk machine.new keeper.new) (seen door.old)
         (seen door.new) count) }
     ensures told { IfTold (K.tables keeper.new) (M.rows machine.new) }
+    ensures no_more { TellsNoMore (K.tables keeper.old) (K.tables keeper.new) }
     ensures later { L.door_faults door.old ≤ L.door_faults door.new }
     ensures idle { L.live door.new ≡ 0 }
     ensures offers { L.offers door.old count → IsOk result }
@@ -52,7 +52,7 @@ pub fn serve_links<M: Machine + Drop, K: Keeper, L: Listener>(
 }
 
 /// Serves the next link of a door over a front, with at most one request, closes it, and tells its request in a log.
-/// Answers how its stream ended. Where the door fails, nothing else has changed.
+/// Answers how its stream ended. Where the door fails, nothing has changed but how often it has failed.
 pub fn serve_next<M: Machine + Drop, K: Keeper, L: Listener, G: Log>(
     front: &Front<'_>,
     intake: &mut Intake,
@@ -72,7 +72,10 @@ pub fn serve_next<M: Machine + Drop, K: Keeper, L: Listener, G: Log>(
         let seen = door_seen L.door_faults L.port L.accepted L.live L.waiting L.closed in
         OnErr result ((desk machine.new keeper.new ≡ desk machine.old keeper.old)
         × IsUnchanged (seen door.old) (seen door.new) × Rose (L.door_faults door.old) (L.door_faults door.new)) }
+    ensures untouched { OnErr result ((intake.new ≡ intake.old) × (machine.new ≡ machine.old)
+        × (keeper.new ≡ keeper.old) × (log.new ≡ log.old)) }
     ensures told { IfTold (K.tables keeper.new) (M.rows machine.new) }
+    ensures no_more { TellsNoMore (K.tables keeper.old) (K.tables keeper.new) }
     ensures later { L.door_faults door.old ≤ L.door_faults door.new }
     ensures offers { (count : ℕ) → L.offers door.old (count + 1) → IsOk result × L.offers door.new count }
 {

@@ -1,11 +1,9 @@
 -- What is left where links were served on a port, and what was written.
-use Rattle.std.proofs.Common.{◌≡◌, ◌∙◌, inl, inr, ℕ, ◌+◌, ◌-◌, ◌≤◌, List, [], ◌++◌, ap, sym, subst, arith}
+use Rattle.std.proofs.Common.{◌≡◌, ◌∙◌, inr, ℕ, ◌+◌, ◌-◌, ◌≤◌, List, [], ◌++◌, ap, sym, subst, arith}
 use Rattle.std.proofs.Common.{append-nil, Option, Some}
-use Rattle.std.specs.Prelude.{IsSome}
 use Rattle.desk_links.specs.Doors.{LinkSeen}
 use Rattle.desk_base.proofs.Growth.{Appends-then}
-use Rattle.desk_words.specs.Tables.{Rows}
-use Rattle.keeper_core.specs.Keeping.{IfTold, TellsNoMore, Uses}
+use Rattle.keeper_core.specs.Keeping.{IfTold, Uses}
 use Rattle.http_desk.specs.Fronts.{Front}
 use Rattle.http_desk.specs.Scenes.{RoseBy, RoseWithin}
 use Rattle.fixdesk_run.specs.declared.plan.Plan.{Plan}
@@ -16,8 +14,7 @@ use Rattle.fixdesk_run.specs.Serve.{Serves}
 use Rattle.fixdesk_run.specs.Site.{Door, PassesAll, Site}
 use Rattle.fixdesk_run.specs.Standing.{Standing}
 use Rattle.fixdesk_run.specs.Visits.{AreClosed, AreHandedOut, Visit, most_visits, refusals, sure_visits}
-use Rattle.fixdesk_run.proofs.Beginnings.{begun_at}
-use Rattle.fixdesk_run.proofs.Visiting.{PassesAll-none, Serves-no_more, with_keeper}
+use Rattle.fixdesk_run.proofs.Visiting.{PassesAll-none}
 use Rattle.web_run.specs.Links.{EndsLinks, log_of_visits}
 use Rattle.web_run.specs.Serving.{EndsPages, TakesAll, listens_line}
 use Rattle.web_run.proofs.Logging.{AppendsPart-then}
@@ -57,6 +54,11 @@ pub record IsBound (port : ℕ) (old bound : Door) : Type 0 where
   pub waiting : bound.waiting ≡ old.waiting
   pub closed : bound.closed ≡ old.closed
   pub later : old.faults ≤ bound.faults
+
+pub is_bound : {port : ℕ} {old bound : Door} → bound.port ≡ Some port → bound.waiting ≡ old.waiting
+    → bound.closed ≡ old.closed → old.faults ≤ bound.faults → IsBound port old bound
+is_bound port_is waiting closed later =
+    record { port_is = port_is; waiting = waiting; closed = closed; later = later }
 
 -- these tables, and what the keeper tells, are those of the desk
 pub record IsDesk (after : Standing) (new : Site) : Type 0 where
@@ -130,37 +132,6 @@ EndsPages-unsaid front plan begun old new door desk accepted live part = (
   subst (λ (text : List ℕ). SaysPart text old.world.link new.world.link) (sym (append-nil (listens_line plan.port)))
       part,
 )
-
--- ---- a call
-
--- what is left where a machine began does not speak of the keeper before
-EndsPages-before : (front : Front) (plan : Plan) (begun : Standing) (old : Site) (told : Option Rows)
-    (used : Uses) (new : Site) (end : ServeEnd) → EndsPages front plan begun (with_keeper old told used) new end
-    → EndsPages front plan begun old new end
-EndsPages-before front plan begun old told used new Done ends = ends
-EndsPages-before front plan begun old told used new WriteFault ends = ends
-EndsPages-before front plan begun old told used new NoMemory ends = ends
-EndsPages-before front plan begun old told used new DoorFault ends = ends
-
--- what is told in the end was told when the machine began
-EndsPages-no_more : (front : Front) (plan : Plan) (begun : Standing) (old new : Site) (end : ServeEnd)
-    → EndsPages front plan begun old new end → TellsNoMore begun.told new.world.told
-EndsPages-no_more front plan begun old new Done ends = Serves-no_more front plan.port begun old.door new ends.0 ends.1
-EndsPages-no_more front plan begun old new WriteFault ends =
-    Serves-no_more front plan.port begun old.door new ends.0 ends.1
-EndsPages-no_more front plan begun old new NoMemory ends = λ some. subst IsSome ends.0.told some
-EndsPages-no_more front plan begun old new DoorFault ends = elim ends.0 [
-  | inl idle ↦ λ some. subst IsSome idle.0.told some
-  | inr served ↦ Serves-no_more front plan.port begun old.door new served.0 served.1
-]
-
--- what serving leaves does not speak of the keeper before, and what is told in the end was told when the machine began
-pub EndsPages-begun : (front : Front) (plan : Plan) (begun : Standing) (old new : Site) (end : ServeEnd)
-    → EndsPages front plan begun (begun_at old begun) new end
-    → EndsPages front plan begun old new end × TellsNoMore begun.told new.world.told
-EndsPages-begun front plan begun old new end ends =
-    let all = EndsPages-before front plan begun old begun.told begun.uses new end ends in
-    (all, EndsPages-no_more front plan begun old new end all)
 
 -- ---- an output that takes all
 

@@ -1,6 +1,6 @@
 //! The links of a door, served one after another, and logged.
 ghost use Rattle.std.specs.Prelude.{◌≡◌, ◌≤◌, Some, None};
-ghost use Rattle.keeper_core.specs.Keeping.{IfTold};
+ghost use Rattle.keeper_core.specs.Keeping.{IfTold, TellsNoMore};
 ghost use Rattle.fixdesk_run.specs.Link.{link_with};
 ghost use Rattle.fixdesk_run.specs.Site.{door_seen};
 ghost use Rattle.fixdesk_run.specs.Standing.{standing};
@@ -36,6 +36,7 @@ pub fn serve_links<M: Machine + Drop, K: Keeper, L: Listener, W: Sink>(
         EndsLinks front.now count (desk machine.old keeper.old) (desk machine.new keeper.new) (seen door.old)
         (seen door.new) (link out.old) (link out.new) result }
     ensures told { IfTold (K.tables keeper.new) (M.rows machine.new) }
+    ensures no_more { TellsNoMore (K.tables keeper.old) (K.tables keeper.new) }
     ensures later { L.door_faults door.old ≤ L.door_faults door.new }
     ensures later_out { W.write_faults out.old ≤ W.write_faults out.new }
     ensures idle { L.live door.new ≡ 0 }

@@ -1,11 +1,9 @@
 //! The top call of the program `fixdesk_web`.
-ghost use Rattle.std.specs.Prelude.{◌≡◌, ◌⊎◌, map, string_bytes};
-ghost use Rattle.keeper_core.specs.Keeping.{IfTold};
-ghost use Rattle.fixdesk_run.specs.Serve.{AreSteadyFor, IsServedFaultless, end_code};
-ghost use Rattle.fixdesk_run.specs.Site.{Later, site};
-ghost use Rattle.fixdesk_run.specs.Standing.{standing};
+ghost use Rattle.std.specs.Prelude.{◌≡◌, map, string_bytes};
+ghost use Rattle.fixdesk_run.specs.Serve.{AreSteadyFor, IsServedFaultless};
+ghost use Rattle.fixdesk_run.specs.Site.{site};
 ghost use Rattle.web_run.specs.Plans.{web_plan};
-ghost use Rattle.web_run.specs.Serving.{EndsPages, LeavesPages, TakesAll};
+ghost use Rattle.web_run.specs.Serving.{EndsPages, LeavesPages, TakesAll, front_of, web_usage};
 
 use crate::links::serve_links;
 use crate::pages::PageTable;
@@ -13,7 +11,7 @@ use crate::plan::web_plan;
 use crate::saying::listens_line;
 use desk_base::{Failed, NoMemory, Sink, write_all};
 use desk_links::Listener;
-use fixdesk_run::{Plan, ServeEnd, stay_shut, tell_usage};
+use fixdesk_run::{Plan, ServeEnd, Service, run_service};
 use http_cut::Intake;
 use http_desk::{Front, LogLine};
 use keeper_core::Keeper;
@@ -44,69 +42,76 @@ pub fn serve_pages<M: Machine + Drop, K: Keeper, P: PageTable, L: Listener, W: S
     requires { L.live door.old ≡ 0 }
     ensures leaves { let site = site W.written W.write_faults K.tables K.calls K.faults L.door_faults L.port
         L.accepted L.live L.waiting L.closed in
-        LeavesPages (K.holds keeper.old) (P.listed pages.now) (map string_bytes words.now) (site out.old keeper.old door.old)
-        (site out.new keeper.new door.new) result }
+        LeavesPages (K.holds keeper.old) (P.listed pages.now) (map string_bytes words.now)
+        (site out.old keeper.old door.old) (site out.new keeper.new door.new) result }
     ensures idle { L.live door.new ≡ 0 }
     ensures complete { let plan = web_plan (map string_bytes words.now) in
         AreSteadyFor (K.is_steady keeper.old) (L.offers door.old) plan → TakesAll (W.takes out.old)
         → IsServedFaultless plan result }
 {
-    let Some(plan) = web_plan(words) else {
-        return tell_usage(USAGE, out).code();
-    };
-    let mut machine = match M::start(alloc, keeper) {
-        Ok(machine) => machine,
-        Err(fail) => return stay_shut(alloc, fail, out).code(),
-    };
-    let front = Front::guarded(plan.port, pages.pages());
-    let mut intake = match Intake::new(alloc) {
-        Ok(intake) => intake,
-        Err(NoMemory) => return ServeEnd::NoMemory.code(),
-    };
-    let end = serve_plan(&front, plan, &mut intake, &mut machine, keeper, door, out);
-    drop(intake);
-    end.code()
+    run_service::<M, _, K, L, W>(alloc, &Paging { table: pages }, words, keeper, door, out)
 }
 
-/// Serves the links of a plan over a front and a machine that began, with one intake and one line for all of them.
-fn serve_plan<M: Machine + Drop, K: Keeper, L: Listener, W: Sink>(
-    front: &Front<'_>,
-    plan: Plan,
-    intake: &mut Intake,
-    machine: &mut M,
-    keeper: &mut K,
-    door: &mut L,
-    out: &mut W,
-) -> ServeEnd
-    requires idle { L.live door.old ≡ 0 }
-    requires told { IfTold (K.tables keeper.old) (M.rows machine.old) }
-    ensures ends { let site = site W.written W.write_faults K.tables K.calls K.faults L.door_faults L.port L.accepted
-        L.live L.waiting L.closed in
-        EndsPages front.now plan (standing M.rows K.tables K.calls K.faults machine.old keeper.old)
-        (site out.old keeper.old door.old) (site out.new keeper.new door.new) result }
-    ensures later { let site = site W.written W.write_faults K.tables K.calls K.faults L.door_faults L.port
-        L.accepted L.live L.waiting L.closed in
-        Later (site out.old keeper.old door.old) (site out.new keeper.new door.new) }
-    ensures idle { L.live door.new ≡ 0 }
-    ensures complete { L.offers door.old plan.count → TakesAll (W.takes out.old)
-        → (end_code result ≡ 0) ⊎ (end_code result ≡ 5) }
-{
-    let alloc = intake.allocator();
-    let mut log = match LogLine::new(alloc) {
-        Ok(log) => log,
-        Err(NoMemory) => return ServeEnd::NoMemory,
-    };
-    let line = match listens_line(alloc, plan.port) {
-        Ok(line) => line,
-        Err(NoMemory) => return ServeEnd::NoMemory,
-    };
-    if let Err(Failed) = door.bind(plan.port) {
-        return ServeEnd::DoorFault;
+/// Links that are served over a front that guards the port and shows the pages of a table, and logged.
+#[derive(Drop)]
+struct Paging<'p, P> {
+    table: &'p P,
+}
+
+impl<'p, P: PageTable> Service for Paging<'p, P> {
+    ghost usage_line = { λ _. web_usage };
+
+    ghost planned = { λ _. web_plan };
+
+    ghost leaves = { λ service plan. EndsPages (front_of (P.listed service.table.now) plan) plan };
+
+    ghost takes = { λ _ takes _. TakesAll takes };
+
+    fn usage(&self) -> &[u8] {
+        USAGE
     }
-    if let Err(Failed) = write_all(out, line.as_slice()) {
-        return ServeEnd::WriteFault;
+
+    fn plan(&self, words: &[String]) -> Option<Plan> {
+        web_plan(words)
     }
-    serve_links(
-        front, plan.count, intake, &mut log, machine, keeper, door, out,
-    )
+
+    fn serve_plan<M: Machine + Drop, K: Keeper, L: Listener, W: Sink>(
+        &self,
+        alloc: Global,
+        plan: Plan,
+        machine: &mut M,
+        keeper: &mut K,
+        door: &mut L,
+        out: &mut W,
+    ) -> ServeEnd {
+        let front = Front::guarded(plan.port, self.table.pages());
+        let mut intake = match Intake::new(alloc) {
+            Ok(intake) => intake,
+            Err(NoMemory) => return ServeEnd::NoMemory,
+        };
+        let mut log = match LogLine::new(alloc) {
+            Ok(log) => log,
+            Err(NoMemory) => return ServeEnd::NoMemory,
+        };
+        let line = match listens_line(alloc, plan.port) {
+            Ok(line) => line,
+            Err(NoMemory) => return ServeEnd::NoMemory,
+        };
+        if let Err(Failed) = door.bind(plan.port) {
+            return ServeEnd::DoorFault;
+        }
+        if let Err(Failed) = write_all(out, line.as_slice()) {
+            return ServeEnd::WriteFault;
+        }
+        serve_links(
+            &front,
+            plan.count,
+            &mut intake,
+            &mut log,
+            machine,
+            keeper,
+            door,
+            out,
+        )
+    }
 }

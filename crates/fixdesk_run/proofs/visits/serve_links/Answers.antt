@@ -1,20 +1,18 @@
 use Rattle.std.proofs.Common.{◌≡◌, ℕ, ◌+◌, ◌-◌, arith, subst}
-use Rattle.fixdesk_run.specs.Site.{door_seen}
-use Rattle.fixdesk_run.specs.Standing.{standing}
+use Rattle.fixdesk_run.proofs.Sights.{desk_by, door_by}
 use Rattle.fixdesk_run.proofs.Visiting.{PassesCount-none, PassesCount-push, early_once}
 use Rattle.fixdesk_run.proofs.visits.serve_links.Goals as goal
 
 -- no link was served yet
 pub links-init : goal.links-init
 links-init g c =
-    let desk = standing g.M.Machine.rows g.K.Keeper.tables g.K.Keeper.calls g.K.Keeper.faults c.args.machine.now
-    c.args.keeper.now in
-    let door = door_seen g.L.Listener.door_faults g.L.Listener.port g.L.Listener.accepted g.L.Listener.live
-    g.L.Listener.waiting g.L.Listener.closed c.args.door.now in
+    let desk = desk_by g.M.Machine g.K.Keeper c.args.machine.now c.args.keeper.now in
+    let door = door_by g.L.Listener c.args.door.now in
     let all : c.args.count ≡ c.args.count - 0 = omega arith in
     record {
       passed = PassesCount-none c.args.front.now desk door c.requires.bound c.requires.idle;
       told = c.requires.told;
+      no_more = λ some. some;
       later = omega arith;
       offers = λ offers. subst (λ (n : ℕ). g.L.Listener.offers c.args.door.now n) all offers;
       within = omega arith;
@@ -30,6 +28,7 @@ links-preserved g c =
       passed = rw (c.from-early.ensures, c.is_early.ensures)
           (PassesCount-push c.links.invariant.passed c.in_ok-end.ensures.passed.0);
       told = c.serve_next.ensures.told;
+      no_more = λ some. c.links.invariant.no_more (c.serve_next.ensures.no_more some);
       later = omega (arith, c.links.invariant.later, c.serve_next.ensures.later);
       offers = λ offers.
           let now = subst (λ (n : ℕ). g.L.Listener.offers c.links.door n) more (c.links.invariant.offers offers) in

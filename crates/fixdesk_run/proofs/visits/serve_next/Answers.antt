@@ -1,6 +1,6 @@
 use Rattle.std.proofs.Common.{◌∙◌, refl}
 use Rattle.desk_links.specs.Doors.{link_seen}
-use Rattle.fixdesk_run.specs.Standing.{standing}
+use Rattle.fixdesk_run.proofs.Sights.{desk_by}
 use Rattle.fixdesk_run.proofs.visits.serve_next.Goals as goal
 
 -- the link was served and logged
@@ -15,8 +15,7 @@ returns-clause-passed g c =
           closed = seen c.serve_link-end.new.link;
           end = c.serve_link-end.result;
           answers = streams.answers;
-          after = standing g.M.Machine.rows g.K.Keeper.tables g.K.Keeper.calls g.K.Keeper.faults
-              c.serve_link-end.new.machine c.serve_link-end.new.keeper;
+          after = desk_by g.M.Machine g.K.Keeper c.serve_link-end.new.machine c.serve_link-end.new.keeper;
         };
         end_is = refl;
         after_is = refl;
@@ -29,3 +28,7 @@ returns-clause-passed g c =
       },
       line,
     )
+
+-- and the keeper tells no more than before
+pub returns-clause-no_more : goal.returns-clause-no_more
+returns-clause-no_more g c = c.serve_link-end.ensures.logged.0.later.told

@@ -1,6 +1,5 @@
 use Rattle.std.proofs.Common.{◌-◌, ℕ, length, refl, subst, arith}
-use Rattle.fixdesk_run.specs.Site.{Door, door_seen}
-use Rattle.fixdesk_run.specs.Standing.{Standing, standing}
+use Rattle.fixdesk_run.proofs.Sights.{desk_by, door_by}
 use Rattle.web_run.proofs.Leaving.{TakesAll-then}
 use Rattle.web_run.proofs.Logging.{Logged-none, Logged-then, Served-push, log-part}
 use Rattle.web_run.proofs.links.serve_links.Goals as goal
@@ -8,14 +7,13 @@ use Rattle.web_run.proofs.links.serve_links.Goals as goal
 -- none was served yet
 pub links-init : goal.links-init
 links-init g c =
-    let desk : Standing = standing g.M.Machine.rows g.K.Keeper.tables g.K.Keeper.calls g.K.Keeper.faults
-    c.args.machine.now c.args.keeper.now in
-    let door : Door = door_seen g.L.Listener.door_faults g.L.Listener.port g.L.Listener.accepted g.L.Listener.live
-    g.L.Listener.waiting g.L.Listener.closed c.args.door.now in
+    let desk = desk_by g.M.Machine g.K.Keeper c.args.machine.now c.args.keeper.now in
+    let door = door_by g.L.Listener c.args.door.now in
     record {
       logged = Logged-none c.args.front.now desk door (g.W.Sink.written c.args.out.now) c.requires.bound
           c.requires.idle;
       told = c.requires.told;
+      no_more = λ some. some;
       later = omega arith;
       later_out = omega arith;
       offers = λ is. subst (g.L.Listener.offers c.args.door.now) (omega arith) is;
@@ -63,6 +61,7 @@ links-preserved g c =
     record {
       logged = Logged-then served (rw c.bytes.ensures at c.in_default-write_all.ensures.written);
       told = c.serve_next.ensures.told;
+      no_more = λ some. c.links.invariant.no_more (c.serve_next.ensures.no_more some);
       later = omega (arith, before, now);
       later_out = omega (arith, before_out, now_out);
       offers = λ is.
