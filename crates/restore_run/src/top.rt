@@ -9,12 +9,13 @@ ghost use Rattle.restore_run.specs.Restoring.{TakesDamage, TakesText, scene};
 
 use crate::ended::RestoreEnd;
 use crate::keeping::keep;
-use crate::taking::{TakeFault, text_of};
+use crate::taking::text_of;
 use crate::telling::{tell_damage, tell_usage};
 use desk_base::{Both, Sink, Source};
 use desk_restore::{RestoreFault, Restored, restore};
 use desk_valid::{Bad, valid};
 use keeper_core::Keeper;
+use once_run::InputFault;
 use std::alloc::Global;
 
 /// Makes the desk whose dump the link has left, where the keeper has a new desk, and says how that ended
@@ -42,8 +43,8 @@ pub fn restore_desk<K: Keeper, S: Source, W: Sink>(
     }
     let text = match text_of(alloc, &mut link.source) {
         Ok(text) => text,
-        Err(TakeFault::Failed) => return RestoreEnd::ReadFault,
-        Err(TakeFault::NoMemory) => return RestoreEnd::NoMemory,
+        Err(InputFault::Failed) => return RestoreEnd::ReadFault,
+        Err(InputFault::NoMemory) => return RestoreEnd::NoMemory,
     };
     restore_text(alloc, text.as_slice(), keeper, &mut link.sink)
 }
