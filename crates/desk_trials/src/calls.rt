@@ -52,9 +52,7 @@ impl<'a> Call<'a> {
     /// Makes the call over the tables of an empty desk.
     pub fn make_alone(&self, alloc: Global) -> Result<Told, Fail> {
         let mut keeper = fresh(alloc)?;
-        let told = self.make(alloc, &mut keeper);
-        drop(keeper);
-        told
+        self.make(alloc, &mut keeper)
     }
 
     /// Makes the call over a keeper.

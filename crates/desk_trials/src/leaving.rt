@@ -39,9 +39,7 @@ impl Script {
 /// Whether requests to an empty desk, sent in one stream, leave tables that show this.
 pub fn leave(alloc: Global, requests: &[u8], wanted: &str) -> Result<bool, Fail> {
     let mut keeper = fresh(alloc)?;
-    let is_left = leave_in(alloc, &mut keeper, requests, wanted);
-    drop(keeper);
-    is_left
+    leave_in(alloc, &mut keeper, requests, wanted)
 }
 
 fn leave_in(

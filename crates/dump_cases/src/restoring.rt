@@ -14,9 +14,7 @@ const USUAL_ROOM: usize = 1_000;
 /// What a dump is answered, and what the keeper has in the end.
 pub fn told(case: &Case, answer: &mut Answer) -> Result<(), Fail> {
     let mut keeper = keeper_of(answer.alloc(), case)?;
-    let told = told_over(case, &mut keeper, answer);
-    drop(keeper);
-    told
+    told_over(case, &mut keeper, answer)
 }
 
 /// The same over this keeper.

@@ -14,9 +14,7 @@ const ROOM: usize = 32_000_000;
 /// from a start.
 pub fn told(case: &Case, answer: &mut Answer) -> Result<(), Fail> {
     let mut keeper = fresh(answer.alloc())?;
-    let told = told_over(case, &mut keeper, answer);
-    drop(keeper);
-    told
+    told_over(case, &mut keeper, answer)
 }
 
 /// The same over this keeper.

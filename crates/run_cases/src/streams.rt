@@ -137,9 +137,7 @@ fn add_told(case: &Case, part: &Part, told: &Told, answer: &mut Answer) -> Resul
 /// What the calls of a case were answered, and whether its keeper is left with the tables that are wanted.
 pub fn told(script: &Script, case: &Case, answer: &mut Answer) -> Result<(), Fail> {
     let mut keeper = keeper_of(answer.alloc(), case)?;
-    let told = told_over(script, case, &mut keeper, answer);
-    drop(keeper);
-    told
+    told_over(script, case, &mut keeper, answer)
 }
 
 /// The same over the keeper of the case.

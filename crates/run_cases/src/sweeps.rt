@@ -96,9 +96,7 @@ fn tell_lines(
 /// What is told of a call in which a call of this end fails, and whether none failed.
 fn line(alloc: Global, end: End, script: &Script, call: &Call<'_>) -> Result<(String, bool), Fail> {
     let mut keeper = fresh(alloc)?;
-    let line = line_over(alloc, end, script, call, &mut keeper);
-    drop(keeper);
-    line
+    line_over(alloc, end, script, call, &mut keeper)
 }
 
 fn line_over(

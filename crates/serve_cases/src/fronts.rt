@@ -22,9 +22,7 @@ const CUT: usize = 65_536;
 /// What the bytes of a case are answered over its front by an empty desk, and the tables that are left.
 pub fn told(case: &Case, answer: &mut Answer) -> Result<(), Fail> {
     let mut keeper = fresh(answer.alloc())?;
-    let told = told_over(case, &mut keeper, answer);
-    drop(keeper);
-    told
+    told_over(case, &mut keeper, answer)
 }
 
 fn told_over(case: &Case, keeper: &mut MemKeeper, answer: &mut Answer) -> Result<(), Fail> {

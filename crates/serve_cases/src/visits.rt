@@ -11,9 +11,7 @@ use std::test::Fail;
 /// What the call of a case was answered, and what is left of its door and of its keeper's tables.
 pub fn told(called: Called, case: &Case, answer: &mut Answer) -> Result<(), Fail> {
     let mut keeper = keeper_of(answer.alloc(), case)?;
-    let told = told_over(called, case, &mut keeper, answer);
-    drop(keeper);
-    told
+    told_over(called, case, &mut keeper, answer)
 }
 
 /// The same over the keeper of the case. Its words name parts of the case alone, as over a script without requests.
@@ -83,7 +81,5 @@ fn tell_one(case: &Case, words: &Part, served: &Served, answer: &mut Answer) -> 
 /// Makes a call with these words over an empty desk.
 fn alone(alloc: Global, called: Called, case: &Case, words: &[u8]) -> Result<Served, Fail> {
     let mut keeper = fresh(alloc)?;
-    let served = call(alloc, called, case, words, &mut keeper);
-    drop(keeper);
-    served
+    call(alloc, called, case, words, &mut keeper)
 }

@@ -56,9 +56,7 @@ fn serve_with(
     words: &[String],
 ) -> Result<Served, Fail> {
     let mut keeper = fresh(alloc)?;
-    let served = serve_over(alloc, rt, case, words, &mut keeper);
-    drop(keeper);
-    served
+    serve_over(alloc, rt, case, words, &mut keeper)
 }
 
 /// Serves over this keeper.
