@@ -57,6 +57,11 @@ AreKnown-replicate kit state = record {
   known = λ place answer within done. absurd (let none = get_or-replicate_self Pending (length kit.rules) place in cc);
 }
 
+-- so it is where all was forgotten for the rules of a kit
+pub AreKnown-forgotten : (kit : Kit) (state : State) (remembered : List Remembered) (rules : List Rule)
+    → remembered ≡ replicate (length rules) Pending → rules ≡ kit.rules → AreKnown kit state remembered
+AreKnown-forgotten kit state remembered rules forgotten same = rw (forgotten, same) (AreKnown-replicate kit state)
+
 -- what is remembered stays true after a step
 pub AreKnown-after : (kit : Kit) (state : State) (step : Step) (looks : List Remembered) → Fires kit state step
     → AreKnown kit state looks → AreKnown kit (after kit state step) looks
@@ -128,18 +133,6 @@ pub LooksAround-then : (kit : Kit) (state later : State) (old new newer : Looks)
     → LooksAround kit later old newer before after_those
 LooksAround-then kit state later old new newer before after_these after_those these those = record {
   known = those.known;
-  looks = omega (arith, these.looks, those.looks);
-  room = omega (arith, these.room, those.room);
-}
-
--- and so they are after a step
-pub LooksAround-step : (kit : Kit) (state : State) (step : Step) (old new newer : Looks)
-    (before after_these after_those : Counts)
-    → Fires kit state step → LooksAround kit state old new before after_these
-    → LooksAround kit state new newer after_these after_those
-    → LooksAround kit (after kit state step) old newer before after_those
-LooksAround-step kit state step old new newer before after_these after_those fires these those = record {
-  known = AreKnown-after kit state step newer.remembered.items fires those.known;
   looks = omega (arith, these.looks, those.looks);
   room = omega (arith, these.room, those.room);
 }

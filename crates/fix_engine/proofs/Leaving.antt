@@ -4,13 +4,14 @@ use Rattle.std.proofs.Common.{subst, eqb, eqb-true, inl, inr, arith}
 use Rattle.std.specs.Prelude.{IsSome, MatchOption, Option, Some, None}
 use Rattle.std.proofs.lemmas.Bool.{cases_Bool, eqb-false}
 use Rattle.std.proofs.lemmas.List.{get_or-set_other, get_or-set_same}
+use Rattle.fix_model.specs.declared.book.Hit.{Hit}
 use Rattle.fix_model.specs.declared.kit.Kit.{Kit}
 use Rattle.fix_model.specs.declared.rule.Rule.{Rule}
 use Rattle.fix_model.specs.declared.state.State.{State}
 use Rattle.fix_model.specs.declared.state.Step.{Step}
 use Rattle.fix_model.specs.Application.{IsEnabled, RowAgrees}
 use Rattle.fix_model.specs.Fix.{Dissents, IsLeastDissent}
-use Rattle.fix_model.specs.Hit.{IsOtherRow, SharesLook}
+use Rattle.fix_model.specs.Hit.{IsFound, IsOtherRow, SharesLook}
 use Rattle.fix_model.specs.Order.{IsBefore}
 use Rattle.fix_model.specs.Rules.{rule_at, from_text}
 use Rattle.fix_model.specs.Run.{IsFinal}
@@ -18,7 +19,7 @@ use Rattle.fix_model.specs.States.{IsCovered, cell_at, is_covering, value_at}
 use Rattle.fix_model.proofs.Deciding.{decide_less}
 use Rattle.fix_engine.specs.declared.leads.Lead.{Lead}
 use Rattle.fix_engine.specs.declared.leads.Lead.TheVariants.{Nothing, Keeps, Leaves}
-use Rattle.fix_engine.specs.Leads.{AreLeads, IsLead, leaving_row}
+use Rattle.fix_engine.specs.Leads.{AreLeads, IsHitAt, IsLead, IsMissedAt, leaving_row}
 
 -- what holds at the first places of a list, and of an item that is set at the next, holds at these places with it
 pub each-set : {A : Type 0} (P : ℕ → A → Type 0) (items : List A) (count : ℕ) (item d : A) → count < length items
@@ -30,6 +31,13 @@ each-set P items count item d within each new place below = elim (cases_Bool (eq
       let apart = eqb-false place count other in
       rw (get_or-set_other items count place item d apart) (each place (omega arith))
 ]
+
+-- what an enabled rule finds is what there is for it
+pub IsHitAt-found : (kit : Kit) (state : State) (place : ℕ) (found : Option Hit)
+    → IsEnabled kit state (rule_at kit place) → IsFound kit (value_at kit state) (rule_at kit place) found
+    → MatchOption found (IsMissedAt kit state place) (IsHitAt kit state place)
+IsHitAt-found kit state place None enabled missed = λ enabled_still. missed
+IsHitAt-found kit state place (Some hit) enabled found = record { enabled = enabled; found = found }
 
 -- rules with the same look and the same head are the same
 same_rule : (one other : Rule) → one.keys ≡ other.keys → one.head ≡ other.head → one.from ≡ other.from

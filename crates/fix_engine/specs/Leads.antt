@@ -18,10 +18,13 @@ pub record IsHitAt (kit : Kit) (end : State) (place : ℕ) (hit : Hit) : Type 0 
   pub enabled : IsEnabled kit end (rule_at kit place)
   pub found : IsHit kit (value_at kit end) (rule_at kit place) hit
 
+-- the rule is not enabled at the end, or no row agrees
+abbrev pub IsMissedAt : Kit → State → ℕ → Type 0
+IsMissedAt kit end place = IsEnabled kit end (rule_at kit place) → IsMissed kit (value_at kit end) (rule_at kit place)
+
 -- what the rule does at the end: nothing where it is not enabled or no row agrees, else by the first row that agrees
 abbrev pub IsLead : Kit → State → ℕ → Lead → Type 0
-IsLead kit end place Nothing = IsEnabled kit end (rule_at kit place)
-    → IsMissed kit (value_at kit end) (rule_at kit place)
+IsLead kit end place Nothing = IsMissedAt kit end place
 IsLead kit end place (Keeps hit) = IsHitAt kit end place hit
     × (from_text kit (rule_at kit place) hit.first ≡ value_at kit end (rule_at kit place).head)
 IsLead kit end place (Leaves hit) = IsHitAt kit end place hit

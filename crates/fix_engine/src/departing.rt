@@ -12,6 +12,7 @@ ghost use Rattle.fix_engine.specs.Leads.{TellsDissent};
 use crate::flags::{flag_covered, flag_none, has_flags, is_flagged};
 use crate::leads::Leads;
 use fix_model::{Book, Rule, State, Step};
+use std::ops::Range;
 
 impl Leads {
     /// Flags the attributes at which a run from the state can depart: none where no step dissents at the end.
@@ -165,29 +166,28 @@ impl Leads {
     {
         let count = book.rules().len() as u16;
         let middle = from.min(count);
-        match self.next_rule_among(flags, book, left_out, middle, count) {
+        match self.next_rule_among(flags, book, left_out, middle..count) {
             Some(rule) => Some(rule),
-            None => self.next_rule_among(flags, book, left_out, 0, middle),
+            None => self.next_rule_among(flags, book, left_out, 0..middle),
         }
     }
 
-    /// A rule from one on and before another that goes on from what is flagged, or none.
+    /// The first of these rules that goes on from what is flagged, or none.
     fn next_rule_among<L, B: Book<L>>(
         &self,
         flags: &[bool],
         book: &B,
         left_out: u16,
-        from: u16,
-        before: u16,
+        rules: Range<u16>,
     ) -> Option<u16>
-        requires { before ≤ length (B.kit book.now).rules }
+        requires { rules.end ≤ length (B.kit book.now).rules }
         ensures { MatchOption result
-            ((place : ℕ) → from ≤ place → place < before
+            ((place : ℕ) → rules.start ≤ place → place < rules.end
             → ¬ IsNextRule (B.kit book.now) self.now.leads.items flags.now left_out place)
-            (λ rule. (rule < before)
+            (λ rule. (rule < rules.end)
             × IsNextRule (B.kit book.now) self.now.leads.items flags.now left_out rule) }
     {
-        'rules: for rule in from..before {
+        'rules: for rule in rules {
             if self.is_next_rule(flags, book, left_out, rule) {
                 return Some(rule);
             }

@@ -4,7 +4,7 @@ ghost use Rattle.fix_model.specs.Rules.{IsStepOf};
 ghost use Rattle.fix_model.specs.Run.{IsFinal};
 ghost use Rattle.fix_model.specs.States.{Fits};
 ghost use Rattle.fix_engine.specs.Departures.{Keeps};
-ghost use Rattle.fix_engine.specs.Leads.{AreLeads, IsLead, TellsDissent, is_keeping, leaving_row};
+ghost use Rattle.fix_engine.specs.Leads.{AreLeads, IsHitAt, IsLead, TellsDissent, is_keeping, leaving_row};
 ghost use Rattle.fix_engine.specs.Looks.{Knows, LooksAround};
 
 use crate::departing::head_of;
@@ -106,7 +106,13 @@ impl Leads {
         if earlier < rule && head_of(book, earlier) == head_of(book, rule) {
             return self.lead(earlier);
         }
-        looks.lead_of(book, state, rule, counts)
+        if !state.covers(head_of(book, rule)) {
+            return Lead::Nothing;
+        }
+        match looks.hit_at(book, state, rule, counts) {
+            Some(hit) => lead_by::<L, B>(book, state, rule, hit),
+            None => Lead::Nothing,
+        }
     }
 
     /// What a rule does, nothing past the last rule.
@@ -136,39 +142,21 @@ impl Leads {
     }
 }
 
-impl Looks {
-    fn lead_of<L, B: Book<L>>(
-        &mut self,
-        book: &B,
-        state: &State,
-        rule: u16,
-        counts: &mut Steps<L>,
-    ) -> Lead
-        requires rule_within { rule < length (B.kit book.now).rules }
-        requires knows { Knows (B.kit book.now) state.now self.old }
-        requires ended { IsFinal (B.kit book.now) state.now }
-        ensures lead { IsLead (B.kit book.now) state.now rule result }
-        ensures looks { LooksAround (B.kit book.now) state.now self.old self.new counts.old counts.new }
-    {
-        let this = &book.rules()[usize::from(rule)];
-        if !state.covers(this.head) {
-            return Lead::Nothing;
-        }
-        if !enabled::<L, B>(book, state, this) {
-            return Lead::Nothing;
-        }
-        let Some(hit) = self.look_up(book, state, rule, counts) else {
-            return Lead::Nothing;
-        };
-        let first = Step {
-            rule,
-            row: hit.first,
-        };
-        if keeps::<L, B>(book, state, first) {
-            Lead::Keeps(hit)
-        } else {
-            Lead::Leaves(hit)
-        }
+/// What a rule does whose look finds this.
+fn lead_by<L, B: Book<L>>(book: &B, state: &State, rule: u16, hit: Hit) -> Lead
+    requires rule_within { rule < length (B.kit book.now).rules }
+    requires fits { Fits (B.kit book.now) state.now }
+    requires hit { IsHitAt (B.kit book.now) state.now rule hit }
+    ensures { IsLead (B.kit book.now) state.now rule result }
+{
+    let first = Step {
+        rule,
+        row: hit.first,
+    };
+    if keeps::<L, B>(book, state, first) {
+        Lead::Keeps(hit)
+    } else {
+        Lead::Leaves(hit)
     }
 }
 

@@ -1,12 +1,10 @@
 //! The looks into a book, each made at most once for a rule.
-ghost use Rattle.std.specs.Prelude.{◌≡◌, ◌<◌, ◌≤◌, All, length, replicate, IfOk, vec_capacity};
-ghost use Rattle.fix_model.specs.Hit.{IsFound};
-ghost use Rattle.fix_model.specs.Rules.{rule_at};
-ghost use Rattle.fix_model.specs.States.{IsCovered, value_at};
+ghost use Rattle.std.specs.Prelude.{◌≡◌, ◌<◌, ◌≤◌, length, replicate, IfOk, MatchOption, vec_capacity};
+ghost use Rattle.fix_engine.specs.Leads.{IsHitAt, IsMissedAt};
 ghost use Rattle.fix_engine.specs.Looks.{Knows, LooksAround};
 
 use desk_base::Steps;
-use fix_model::{Book, Hit, Rule, State};
+use fix_model::{Book, Hit, Rule, State, enabled};
 use std::alloc::{AllocError, Global};
 
 /// What is remembered of a rule's rows.
@@ -50,9 +48,9 @@ impl Looks {
         }
     }
 
-    /// What a look for the rule finds. It is made where it was not made yet, for this rule or another that shares it,
-    /// and remembered for all of these.
-    pub(crate) fn look_up<L, B: Book<L>>(
+    /// What a look for the rule finds, or none where the rule is not enabled or no row agrees. The look is made where
+    /// it was not made yet, for this rule or another that shares it, and remembered for all of these.
+    pub(crate) fn hit_at<L, B: Book<L>>(
         &mut self,
         book: &B,
         state: &State,
@@ -61,12 +59,14 @@ impl Looks {
     ) -> Option<Hit>
         requires rule_within { rule < length (B.kit book.now).rules }
         requires knows { Knows (B.kit book.now) state.now self.old }
-        requires covered { All (λ key. IsCovered state.now key.0) (rule_at (B.kit book.now) rule).keys }
-        requires conds { All (λ cond. IsCovered state.now cond.0) (rule_at (B.kit book.now) rule).conds }
-        ensures found { IsFound (B.kit book.now) (value_at (B.kit book.now) state.now)
-            (rule_at (B.kit book.now) rule) result }
+        ensures hit { MatchOption result (IsMissedAt (B.kit book.now) state.now rule)
+            (IsHitAt (B.kit book.now) state.now rule) }
         ensures looks { LooksAround (B.kit book.now) state.now self.old self.new counts.old counts.new }
     {
+        let this = &book.rules()[usize::from(rule)];
+        if !enabled::<L, B>(book, state, this) {
+            return None;
+        }
         let place = usize::from(book.earliest(rule));
         match self.remembered[place] {
             Remembered::Done(answer) => answer,

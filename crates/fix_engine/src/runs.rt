@@ -59,7 +59,6 @@ impl Runs {
         self.saved
             .extend_from_slice(state.cells.as_slice())
             .unwrap();
-        looks.forget(book.rules());
         looks.complete(&mut self.first, book, state, counts);
     }
 

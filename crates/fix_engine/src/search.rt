@@ -88,7 +88,6 @@ impl Search {
     {
         self.leads
             .depart(&mut self.runs.second, &mut self.departures, book, state);
-        self.looks.forget(book.rules());
         self.looks
             .complete(&mut self.runs.second, book, state, counts);
         self.runs.restore(state);

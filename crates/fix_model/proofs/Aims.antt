@@ -2,7 +2,7 @@
 use Rattle.std.proofs.Common.{◌≡◌, ◌<◌, ◌+◌, ◌++◌, ◌∷◌, ◌∙◌, ℕ, List, [], true, false, length, take, get_or, ap}
 use Rattle.std.proofs.lemmas.List.{map-append}
 use Rattle.std.proofs.lemmas.List.Elements.{All-filter, All-map}
-use Rattle.std.specs.Prelude.{All, MatchOption, Option}
+use Rattle.std.specs.Prelude.{All, Option}
 use Rattle.desk_base.specs.Grid.{cell_text}
 use Rattle.fix_model.specs.declared.book.Hit.{Hit}
 use Rattle.desk_base.proofs.Lists.{All-unmap}
@@ -13,7 +13,7 @@ use Rattle.fix_model.specs.Alike.{AreAlike}
 use Rattle.fix_model.specs.Application.{RowAgrees, RowAgreesAt}
 use Rattle.fix_model.specs.Hit.{covered_among, covered_keys, IsFound, IsHit, IsHitOf}
 use Rattle.fix_model.specs.Rules.{from_text, is_folded, master_of}
-use Rattle.fix_model.specs.Sought.{Aim, aims_at, aims_of, HasColumns, Meets}
+use Rattle.fix_model.specs.Sought.{Aim, aims_at, aims_of, HasColumns, Meets, TellsHit}
 use Rattle.fix_model.specs.States.{cell_at, is_covering, IsCovered, value_at}
 use Rattle.fix_model.specs.Valid.{IsValidRule}
 use Rattle.fix_model.proofs.Filters.{filter-take-passes, filter-take-fails}
@@ -80,9 +80,7 @@ module _ (kit : Kit) (state : State) (rule : Rule) where
     Meets-row_agrees row agrees = Meets-agreeing row (rw (covered_keys-all state rule covered) agrees)
 
     -- so what there is to find among these is what a look finds
-    pub IsFound-met : (answer : Option Hit) → MatchOption answer
-        ((row : ℕ) → ¬ Meets (master_of kit rule) rule (aims_of kit state rule) row)
-        (IsHitOf (from_text kit rule) (Meets (master_of kit rule) rule (aims_of kit state rule)))
+    pub IsFound-met : (answer : Option Hit) → TellsHit (master_of kit rule) rule (aims_of kit state rule) answer
         → IsFound kit (value_at kit state) rule answer
     IsFound-met answer met = match_option (IsHitOf (from_text kit rule)
         (Meets (master_of kit rule) rule (aims_of kit state rule))) (IsHit kit (value_at kit state) rule) answer

@@ -5,6 +5,7 @@ pub mod Covered
 pub mod Deciding
 pub mod Filters
 pub mod Hits
+pub mod Items
 pub mod LeftSides
 pub mod Lengths
 pub mod Order

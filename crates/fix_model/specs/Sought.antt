@@ -1,14 +1,15 @@
 -- What a look seeks at the covered keys of a rule, and which rows of a master meet it.
-use Rattle.std.specs.Prelude.{ℕ, ◌<◌, Bool, List, map, All, refl}
+use Rattle.std.specs.Prelude.{◌≡◌, ℕ, ◌<◌, Bool, List, Option, MatchOption, map, All, refl}
 use Rattle.std.specs.Coded.{Coded, code_by, coded×, coded_bool, coded_list, coded_ℕ}
 use Rattle.desk_base.specs.Grid.{GridRows, cell_text}
+use Rattle.fix_model.specs.declared.book.Hit.{Hit}
 use Rattle.fix_model.specs.declared.kit.Kit.{Kit}
 use Rattle.fix_model.specs.declared.rows.SoughtText.{SoughtText}
 use Rattle.fix_model.specs.declared.rule.Rule.{Rule}
 use Rattle.fix_model.specs.declared.state.State.{State}
 use Rattle.fix_model.specs.Alike.{AreAlike}
 use Rattle.fix_model.specs.Application.{IsUsableIn}
-use Rattle.fix_model.specs.Hit.{covered_keys}
+use Rattle.fix_model.specs.Hit.{IsFirstOf, IsHitOf, IsOtherOf, covered_keys}
 use Rattle.fix_model.specs.Rules.{is_folded}
 use Rattle.fix_model.specs.States.{value_at}
 
@@ -47,3 +48,21 @@ pub record HasColumns (master : GridRows) (rule : Rule) (aims : List Aim) : Type
   pub keys : All (λ key. key.1 < master.columns) rule.keys
   pub from : rule.from < master.columns
   pub sought : All (λ aim. aim.column < master.columns) aims
+
+-- the least row that meets what is sought, or none where no row does
+abbrev pub TellsFirst : GridRows → Rule → List Aim → Option ℕ → Type 0
+TellsFirst master rule aims found =
+    MatchOption found ((row : ℕ) → ¬ Meets master rule aims row) (IsFirstOf (Meets master rule aims))
+
+-- the least row that meets it and gives another text than a first one, or none where all of them give the same
+abbrev pub TellsOther : GridRows → Rule → List Aim → ℕ → Option ℕ → Type 0
+TellsOther master rule aims first found =
+    MatchOption found
+    ((row : ℕ) → Meets master rule aims row → cell_text master row rule.from ≡ cell_text master first rule.from)
+    (IsOtherOf (λ row. cell_text master row rule.from) (Meets master rule aims) first)
+
+-- the least row that meets it, and the least that gives another text, or none where no row does
+abbrev pub TellsHit : GridRows → Rule → List Aim → Option Hit → Type 0
+TellsHit master rule aims found =
+    MatchOption found ((row : ℕ) → ¬ Meets master rule aims row)
+    (IsHitOf (λ row. cell_text master row rule.from) (Meets master rule aims))

@@ -1,5 +1,5 @@
 //! Look-ups over one valid kit.
-ghost use Rattle.std.specs.Prelude.{◌≡◌, ◌+◌, ◌-◌, ◌^◌, ◌<◌, ◌≤◌, ◌↔◌, All, IfOk, min, length, IsTrue, slice_index_or};
+ghost use Rattle.std.specs.Prelude.{◌≡◌, ◌+◌, ◌-◌, ◌^◌, ◌<◌, ◌≤◌, ◌↔◌, All, IfOk, min, length, IsTrue};
 ghost use Rattle.fix_model.specs.declared.kit.Kit.{Kit as KitOf};
 ghost use Rattle.fix_model.specs.Hit.{IsFound, SharesLook, SomeRowAgrees};
 ghost use Rattle.fix_model.specs.Rules.{rule_at, step_text, IsStepOf, is_folded};

@@ -1,8 +1,7 @@
 //! The plain book over a kit that is lent, which looks through all rows of a master.
-ghost use Rattle.std.specs.Prelude.{◌≡◌, ◌↔◌, ℕ, IsTrue, MatchOption};
-ghost use Rattle.desk_base.specs.Grid.{cell_text};
-ghost use Rattle.fix_model.specs.Hit.{IsFirstOf, IsHitOf, IsOtherOf, SomeRowAgrees};
-ghost use Rattle.fix_model.specs.Sought.{HasColumns, Meets};
+ghost use Rattle.std.specs.Prelude.{◌≡◌, ◌↔◌, IsTrue};
+ghost use Rattle.fix_model.specs.Hit.{IsFirstOf, SomeRowAgrees};
+ghost use Rattle.fix_model.specs.Sought.{HasColumns, Meets, TellsFirst, TellsHit, TellsOther};
 ghost use Rattle.fix_model.specs.States.{Fits};
 ghost use Rattle.fix_model.specs.Valid.{IsValid, IsValidRule};
 
@@ -63,8 +62,7 @@ impl<'a, L> Book<L> for LentBook<'a> {
 
 fn hit_in(master: &Grid, rule: &Rule, sought: &Sought<'_>) -> Option<Hit>
     requires { HasColumns master.now rule.now sought.now }
-    ensures { MatchOption result ((row : ℕ) → ¬ Meets master.now rule.now sought.now row)
-        (IsHitOf (λ row. cell_text master.now row rule.now.from) (Meets master.now rule.now sought.now)) }
+    ensures { TellsHit master.now rule.now sought.now result }
 {
     let first = first_row(master, rule, sought)?;
     let other = other_row(master, rule, sought, first);
@@ -73,8 +71,7 @@ fn hit_in(master: &Grid, rule: &Rule, sought: &Sought<'_>) -> Option<Hit>
 
 fn first_row(master: &Grid, rule: &Rule, sought: &Sought<'_>) -> Option<u32>
     requires { HasColumns master.now rule.now sought.now }
-    ensures { MatchOption result ((row : ℕ) → ¬ Meets master.now rule.now sought.now row)
-        (IsFirstOf (Meets master.now rule.now sought.now)) }
+    ensures { TellsFirst master.now rule.now sought.now result }
 {
     'rows: for row in 0..master.rows() {
         if sought.agrees(master, rule, row) {
@@ -87,10 +84,7 @@ fn first_row(master: &Grid, rule: &Rule, sought: &Sought<'_>) -> Option<u32>
 fn other_row(master: &Grid, rule: &Rule, sought: &Sought<'_>, first: u32) -> Option<u32>
     requires columns { HasColumns master.now rule.now sought.now }
     requires first_row { IsFirstOf (Meets master.now rule.now sought.now) first }
-    ensures { MatchOption result
-        ((row : ℕ) → Meets master.now rule.now sought.now row
-        → cell_text master.now row rule.now.from ≡ cell_text master.now first rule.now.from)
-        (IsOtherOf (λ row. cell_text master.now row rule.now.from) (Meets master.now rule.now sought.now) first) }
+    ensures { TellsOther master.now rule.now sought.now first result }
 {
     'rows: for row in first..master.rows() {
         if sought.gives_other(master, rule, first, row) {

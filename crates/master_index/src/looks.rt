@@ -1,8 +1,6 @@
 //! Looks through rows of a master that are listed.
-ghost use Rattle.std.specs.Prelude.{◌≡◌, ℕ, MatchOption};
-ghost use Rattle.desk_base.specs.Grid.{cell_text};
-ghost use Rattle.fix_model.specs.Hit.{IsFirstOf, IsHitOf, IsOtherOf};
-ghost use Rattle.fix_model.specs.Sought.{HasColumns, Meets};
+ghost use Rattle.fix_model.specs.Hit.{IsFirstOf};
+ghost use Rattle.fix_model.specs.Sought.{HasColumns, Meets, TellsFirst, TellsHit, TellsOther};
 ghost use Rattle.master_index.specs.Index.{AreCandidates};
 
 use desk_base::Grid;
@@ -17,8 +15,7 @@ pub(crate) fn hit_among(
 ) -> Option<Hit>
     requires columns { HasColumns master.now rule.now sought.now }
     requires rows { AreCandidates master.now rule.now sought.now rows.now }
-    ensures { MatchOption result ((row : ℕ) → ¬ Meets master.now rule.now sought.now row)
-        (IsHitOf (λ row. cell_text master.now row rule.now.from) (Meets master.now rule.now sought.now)) }
+    ensures { TellsHit master.now rule.now sought.now result }
 {
     let first = first_among(master, rule, sought, rows)?;
     let other = other_among(master, rule, sought, rows, first);
@@ -34,8 +31,7 @@ pub(crate) fn first_among(
 ) -> Option<u32>
     requires columns { HasColumns master.now rule.now sought.now }
     requires rows { AreCandidates master.now rule.now sought.now rows.now }
-    ensures { MatchOption result ((row : ℕ) → ¬ Meets master.now rule.now sought.now row)
-        (IsFirstOf (Meets master.now rule.now sought.now)) }
+    ensures { TellsFirst master.now rule.now sought.now result }
 {
     'rows: for row in rows {
         if sought.agrees(master, rule, *row) {
@@ -55,10 +51,7 @@ fn other_among(
     requires columns { HasColumns master.now rule.now sought.now }
     requires rows { AreCandidates master.now rule.now sought.now rows.now }
     requires first_row { IsFirstOf (Meets master.now rule.now sought.now) first }
-    ensures { MatchOption result
-        ((row : ℕ) → Meets master.now rule.now sought.now row
-        → cell_text master.now row rule.now.from ≡ cell_text master.now first rule.now.from)
-        (IsOtherOf (λ row. cell_text master.now row rule.now.from) (Meets master.now rule.now sought.now) first) }
+    ensures { TellsOther master.now rule.now sought.now first result }
 {
     'rows: for row in rows {
         if sought.gives_other(master, rule, first, *row) {

@@ -1,5 +1,5 @@
 //! The book over a kit with a sorted index of its masters.
-ghost use Rattle.std.specs.Prelude.{◌≡◌, ◌+◌, ◌-◌, ◌^◌, ◌<◌, ◌≤◌, ◌↔◌, ℕ, All, length, min, IfOk, IsErrOf, IsTrue};
+ghost use Rattle.std.specs.Prelude.{◌≡◌, ◌+◌, ◌-◌, ◌^◌, ◌<◌, ◌≤◌, ◌↔◌, ℕ, All, length, min, IfOk, IsErrOf};
 ghost use Rattle.fix_model.specs.Entries.{entries};
 ghost use Rattle.fix_model.specs.Hit.{IsFound};
 ghost use Rattle.fix_model.specs.Rules.{master_of, rule_at};

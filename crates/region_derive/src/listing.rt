@@ -75,7 +75,11 @@ fn promises<L, B: Book<L>>(
     if !is_filled(texts) {
         return Ok(false);
     }
-    is_certain(alloc, work, book, attributes, texts, counts)
+    let mut state = row_state(alloc, book.width(), attributes, texts)?;
+    match judge(work, book, &mut state, counts) {
+        Verdict::Fix { certain, .. } => Ok(certain),
+        Verdict::Conflict => Ok(false),
+    }
 }
 
 /// Whether none of the texts is blank.
@@ -83,27 +87,4 @@ fn is_filled(texts: &[Text]) -> bool
     ensures { IsTrue result ↔ All (λ text. text ≢ []) texts.now }
 {
     texts.iter().all(|text| !text.is_blank())
-}
-
-/// Whether a certain fix follows where exactly these attributes are confirmed to these texts.
-fn is_certain<L, B: Book<L>>(
-    alloc: Global,
-    work: &mut Work,
-    book: &B,
-    attributes: &[u16],
-    texts: &[Text],
-    counts: &mut Steps<L>,
-) -> Result<bool, NoMemory>
-    requires texts { length texts.now ≡ length attributes.now }
-    requires room { IsRoomFor work.old (B.kit book.now) }
-    ensures certain { IfOk result (λ is_certain. IsTrue is_certain
-        ↔ IsRowVerdict (B.kit book.now) attributes.now texts.now RowVerdict.Certain) }
-    ensures looks { counts.new.looks ≤ counts.old.looks + length (B.kit book.now).rules }
-    ensures size { KeepsSize work.old work.new }
-{
-    let mut state = row_state(alloc, book.width(), attributes, texts)?;
-    match judge(work, book, &mut state, counts) {
-        Verdict::Fix { certain, .. } => Ok(certain),
-        Verdict::Conflict => Ok(false),
-    }
 }

@@ -3,7 +3,7 @@ use Rattle.std.proofs.Common.{◌≡◌, ◌⊎◌, ◌<◌, ◌≤◌, ◌+◌,
 use Rattle.std.proofs.Common.{get_or, length, length-append, map, refl, subst, sym, ap, inl, inr, arith}
 use Rattle.std.specs.Prelude.{◌↔◌, All, AllPairs}
 use Rattle.std.specs.Cmp.Lexicographic.{pointwise}
-use Rattle.std.proofs.lemmas.List.{get_or_append_left, get_or_default, get_or-map, get_or_read}
+use Rattle.std.proofs.lemmas.List.{get_or_append_left, get_or_default, get_or-map}
 use Rattle.std.proofs.lemmas.List.Elements.{Contains-append_cases, Contains-append_left, Contains-append_right}
 use Rattle.std.proofs.Math.Seq.{get_or-append_seam}
 use Rattle.fix_model.specs.declared.kit.Kit.{Kit}
@@ -257,12 +257,6 @@ pub Fits-run : (kit : Kit) (state : State) (run : List Step) → Fits kit state 
 Fits-run kit state [] fits whole = fits
 Fits-run kit state (step ∷ run) fits whole =
     Fits-run kit (after kit state step) run (Fits-after kit state step fits whole.0) whole.1
-
--- a region that was read
-pub region-read : (regions : List Region) (place : ℕ) (read : Region) → place < length regions
-    → read ≡ get_or regions place read
-    → read ≡ region_at regions place
-region-read regions place read within is = get_or_read regions place read within is (record { attrs = []; rows = [] })
 
 -- the region at a place is one of the kit
 pub region-valid : (kit : Kit) (regions : List Region) (place : ℕ) → All (IsRegionOf kit) regions

@@ -7,7 +7,7 @@ ghost use Rattle.fix_engine.specs.WorkSeen.{IsRoomFor, KeepsSize};
 ghost use Rattle.region_suggest.specs.Finding.{IsMatchWithin};
 ghost use Rattle.region_suggest.specs.Offers.{HoldsConfirmed, IsCertain, IsOfferBefore, IsMatch, IsPlace};
 ghost use Rattle.region_suggest.specs.Offers.{ListsExactly, region_at};
-ghost use Rattle.region_suggest.specs.Verdicts.{row_count};
+ghost use Rattle.region_suggest.specs.Verdicts.{row_at, row_count};
 
 use crate::checking::verdict_of;
 use desk_base::{List, NoMemory, Steps, Text};
@@ -55,18 +55,34 @@ fn add_rows<L, B: Book<L>>(
         (ListsExactly (IsMatchWithin (B.kit book.now) state.now regions.now (place + 1) 0) found.new) }
     ensures few { OnOk result (length found.new ≤ length found.old + length (region_at regions.now place).rows) }
 {
-    let region = &regions[place as usize];
+    let region = region_at(regions, place as usize);
     let attributes = region.attrs.as_slice();
     if !holds_confirmed::<L, B>(book, attributes, state) {
         return Ok(());
     }
     'rows: for row in 0..region.rows.len() as u32 {
-        let texts = region.rows.as_slice()[row as usize].as_slice();
+        let texts = row_at(region, row as usize);
         if has_values::<L, B>(book, state, attributes, texts) {
             found.push((place + 1, row + 1))?;
         }
     }
     Ok(())
+}
+
+/// The region at a place, counted from 0.
+fn region_at(regions: &[Region], place: usize) -> &Region
+    requires { place < length regions.now }
+    ensures { result.now ≡ region_at regions.now place }
+{
+    &regions[place]
+}
+
+/// The texts of a row of the region, counted from 0.
+fn row_at(region: &Region, row: usize) -> &[Text]
+    requires { row < length region.now.rows }
+    ensures { result.now ≡ row_at region.now row }
+{
+    region.rows.as_slice()[row].as_slice()
 }
 
 /// Whether every confirmed attribute is one of these.
@@ -125,8 +141,8 @@ pub(crate) fn certain_rows<L, B: Book<L>>(
 {
     let mut offers = List::new(alloc);
     'found: for pair in found {
-        let region = &regions[pair.0 as usize - 1];
-        let texts = region.rows.as_slice()[pair.1 as usize - 1].as_slice();
+        let region = region_at(regions, pair.0 as usize - 1);
+        let texts = row_at(region, pair.1 as usize - 1);
         let state = row_state(alloc, book.width(), region.attrs.as_slice(), texts)?;
         let verdict = verdict_of(work, book, state, counts);
         if is_certain(verdict) {

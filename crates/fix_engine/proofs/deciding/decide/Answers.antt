@@ -1,8 +1,7 @@
-use Rattle.std.proofs.Common.{◌≤◌, ◌∙◌, ap, arith, length}
+use Rattle.std.proofs.Common.{◌≤◌, ◌∙◌, arith, length}
 use Rattle.fix_model.specs.Run.{end_of}
 use Rattle.fix_model.proofs.LeftSides.{few_left_sides}
-use Rattle.fix_engine.specs.WorkSeen.{WorkSeen}
-use Rattle.fix_engine.proofs.Rooms.{HasRoom-fewer}
+use Rattle.fix_engine.proofs.Rooms.{HasRoom-fewer, KeepsSize-runs}
 use Rattle.fix_engine.proofs.deciding.decide.Goals as goal
 
 pub invariant_of-work : goal.invariant_of-work
@@ -36,10 +35,7 @@ returns-in-Fix g c =
       answer = rw c.in-Fix.is (c.in-Fix.ensures.judgement, told.surveyed.begun.second);
       state = told.state;
       looks = omega (arith, told.looks, few);
-      size = record {
-        width = ap (λ (work : WorkSeen). work.width) c.work.view_is;
-        rules = ap (λ (work : WorkSeen). work.rules) c.work.view_is;
-      };
+      size = KeepsSize-runs _ _ _ _ c.work.view_is;
     }
 
 -- at a conflict the second run is made from the same state
@@ -52,8 +48,5 @@ returns-in-Conflict g c =
       answer = rw told.state at c.run_elsewhere.ensures.conflict;
       state = c.run_elsewhere.ensures.state ∙ told.state;
       looks = omega (arith, told.looks, c.run_elsewhere.ensures.looks, few);
-      size = record {
-        width = ap (λ (work : WorkSeen). work.width) c.work.view_is;
-        rules = ap (λ (work : WorkSeen). work.rules) c.work.view_is;
-      };
+      size = KeepsSize-runs _ _ _ _ c.work.view_is;
     }

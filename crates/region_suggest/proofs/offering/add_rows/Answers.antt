@@ -1,46 +1,38 @@
-use Rattle.std.proofs.Common.{◌≡◌, ◌<◌, ◌+◌, ◌∙◌, ◌++◌, ◌∷◌, [], ℕ, List, get_or, map, length, length-append, ap, sym}
+use Rattle.std.proofs.Common.{◌≡◌, ◌<◌, ◌+◌, ◌∙◌, ◌++◌, ◌∷◌, [], ℕ, List, map, length, length-append, ap, sym}
 use Rattle.std.proofs.Common.{subst, arith}
 use Rattle.std.specs.Prelude.{All}
-use Rattle.std.proofs.lemmas.List.{get_or_read}
 use Rattle.fix_model.specs.declared.region.Region.{Region}
 use Rattle.fix_model.specs.States.{value_at}
 use Rattle.region_suggest.specs.Finding.{IsMatchWithin}
 use Rattle.region_suggest.specs.Offers.{HoldsConfirmed, ListsExactly, region_at}
 use Rattle.region_suggest.specs.Verdicts.{row_at}
-use Rattle.region_suggest.proofs.Pairs.{region-read, region-valid, IsMatch-here, IsMatch-values, IsMatchWithin-before}
+use Rattle.region_suggest.proofs.Pairs.{region-valid, IsMatch-here, IsMatch-values, IsMatchWithin-before}
 use Rattle.region_suggest.proofs.Pairs.{IsMatchWithin-lacks, IsMatchWithin-region, IsMatchWithin-row}
 use Rattle.region_suggest.proofs.Pairs.{IsMatchWithin-skip, ListsExactly-push, ListsExactly-same}
 use Rattle.region_suggest.proofs.offering.add_rows.Given.{Over}
 use Rattle.region_suggest.proofs.offering.add_rows.Goals as goal
-use Rattle.region_suggest.proofs.offering.add_rows.Goals.{After-as_slice-attributes, After-as_slice-texts}
+use Rattle.region_suggest.proofs.offering.add_rows.Goals.{After-as_slice-attributes, After-row_at-texts}
 use Rattle.region_suggest.proofs.offering.add_rows.Goals.{then-has_values+in_ok-push, else-has_values}
 
 -- the attributes of the region were read
 attributes-read : (g : Over) (c : After-as_slice-attributes g)
     → c.as_slice-attributes.result.now ≡ (region_at c.args.regions.now c.args.place).attrs
-attributes-read g c = c.as_slice-attributes.ensures ∙ ap (λ (one : Region). one.attrs)
-    (region-read c.args.regions.now c.args.place c.index-regions-place.result c.requires.place c.index-regions-place.is)
+attributes-read g c = c.as_slice-attributes.ensures ∙ ap (λ (one : Region). one.attrs) c.region_at-region.ensures
 
 -- the loop is at a row of the region
-row-within : (g : Over) (c : After-as_slice-texts g)
+row-within : (g : Over) (c : After-row_at-texts g)
     → c.rows.row < length (region_at c.args.regions.now c.args.place).rows
 row-within g c = omega (
   arith,
   c.rows-test.true,
   c.len-row-end.ensures,
-  ap (λ (one : Region). length one.rows) (region-read c.args.regions.now c.args.place c.index-regions-place.result
-      c.requires.place c.index-regions-place.is),
+  ap (λ (one : Region). length one.rows) c.region_at-region.ensures,
 )
 
 -- and its texts were read
-texts-read : (g : Over) (c : After-as_slice-texts g)
-    → c.as_slice-texts.result.now ≡ row_at (region_at c.args.regions.now c.args.place) c.rows.row
-texts-read g c =
-    let rows : c.as_slice.result.now ≡ (region_at c.args.regions.now c.args.place).rows =
-    c.as_slice.ensures ∙ ap (λ (one : Region). one.rows) (region-read c.args.regions.now c.args.place
-    c.index-regions-place.result c.requires.place c.index-regions-place.is) in
-    c.as_slice-texts.ensures ∙ get_or_read c.as_slice.result.now c.rows.row c.index-as_slice-row.result
-    (rw rows (row-within g c)) c.index-as_slice-row.is [] ∙ ap (λ some. get_or some c.rows.row []) rows
+texts-read : (g : Over) (c : After-row_at-texts g)
+    → c.row_at-texts.result.now ≡ row_at (region_at c.args.regions.now c.args.place) c.rows.row
+texts-read g c = c.row_at-texts.ensures ∙ ap (λ (one : Region). row_at one c.rows.row) c.region_at-region.ensures
 
 pub returns-then-not-holds_confirmed-clause-following : goal.returns-then-not-holds_confirmed-clause-following
 returns-then-not-holds_confirmed-clause-following g c = let kit = g.B.Book.kit c.args.book.now in
@@ -71,8 +63,8 @@ has_values-requires-clause-whole g c = let kit = g.B.Book.kit c.args.book.now in
     let place : ℕ = c.args.place in
     let row : ℕ = c.rows.row in
     let attributes = attributes-read g (goal.at.has_values-requires-clause-whole g c).After-as_slice-attributes in
-    let row_within = row-within g (goal.at.has_values-requires-clause-whole g c).After-as_slice-texts in
-    let texts = texts-read g (goal.at.has_values-requires-clause-whole g c).After-as_slice-texts in
+    let row_within = row-within g (goal.at.has_values-requires-clause-whole g c).After-row_at-texts in
+    let texts = texts-read g (goal.at.has_values-requires-clause-whole g c).After-row_at-texts in
     let whole : length (row_at (region_at regions place) row) ≡ length (region_at regions place).attrs =
     (region-valid kit regions place c.requires.regions c.requires.place).rows row [] row_within in
     ap length texts ∙ whole ∙ ap length (sym attributes)
@@ -84,8 +76,8 @@ rows-preserved g c = let kit = g.B.Book.kit c.args.book.now in
     let place : ℕ = c.args.place in
     let row : ℕ = c.rows.row in
     let attributes = attributes-read g (goal.at.rows-preserved g c).After-as_slice-attributes in
-    let row_within = row-within g (goal.at.rows-preserved g c).After-as_slice-texts in
-    let texts = texts-read g (goal.at.rows-preserved g c).After-as_slice-texts in
+    let row_within = row-within g (goal.at.rows-preserved g c).After-row_at-texts in
+    let texts = texts-read g (goal.at.rows-preserved g c).After-row_at-texts in
     let confirmed : HoldsConfirmed state (region_at regions place).attrs =
     rw attributes at (c.holds_confirmed.ensures.0 c.if-not-holds_confirmed.false) in
     elim c.if-has_values.branch [
@@ -121,14 +113,13 @@ returns-clause-following g c = let kit = g.B.Book.kit c.args.book.now in
     let state = c.args.state.now in
     let regions = c.args.regions.now in
     let place : ℕ = c.args.place in
-    let region = region-read regions place c.index-regions-place.result c.requires.place c.index-regions-place.is in
     let last : c.rows.row ≡ length (region_at regions place).rows =
     omega (
       arith,
       c.rows-test.false,
       c.rows.auto.row-end,
       c.len-row-end.ensures,
-      ap (λ (one : Region). length one.rows) region,
+      ap (λ (one : Region). length one.rows) c.region_at-region.ensures,
     ) in
     ListsExactly-same (IsMatchWithin kit state regions place c.rows.row) (IsMatchWithin kit state regions (place + 1) 0)
     c.rows.found

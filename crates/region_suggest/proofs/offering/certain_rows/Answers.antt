@@ -1,66 +1,43 @@
-use Rattle.std.proofs.Common.{◌≡◌, ◌<◌, ◌+◌, ◌-◌, ◌∙◌, [], ℕ, get_or, length, ap, inl, inr, sym, subst, arith}
+use Rattle.std.proofs.Common.{◌≡◌, ◌+◌, ◌-◌, ◌∙◌, [], ℕ, get_or, length, ap, inl, inr, sym, subst, arith}
 use Rattle.std.specs.Prelude.{Contains}
-use Rattle.std.proofs.lemmas.List.{get_or_read}
 use Rattle.fix_model.specs.declared.region.Region.{Region}
 use Rattle.fix_model.specs.declared.state.State.{State}
 use Rattle.fix_model.specs.Regions.{IsVerdict, row_state}
-use Rattle.region_suggest.specs.Offers.{IsCertain, IsPlace, ListsExactly, attributes_at, region_at, texts_at}
+use Rattle.region_suggest.specs.Offers.{IsCertain, IsPlace, ListsExactly, attributes_at, texts_at}
+use Rattle.region_suggest.specs.Verdicts.{row_at}
 use Rattle.region_suggest.proofs.Pairs.{IsSeen, IsSeen-before, IsSeen-grows, ListsExactly-push, ListsExactly-same}
-use Rattle.region_suggest.proofs.Pairs.{certain-only, region-read, region-valid}
+use Rattle.region_suggest.proofs.Pairs.{certain-only, region-valid}
 use Rattle.region_suggest.proofs.offering.certain_rows.Given.{Over}
 use Rattle.region_suggest.proofs.offering.certain_rows.Goals as goal
-use Rattle.region_suggest.proofs.offering.certain_rows.Goals.{After-as_slice-in-found, else-is_certain}
+use Rattle.region_suggest.proofs.offering.certain_rows.Goals.{After-as_slice, else-is_certain}
 use Rattle.region_suggest.proofs.offering.certain_rows.Goals.{then-is_certain+in_ok-push}
 
 -- the pair at which the loop is
-abbrev pair_at : (g : Over) → After-as_slice-in-found g → ℕ × ℕ
+abbrev pair_at : (g : Over) → After-as_slice g → ℕ × ℕ
 pair_at g c = get_or c.args.found.now c.found.pair-index (0, 0)
 
--- its region was read
-region-at : (g : Over) (c : After-as_slice-in-found g)
-    → c.index-regions-pair.result ≡ region_at c.args.regions.now ((pair_at g c).0 - 1)
-region-at g c =
-    let place : IsPlace c.args.regions.now (pair_at g c) =
-    c.requires.places c.found.pair-index (0, 0) c.found-test.true in
-    let low = place.region.0 in
-    let high = place.region.1 in
-    region-read c.args.regions.now ((pair_at g c).0 - 1) c.index-regions-pair.result (omega (arith, low, high))
-    c.index-regions-pair.is
+-- its region and its row are there
+place-at : (g : Over) (c : After-as_slice g) → IsPlace c.args.regions.now (pair_at g c)
+place-at g c = c.requires.places c.found.pair-index (0, 0) c.found-test.true
 
--- with its attributes
-attributes-at : (g : Over) (c : After-as_slice-in-found g)
-    → c.as_slice-in-found.result.now ≡ attributes_at c.args.regions.now (pair_at g c)
-attributes-at g c = c.as_slice-in-found.ensures ∙ ap (λ (one : Region). one.attrs) (region-at g c)
+-- the attributes of its region were read
+attributes-at : (g : Over) (c : After-as_slice g) → c.as_slice.result.now ≡ attributes_at c.args.regions.now (pair_at g c)
+attributes-at g c = c.as_slice.ensures ∙ ap (λ (one : Region). one.attrs) c.region_at-region.ensures
 
--- its row is one of the region
-row-within : (g : Over) (c : After-as_slice-in-found g)
-    → (pair_at g c).1 - 1 < length (region_at c.args.regions.now ((pair_at g c).0 - 1)).rows
-row-within g c =
-    let place : IsPlace c.args.regions.now (pair_at g c) =
-    c.requires.places c.found.pair-index (0, 0) c.found-test.true in
-    let low = place.row.0 in
-    let high = place.row.1 in
-    omega (arith, low, high)
-
--- and its texts were read
-texts-at : (g : Over) (c : After-as_slice-in-found g)
-    → c.as_slice-texts.result.now ≡ texts_at c.args.regions.now (pair_at g c)
-texts-at g c =
-    let row = (pair_at g c).1 - 1 in
-    let rows : c.as_slice.result.now ≡ (region_at c.args.regions.now ((pair_at g c).0 - 1)).rows =
-    c.as_slice.ensures ∙ ap (λ (one : Region). one.rows) (region-at g c) in
-    c.as_slice-texts.ensures
-    ∙ get_or_read c.as_slice.result.now row c.index-as_slice-pair.result (rw rows (row-within g c))
-    c.index-as_slice-pair.is [] ∙ ap (λ some. get_or some row []) rows
+-- and so were the texts of its row
+texts-at : (g : Over) (c : After-as_slice g) → c.row_at-texts.result.now ≡ texts_at c.args.regions.now (pair_at g c)
+texts-at g c = c.row_at-texts.ensures
+    ∙ ap (λ (one : Region). row_at one ((pair_at g c).1 - 1)) c.region_at-region.ensures
 
 pub row_state-requires : goal.row_state-requires
 row_state-requires g c =
-    let read = (goal.at.row_state-requires g c).After-as_slice-in-found in
+    let read = (goal.at.row_state-requires g c).After-as_slice in
     let pair : ℕ × ℕ = pair_at g read in
-    let place : IsPlace c.args.regions.now pair = c.requires.places c.found.pair-index (0, 0) c.found-test.true in
+    let (low, high) = (place-at g read).region in
+    let (first, last) = (place-at g read).row in
     let valid = region-valid (g.B.Book.kit c.args.book.now) c.args.regions.now (pair.0 - 1) c.requires.regions
-    (let low = place.region.0 in let high = place.region.1 in omega (arith, low, high)) in
-    ap length (texts-at g read) ∙ valid.rows (pair.1 - 1) [] (row-within g read)
+    (omega (arith, low, high)) in
+    ap length (texts-at g read) ∙ valid.rows (pair.1 - 1) [] (omega (arith, first, last))
     ∙ ap length (sym (attributes-at g read))
 
 pub found-preserved : goal.found-preserved
@@ -69,11 +46,11 @@ found-preserved g c = let kit = g.B.Book.kit c.args.book.now in
     let found = c.args.found.now in
     let index : ℕ = c.found.pair-index in
     let pair : ℕ × ℕ = get_or found index (0, 0) in
-    let read = (goal.at.found-preserved g c).After-as_slice-in-found in
+    let read = (goal.at.found-preserved g c).After-as_slice in
     let state : c.in_ok-state.state ≡ row_state kit.width (attributes_at regions pair) (texts_at regions pair) =
     c.in_ok-state.ensures.state
-    ∙ ap (λ n. row_state n c.as_slice-in-found.result.now c.as_slice-texts.result.now) c.width.ensures.width
-    ∙ ap (λ some. row_state kit.width some c.as_slice-texts.result.now) (attributes-at g read)
+    ∙ ap (λ n. row_state n c.as_slice.result.now c.row_at-texts.result.now) c.width.ensures.width
+    ∙ ap (λ some. row_state kit.width some c.row_at-texts.result.now) (attributes-at g read)
     ∙ ap (λ some. row_state kit.width (attributes_at regions pair) some) (texts-at g read) in
     let verdict : IsVerdict kit (row_state kit.width (attributes_at regions pair) (texts_at regions pair))
     c.verdict_of-verdict.result =

@@ -1,12 +1,11 @@
 use Rattle.std.proofs.Common.{◌≡◌, ℕ, get_or, sym, subst}
-use Rattle.std.proofs.lemmas.List.{get_or_read}
-use borrow.Author.Count.{below_more}
 use Rattle.fix_model.specs.declared.kit.Kit.{Kit}
 use Rattle.fix_model.specs.declared.pattern.Pat.{Pat}
 use Rattle.fix_model.specs.declared.state.State.{State}
 use Rattle.fix_model.specs.Pattern.{Matches}
 use Rattle.fix_model.specs.Rules.{is_folded}
 use Rattle.fix_model.specs.States.{IsCovered, value_at}
+use Rattle.fix_model.proofs.Items.{each-read}
 use Rattle.region_suggest.proofs.opening.is_matched_where_covered.Goals as goal
 
 -- the condition matches where it is covered
@@ -14,16 +13,11 @@ abbrev IsMet : Kit → State → ℕ × Pat → Type 0
 IsMet kit state cond = IsCovered state cond.0 → Matches (is_folded kit cond.0) cond.1 (value_at kit state cond.0)
 
 pub conds-preserved : goal.conds-preserved
-conds-preserved g c k d below = let conds = c.args.rule.now.conds in
-    let kit = g.B.Book.kit c.args.book.now in
-    let item : c.cond-item.result ≡ get_or conds c.conds.cond-index d =
-    get_or_read conds c.conds.cond-index c.cond-item.result (rw c.as_slice-cond-items.ensures at c.conds-test.true)
-    (rw c.as_slice-cond-items.ensures at c.cond-item.is) d in
-    let told : IsMet kit c.args.state.now c.cond-item.result =
-    c.matches_where_covered.ensures.0 c.if-not-matches_where_covered.false in
-    let here : IsMet kit c.args.state.now (get_or conds c.conds.cond-index d) = rw item at told in
-    below_more (λ n. IsMet kit c.args.state.now (get_or conds n d)) c.conds.cond-index (λ n h. c.conds.invariant n d h)
-    here k below
+conds-preserved g c =
+    each-read (IsMet (g.B.Book.kit c.args.book.now) c.args.state.now) c.args.rule.now.conds c.conds.cond-index
+    c.cond-item.result (rw c.as_slice-cond-items.ensures at c.conds-test.true)
+    (rw c.as_slice-cond-items.ensures at c.cond-item.is) c.conds.invariant
+    (c.matches_where_covered.ensures.0 c.if-not-matches_where_covered.false)
 
 pub returns-then-not-matches_where_covered : goal.returns-then-not-matches_where_covered
 returns-then-not-matches_where_covered g c = let conds = c.args.rule.now.conds in

@@ -1,7 +1,7 @@
 use Rattle.std.proofs.Common.{◌<◌, ◌≤◌, ◌+◌, ℕ, length}
 use Rattle.std.specs.Prelude.{vec_capacity}
 use Rattle.fix_model.specs.States.{Fits, uncovered_count}
-use Rattle.fix_engine.specs.Looks.{LooksAround}
+use Rattle.fix_engine.specs.Looks.{AreKnown, pending_count}
 use Rattle.fix_engine.specs.Next.{IsIdle}
 use Rattle.fix_engine.proofs.FirstRuns.{IsBeginning}
 use Rattle.fix_engine.proofs.looks.Looks.complete.Given as goal
@@ -14,7 +14,9 @@ invariant-steps g l =
     record {
       beginning : IsBeginning kit l.fn.state l.state l.fn.run.items l.run.items;
       fits : Fits kit l.state;
-      looks : LooksAround kit l.state l.fn.self l.self l.fn.counts l.counts;
+      known : AreKnown kit l.state l.self.remembered.items;
+      looks : l.counts.looks + pending_count l.self.remembered.items ≤ l.fn.counts.looks + length kit.rules;
+      looks_stay : vec_capacity l.fn.self.remembered ≤ vec_capacity l.self.remembered;
       places : length l.run.items + uncovered_count l.state ≤ vec_capacity l.run;
       room : vec_capacity l.fn.run ≤ vec_capacity l.run;
       idle : (place : ℕ) → place < l.from → IsIdle kit l.state place;

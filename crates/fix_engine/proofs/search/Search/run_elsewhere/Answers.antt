@@ -3,7 +3,6 @@ use Rattle.fix_model.specs.declared.state.State.{State}
 use Rattle.fix_model.proofs.Counts.{uncovered_count-le}
 use Rattle.fix_model.proofs.Runs.{typed-end_of}
 use Rattle.fix_engine.proofs.FirstRuns.{typed-completed}
-use Rattle.fix_engine.proofs.Known.{pending_count-forgotten}
 use Rattle.fix_engine.proofs.Verdicts.{IsConflict-begun, IsLeftFrom-begun}
 use Rattle.fix_engine.proofs.search.Search.run_elsewhere.Goals as goal
 
@@ -50,9 +49,3 @@ returns-clause-state g c =
     ∙ sym (ap (λ (s : State). s.typed) begun.ends
     ∙ typed-end_of (g.B.Book.kit c.args.book.now) c.args.state.now c.args.self.now.runs.first.items) in
     c.restore.ensures ∙ rw same refl ∙ begun.saved
-
-pub returns-clause-looks : goal.returns-clause-looks
-returns-clause-looks g c =
-    let all = pending_count-forgotten c.forget.new.self.remembered.items c.rules.result.now
-    (g.B.Book.kit c.args.book.now) c.forget.ensures.forgotten c.rules.ensures.rules in
-    omega (arith, all, c.complete.ensures.looks.looks)
