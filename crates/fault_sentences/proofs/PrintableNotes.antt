@@ -1,12 +1,11 @@
 -- The notes are printable ASCII.
-use Rattle.std.proofs.Common.{◌≡◌, ℕ, ◌-◌, Bool, true, false, List, [], ◌∷◌, length, refl}
+use Rattle.std.proofs.Common.{ℕ, ◌-◌, Bool, true, false, List, [], ◌∷◌, length, refl}
 use Rattle.std.specs.Prelude.{codes, if◌then◌else◌, option_map, slice_index_or, Option, Some, None, IfSome}
 use Rattle.std.proofs.lemmas.Bool.{and_from, and_parts}
 use Rattle.std.proofs.lemmas.List.Folds.{list_all-append}
 use Rattle.master_rows.specs.declared.master.Master.{Master}
 use Rattle.rule_text.specs.declared.rulebook.RuleLine.{RuleLine}
 use Rattle.schema_core.specs.declared.schema.Schema.{Schema}
-use Rattle.fault_sentences.specs.declared.bindings.Over.TheVariants.{Desk}
 use Rattle.fault_sentences.specs.declared.slips.Slip.{Slip}
 use Rattle.fault_sentences.specs.declared.slips.Slip.TheVariants.{Torn, Spaced}
 use Rattle.fault_sentences.specs.Bindings.{no_master, wants_column}
@@ -14,7 +13,7 @@ use Rattle.fault_sentences.specs.Notes.{absent_note, cell_note, cell_told, cells
 use Rattle.fault_sentences.specs.Notes.{lacking_note, lacking_place, parted_note, parted_notes, rules_told}
 use Rattle.fault_sentences.specs.Notes.{schema_notes, sheet_notes, slip_words, slips_in, so_more, twin_note}
 use Rattle.fault_sentences.specs.Notes.{twins, twins_told}
-use Rattle.fault_sentences.specs.Printable.{ArePrintable, IsPrintable, is_printable}
+use Rattle.fault_sentences.specs.Printable.{ArePrintable, IsPrintable}
 use Rattle.fault_sentences.specs.Records.{fields_at}
 use Rattle.fault_sentences.proofs.Printable.{decimal-printable, if-same, list_all-if, listed-printable}
 use Rattle.fault_sentences.proofs.Printable.{numbered-printable, printable-append, quoted-printable, shown-printable}

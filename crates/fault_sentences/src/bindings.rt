@@ -1,6 +1,5 @@
 //! The sentences on rules that do not bind to masters.
-ghost use Rattle.std.specs.Prelude.{◌≡◌, ◌++◌, ◌<◌, length, option_map, IfOk, IfSome, OnOk};
-ghost use Rattle.rule_text.specs.Binding.{master_of};
+ghost use Rattle.std.specs.Prelude.{◌≡◌, ◌++◌, option_map, IfOk, OnOk};
 ghost use Rattle.fault_sentences.specs.Bindings.{bind_sentence, column_named, columns_of, index_sentence};
 ghost use Rattle.fault_sentences.specs.Bindings.{lacking, lacks};
 ghost use Rattle.fault_sentences.specs.Bindings.{line_at, no_column, no_master, wants_column};
@@ -8,7 +7,7 @@ ghost use Rattle.fault_sentences.specs.Bindings.{line_at, no_column, no_master, 
 use crate::sentence::Sentence;
 use desk_base::{NoMemory, Text};
 use master_rows::Master;
-use rule_text::{BindFault, RuleLine, Rulebook};
+use rule_text::{BindFault, RuleLine, Rulebook, master_named};
 use std::alloc::Global;
 
 /// What rules are bound over.
@@ -135,20 +134,10 @@ fn column_named(line: &RuleLine, place: u64) -> &[u8]
 fn columns_of<'a>(masters: &'a [(Text, Master)], name: &Text) -> &'a [Text]
     ensures { result.now ≡ columns_of masters.now name.now }
 {
-    match master_of(masters, name) {
+    match master_named(masters, name) {
         Some(place) => masters[place].1.columns.as_slice(),
         None => &[],
     }
-}
-
-/// The place of the master of this name.
-fn master_of(masters: &[(Text, Master)], name: &Text) -> Option<usize>
-    ensures found { result ≡ master_of masters.now name.now }
-    ensures within { IfSome result (λ place. place < length masters.now) }
-{
-    masters
-        .iter()
-        .position(|master| name.as_str() == master.0.as_str())
 }
 
 /// Says that an index has more entries than it may have.

@@ -7,7 +7,7 @@ ghost use Rattle.fault_sentences.specs.Records.{equal_field, field_of, fields_at
 
 use csv::ByteRecord;
 use desk_base::{List, NoMemory, is_utf8};
-use master_rows::SheetRecords;
+use master_rows::{SheetRecords, field_at};
 use std::alloc::Global;
 
 /// The fields of the record at a place, none past the last. The sheet is read no further than there.
@@ -42,10 +42,7 @@ fn fields_of(alloc: Global, source: &ByteRecord) -> Result<List<List<u8>>, NoMem
 {
     let mut fields = List::new(alloc);
     'places: for place in 0..source.len() {
-        let Some(field) = source.get(place) else {
-            unreachable!()
-        };
-        fields.push(copy_of(alloc, field)?)?;
+        fields.push(copy_of(alloc, field_at(source, place))?)?;
     }
     Ok(fields)
 }

@@ -273,6 +273,19 @@ fn attribute_twice(out: &mut Sentence, seen: &Seen<'_>) -> Result<(), NoMemory>
     ensures { OnOk result (out.new ≡ out.old ++ attribute_twice (as_seen seen.now)) }
 {
     let (before, after) = twice_words(seen.expected);
+    word_in_rule(out, seen, before, after)
+}
+
+/// The word that is seen and its rule, with words before and after the name of the rule.
+fn word_in_rule(
+    out: &mut Sentence,
+    seen: &Seen<'_>,
+    before: &str,
+    after: &str,
+) -> Result<(), NoMemory>
+    ensures { OnOk result (out.new
+        ≡ out.old ++ word_of (as_seen seen.now) ++ before.now ++ rule_of (as_seen seen.now) ++ after.now) }
+{
     word(out, seen)?;
     out.words(before)?;
     rule(out, seen)?;
@@ -308,12 +321,7 @@ fn too_many(out: &mut Sentence, seen: &Seen<'_>) -> Result<(), NoMemory>
     ensures { OnOk result (out.new ≡ out.old ++ too_many (as_seen seen.now)) }
 {
     match over_words(seen.expected) {
-        Some((before, after)) => {
-            word(out, seen)?;
-            out.words(before)?;
-            rule(out, seen)?;
-            out.words(after)
-        }
+        Some((before, after)) => word_in_rule(out, seen, before, after),
         None => out.words("this is rule 201, and a rulebook has at most 200; leave some out"),
     }
 }

@@ -6,7 +6,7 @@ ghost use Rattle.std.specs.Str.{bytes_eq};
 ghost use Rattle.toml.specs.Data.{as_str, get_member, no_members};
 ghost use Rattle.toml.specs.View.{items_view, table_view, view};
 ghost use Rattle.rule_text.specs.Tokens.{comment_length};
-ghost use Rattle.schema_core.specs.Reading.{document_of, is_known_key, texts_in, texts_of};
+ghost use Rattle.schema_core.specs.Reading.{document_of, texts_in, texts_of};
 ghost use Rattle.fault_sentences.specs.Printable.{IsPrintable, is_printable};
 ghost use Rattle.fault_sentences.specs.Schemas.{IsSchemaSentence, attribute_at, attributes_in, attributes_kind};
 ghost use Rattle.fault_sentences.specs.Schemas.{bad_attribute, bad_count, bad_name, document_sentence, first_position};
@@ -17,7 +17,7 @@ ghost use Rattle.fault_sentences.specs.Schemas.{wrong_kind};
 
 use crate::sentence::Sentence;
 use desk_base::{List, NoMemory, Str, is_utf8};
-use schema_core::SchemaFault;
+use schema_core::{SchemaFault, is_known_key};
 use std::alloc::Global;
 use toml::{Table, Value};
 
@@ -28,10 +28,7 @@ pub fn schema_sentence(alloc: Global, fault: SchemaFault, text: &[u8]) -> Result
 {
     match fault {
         SchemaFault::NotToml => not_toml_sentence(alloc, text),
-        _ => {
-            let document = document_of(alloc, text)?;
-            document_sentence(alloc, fault, &document)
-        }
+        _ => read_sentence(alloc, fault, text),
     }
 }
 
@@ -45,10 +42,7 @@ pub fn plain_schema_sentence(
 {
     match fault {
         SchemaFault::NotToml => plain_not_toml(alloc, text),
-        _ => {
-            let document = document_of(alloc, text)?;
-            document_sentence(alloc, fault, &document)
-        }
+        _ => read_sentence(alloc, fault, text),
     }
 }
 
@@ -66,6 +60,15 @@ fn plain_not_toml(alloc: Global, text: &[u8]) -> Result<Sentence, NoMemory>
         out.not_utf8(text)?;
     }
     Ok(out)
+}
+
+/// Says why the document that a text writes is no schema.
+fn read_sentence(alloc: Global, fault: SchemaFault, text: &[u8]) -> Result<Sentence, NoMemory>
+    ensures { IfOk result (λ sentence.
+        sentence ≡ document_sentence fault (unwrap_or (document_of text.now) no_members)) }
+{
+    let document = document_of(alloc, text)?;
+    document_sentence(alloc, fault, &document)
 }
 
 /// The document that a text writes, an empty one where it writes none.
@@ -210,12 +213,6 @@ fn first_unknown(document: &Table) -> &str
     ""
 }
 
-fn is_known_key(key: &str) -> bool
-    ensures { result ≡ is_known_key key.now }
-{
-    key == "name" || key == "attributes"
-}
-
 /// A key that is missing.
 #[tactic(auto, unfolding(crate::specs::Schemas::missing_key))]
 fn missing_key(out: &mut Sentence, key: u64) -> Result<(), NoMemory>
@@ -266,9 +263,16 @@ fn found_at<'a>(document: &'a Table, key: &str) -> Option<&'a Value>
 fn wants_text(out: &mut Sentence, value: &Value) -> Result<(), NoMemory>
     ensures { OnOk result (out.new ≡ out.old ++ wants_text (view value.now)) }
 {
-    out.words(" is ")?;
+    kind_told(out, " is ", value, ", and is to be a text between quotes")
+}
+
+/// What a value is, between words.
+fn kind_told(out: &mut Sentence, before: &str, value: &Value, after: &str) -> Result<(), NoMemory>
+    ensures { OnOk result (out.new ≡ out.old ++ (before.now ++ kind_of (view value.now) ++ after.now)) }
+{
+    out.words(before)?;
     out.words(kind_of(value))?;
-    out.words(", and is to be a text between quotes")
+    out.words(after)
 }
 
 /// What a value is.
@@ -307,9 +311,12 @@ fn attributes_kind(out: &mut Sentence, value: &Value) -> Result<(), NoMemory>
 fn wants_list(out: &mut Sentence, value: &Value) -> Result<(), NoMemory>
     ensures { OnOk result (out.new ≡ out.old ++ wants_list (view value.now)) }
 {
-    out.words("attributes is ")?;
-    out.words(kind_of(value))?;
-    out.words(", and is to be a list of texts, as [\"zip\", \"city\"]")
+    kind_told(
+        out,
+        "attributes is ",
+        value,
+        ", and is to be a list of texts, as [\"zip\", \"city\"]",
+    )
 }
 
 /// The first item that is no text.

@@ -1,6 +1,5 @@
 //! The sentences on sheets.
 ghost use Rattle.std.specs.Prelude.{◌≡◌, ◌++◌, length, IfOk, OnOk};
-ghost use Rattle.master_rows.specs.Mark.{begins_with_mark, begins_with_two_marks};
 ghost use Rattle.fault_sentences.specs.Equals.{equals_earlier, numbered};
 ghost use Rattle.fault_sentences.specs.Records.{field_of, fields_at};
 ghost use Rattle.fault_sentences.specs.Sheets.{at_other_byte, bad_column, bad_column_in, cell_long, column_fault};
@@ -11,12 +10,8 @@ ghost use Rattle.fault_sentences.specs.Sheets.{most_rows, sheet_sentence, too_ma
 use crate::records::{equal_field, field_of, fields_at, other_field};
 use crate::sentence::Sentence;
 use desk_base::{List, NoMemory};
-use master_rows::SheetFault;
+use master_rows::{SheetFault, begins_with_mark, begins_with_two_marks};
 use std::alloc::Global;
-
-const MARK: [u8; 3] = [0xEF, 0xBB, 0xBF];
-
-const TWO_MARKS: [u8; 6] = [0xEF, 0xBB, 0xBF, 0xEF, 0xBB, 0xBF];
 
 /// Says why a sheet is refused, which may have so many rows: the row or the column, what stands there, and what was
 /// expected or what to do.
@@ -108,18 +103,6 @@ fn bad_column_in(out: &mut Sentence, number: u64, sheet: &[u8]) -> Result<(), No
     }
     let header = fields_at(out.allocator(), sheet, 0)?;
     bad_column(out, number, field_of(header.as_slice(), number))
-}
-
-fn begins_with_two_marks(sheet: &[u8]) -> bool
-    ensures { result ≡ begins_with_two_marks sheet.now }
-{
-    sheet.starts_with(&TWO_MARKS)
-}
-
-fn begins_with_mark(text: &[u8]) -> bool
-    ensures { result ≡ begins_with_mark text.now }
-{
-    text.starts_with(&MARK)
 }
 
 #[tactic(auto, unfolding(crate::specs::Sheets::bad_column))]

@@ -3,25 +3,22 @@ ghost use Rattle.std.specs.Prelude.{◌≡◌, ◌≢◌, ◌≤◌, length, IsT
 ghost use Rattle.std.specs.List.{list_all};
 ghost use Rattle.std.specs.Str.{is_utf8};
 ghost use Rattle.csv.specs.Records.{fields_of};
-ghost use Rattle.master_rows.specs.Mark.{begins_with_mark};
 ghost use Rattle.master_rows.specs.Header.{is_column, columns_fault, header_fault};
 ghost use Rattle.desk_base.specs.Texts.{bytes_of};
 
 use crate::error::SheetFault;
 use crate::fields::texts_of;
+use crate::mark::begins_with_mark;
 use csv::ByteRecord;
 use desk_base::{List, MAX_COLUMN, MAX_COLUMNS, Text, has_text};
 use std::alloc::Global;
-
-/// U+FEFF in UTF-8.
-pub(crate) const BYTE_ORDER_MARK: [u8; 3] = [0xEF, 0xBB, 0xBF];
 
 /// Whether this text may stand as a column.
 fn is_column(text: &str) -> bool
     ensures form { result ≡ is_column text.now }
     ensures short { IsTrue result → length text.now ≤ MAX_COLUMN }
 {
-    !text.is_empty() && text.len() <= MAX_COLUMN && !text.as_bytes().starts_with(&BYTE_ORDER_MARK)
+    !text.is_empty() && text.len() <= MAX_COLUMN && !begins_with_mark(text.as_bytes())
 }
 
 /// The columns, tested one by one.

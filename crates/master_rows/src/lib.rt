@@ -10,6 +10,7 @@ mod error;
 mod fields;
 mod header;
 pub mod laws;
+mod mark;
 mod master;
 mod outline;
 mod print;
@@ -17,6 +18,8 @@ mod row;
 mod sheet_records;
 
 pub use error::SheetFault;
+pub use fields::field_at;
+pub use mark::{begins_with_mark, begins_with_two_marks};
 pub use master::Master;
 pub use outline::Outline;
 pub use sheet_records::SheetRecords;

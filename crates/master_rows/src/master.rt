@@ -1,13 +1,13 @@
 //! A master: named columns over rows of cells. A clause sees both.
 ghost use Rattle.std.specs.Prelude.{◌≡◌, ◌≢◌, ◌≤◌, IfOk, IfErr, Ok, Err};
 ghost use Rattle.desk_base.specs.declared.limits.TheConstants.{MAX_SHEET_ROWS};
-ghost use Rattle.master_rows.specs.Mark.{begins_with_two_marks};
 ghost use Rattle.master_rows.specs.Master.{IsMaster, IsMasterWithin};
 ghost use Rattle.master_rows.specs.Outline.{read_outline};
 ghost use Rattle.master_rows.specs.Sheet.{read_sheet, sheet_of, sheet_within};
 
 use crate::draft::Draft;
 use crate::error::SheetFault;
+use crate::mark::begins_with_two_marks;
 use crate::outline::{Outline, OutlineDraft};
 use crate::print::sheet_bytes;
 use desk_base::{Duplicate, Grid, List, MAX_ROWS, NoMemory, Text};
@@ -20,15 +20,6 @@ pub struct Master {
     pub columns: List<Text>,
     /// The rows, in their order.
     pub grid: Grid,
-}
-
-const TWO_MARKS: [u8; 6] = [0xEF, 0xBB, 0xBF, 0xEF, 0xBB, 0xBF];
-
-/// Whether a sheet begins with two byte order marks.
-fn begins_with_two_marks(sheet: &[u8]) -> bool
-    ensures { result ≡ begins_with_two_marks sheet.now }
-{
-    sheet.starts_with(&TWO_MARKS)
 }
 
 impl Master {

@@ -7,7 +7,7 @@ ghost use Rattle.master_rows.specs.Row.{cells_fault, row_fault};
 ghost use Rattle.desk_base.specs.Texts.{bytes_of};
 
 use crate::error::SheetFault;
-use crate::fields::texts_of;
+use crate::fields::{field_at, texts_of};
 use csv::ByteRecord;
 use desk_base::{Grid, MAX_TEXT, is_utf8};
 use std::alloc::Global;
@@ -40,10 +40,7 @@ fn are_texts(source: &ByteRecord) -> bool
     ensures { result ≡ list_all is_utf8 (fields_of source.now) }
 {
     'places: for place in 0..source.len() {
-        let Some(field) = source.get(place) else {
-            unreachable!()
-        };
-        if !is_utf8(field) {
+        if !is_utf8(field_at(source, place)) {
             return false;
         }
     }
@@ -55,10 +52,7 @@ fn cells_fault(row: u64, source: &ByteRecord) -> Option<SheetFault>
     ensures { result ≡ cells_fault row 1 (fields_of source.now) }
 {
     'places: for place in 0..source.len() {
-        let Some(field) = source.get(place) else {
-            unreachable!()
-        };
-        if field.len() > MAX_TEXT {
+        if field_at(source, place).len() > MAX_TEXT {
             return Some(SheetFault::CellLong(row, place as u64 + 1));
         }
     }

@@ -154,13 +154,14 @@ fn master_of(masters: &[(Text, Master)], name: &Text) -> Option<u16>
     ensures found { result ≡ master_of masters.now name.now }
     ensures within { IfSome result (λ place. place < length masters.now) }
 {
-    match place_among(masters, name) {
+    match master_named(masters, name) {
         Some(place) => Some(place as u16),
         None => None,
     }
 }
 
-fn place_among(masters: &[(Text, Master)], name: &Text) -> Option<usize>
+/// The place of the first of these masters that has this name, counted from 0.
+pub fn master_named(masters: &[(Text, Master)], name: &Text) -> Option<usize>
     ensures found { result ≡ master_of masters.now name.now }
     ensures within { IfSome result (λ place. place < length masters.now) }
 {

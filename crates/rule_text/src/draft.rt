@@ -1,5 +1,6 @@
 //! A rulebook while it is read, token by token.
-ghost use Rattle.std.specs.Prelude.{◌≡◌, ◌≢◌, ◌++◌, ◌∷◌, [], position, Ok, Err, OnOk, IfOk, IfErr};
+ghost use Rattle.std.specs.Prelude.{◌≡◌, ◌≢◌, ◌++◌, ◌∷◌, [], false, position, true, None, Some};
+ghost use Rattle.std.specs.Prelude.{Ok, Err, OnOk, OnErr, IfOk, IfErr};
 ghost use Rattle.std.specs.Str.{bytes_eq};
 ghost use Rattle.schema_core.specs.Schemas.{IsSchema};
 ghost use Rattle.rule_text.specs.Reading.{content, attribute_of, is_long, blank_line, draft_following, has_name};
@@ -62,6 +63,20 @@ fn is_long(bytes: &[u8]) -> bool
     bytes.len() > MAX_TEXT
 }
 
+/// The text of a column or a constant at this place, where it is not too long for one.
+fn short_text(alloc: Global, bytes: &[u8], place: Place) -> Result<Text, RuleFault>
+    ensures text { IfOk result (λ text. text ≡ bytes.now) }
+    ensures short { OnOk result (is_long bytes.now ≡ false) }
+    ensures long { IfErr result (λ fault. fault ≢ RuleFault.NoMemory → is_long bytes.now ≡ true) }
+    ensures fault { IfErr result (λ fault. fault ≢ RuleFault.NoMemory
+        → fault ≡ RuleFault.ConstantLong place.line place.column) }
+{
+    if is_long(bytes) {
+        return Err(RuleFault::ConstantLong(place.line, place.column));
+    }
+    text_of(alloc, bytes)
+}
+
 /// The number of an attribute in the schema, from 0.
 fn attribute_of(schema: &Schema, word: &[u8]) -> Option<u16>
     requires { IsSchema schema.now }
@@ -70,6 +85,19 @@ fn attribute_of(schema: &Schema, word: &[u8]) -> Option<u16>
     match place_of(schema.attributes.as_slice(), word) {
         Some(place) => Some(place as u16),
         None => None,
+    }
+}
+
+/// The same of a word at this place, which is to be an attribute.
+fn known_attribute(schema: &Schema, word: &[u8], place: Place) -> Result<u16, RuleFault>
+    requires { IsSchema schema.now }
+    ensures known { IfOk result (λ attribute. attribute_of schema.now word.now ≡ Some attribute) }
+    ensures unknown { OnErr result (attribute_of schema.now word.now ≡ None) }
+    ensures fault { IfErr result (λ fault. fault ≡ RuleFault.UnknownAttr place.line place.column) }
+{
+    match attribute_of(schema, word) {
+        Some(attribute) => Ok(attribute),
+        None => Err(RuleFault::UnknownAttr(place.line, place.column)),
     }
 }
 
@@ -161,9 +189,7 @@ impl Draft {
         if self.line.keys.len() >= MAX_KEYS {
             return Err(RuleFault::TooMany(place.line, place.column));
         }
-        let Some(attribute) = attribute_of(schema, word) else {
-            return Err(RuleFault::UnknownAttr(place.line, place.column));
-        };
+        let attribute = known_attribute(schema, word, place)?;
         if has_key(self.line.keys.as_slice(), attribute) {
             return Err(RuleFault::AttrTwice(place.line, place.column));
         }
@@ -182,10 +208,7 @@ impl Draft {
         ensures fault { IfErr result (λ fault. fault ≢ RuleFault.NoMemory
             → with_key_column column.now place self.old ≡ Err fault) }
     {
-        if is_long(column) {
-            return Err(RuleFault::ConstantLong(place.line, place.column));
-        }
-        let column = text_of(alloc, column)?;
+        let column = short_text(alloc, column, place)?;
         self.line.keys.push((self.attribute, column))?;
         Ok(())
     }
@@ -197,9 +220,7 @@ impl Draft {
         ensures fault { IfErr result (λ fault. fault ≢ RuleFault.NoMemory
             → with_head schema.now word.now place self.old ≡ Err fault) }
     {
-        let Some(attribute) = attribute_of(schema, word) else {
-            return Err(RuleFault::UnknownAttr(place.line, place.column));
-        };
+        let attribute = known_attribute(schema, word, place)?;
         if has_key(self.line.keys.as_slice(), attribute) {
             return Err(RuleFault::HeadInKeys(place.line, place.column));
         }
@@ -218,10 +239,7 @@ impl Draft {
         ensures fault { IfErr result (λ fault. fault ≢ RuleFault.NoMemory
             → with_head_column column.now place self.old ≡ Err fault) }
     {
-        if is_long(column) {
-            return Err(RuleFault::ConstantLong(place.line, place.column));
-        }
-        self.line.from = text_of(alloc, column)?;
+        self.line.from = short_text(alloc, column, place)?;
         Ok(())
     }
 
@@ -235,9 +253,7 @@ impl Draft {
         if self.line.conds.len() >= MAX_CONDITIONS {
             return Err(RuleFault::TooMany(place.line, place.column));
         }
-        let Some(attribute) = attribute_of(schema, word) else {
-            return Err(RuleFault::UnknownAttr(place.line, place.column));
-        };
+        let attribute = known_attribute(schema, word, place)?;
         if has_cond(self.line.conds.as_slice(), attribute) {
             return Err(RuleFault::AttrTwice(place.line, place.column));
         }
@@ -281,10 +297,7 @@ impl Draft {
         ensures fault { IfErr result (λ fault. fault ≢ RuleFault.NoMemory
             → with_constant negated constant.now place self.old ≡ Err fault) }
     {
-        if is_long(constant) {
-            return Err(RuleFault::ConstantLong(place.line, place.column));
-        }
-        let constant = text_of(alloc, constant)?;
+        let constant = short_text(alloc, constant, place)?;
         self.add_cond(constant_of(negated, constant))
     }
 
@@ -310,10 +323,7 @@ impl Draft {
         if self.texts.len() >= MAX_SET {
             return Err(RuleFault::TooMany(place.line, place.column));
         }
-        if is_long(text) {
-            return Err(RuleFault::ConstantLong(place.line, place.column));
-        }
-        let text = text_of(alloc, text)?;
+        let text = short_text(alloc, text, place)?;
         self.texts.push(text)?;
         Ok(())
     }

@@ -21,7 +21,7 @@ mod rulebook;
 mod token;
 mod tokenizer;
 
-pub use binding::{BindFault, bind};
+pub use binding::{BindFault, bind, master_named};
 pub use fault::RuleFault;
 pub use grammar::{Expected, next};
 pub use names::{names_in, rule_names};

@@ -11,4 +11,5 @@ mod reading;
 mod schema;
 
 pub use fault::SchemaFault;
+pub use reading::is_known_key;
 pub use schema::Schema;

@@ -51,7 +51,8 @@ fn has_known_keys(table: &Table) -> bool
     table.keys().all(|key| is_known_key(key.as_str()))
 }
 
-fn is_known_key(key: &str) -> bool
+/// Whether this is a key of a schema.
+pub fn is_known_key(key: &str) -> bool
     ensures { result ≡ is_known_key key.now }
 {
     key == "name" || key == "attributes"

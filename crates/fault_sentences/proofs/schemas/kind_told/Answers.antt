@@ -1,9 +1,7 @@
 use Rattle.std.proofs.Common.{append_assoc}
-use Rattle.fault_sentences.specs.Schemas.{wants_list}
-use Rattle.fault_sentences.proofs.schemas.wants_list.Goals as goal
+use Rattle.fault_sentences.proofs.schemas.kind_told.Goals as goal
 
 pub returns : goal.returns
-unfolding wants_list
 returns c =
     let done = rw (
       c.in_ok-words-2.ensures,
