@@ -4,8 +4,8 @@ use Rattle.serde_json.specs.Data.{Data, string}
 use Rattle.serde_json.specs.Written.{compact_text}
 use Rattle.json_parts.specs.Shapes.{line, list_of, whole}
 use Rattle.desk_words.specs.Tables.{Rows}
-use Rattle.desk_dump.specs.Fields.{batch_fields, clerk_fields, edition_fields, master_fields, record_fields}
-use Rattle.desk_dump.specs.Fields.{region_fields, rulebook_fields, schema_fields, session_fields}
+use Rattle.desk_dump.specs.Fields.{batch_fields, clerk_fields, edition_fields, record_fields, region_fields}
+use Rattle.desk_dump.specs.Fields.{rulebook_fields, session_fields, text_fields}
 
 -- the line of a row: its kind, where it stands, and its fields
 abbrev pub row_line : List ℕ → List ℕ → List Data → Data
@@ -35,8 +35,8 @@ lists_lines kind fields lists = lists_from kind fields 0 lists
 abbrev pub rows_lines : Rows → List Data
 rows_lines rows =
     table_lines (codes "clerk") clerk_fields rows.clerks
-    ++ table_lines (codes "schema") schema_fields rows.schemas
-    ++ table_lines (codes "master") master_fields rows.masters
+    ++ table_lines (codes "schema") text_fields rows.schemas
+    ++ table_lines (codes "master") text_fields rows.masters
     ++ table_lines (codes "rulebook") rulebook_fields rows.rulebooks
     ++ table_lines (codes "edition") edition_fields rows.editions
     ++ table_lines (codes "region") region_fields rows.regions

@@ -6,12 +6,11 @@ use Rattle.json_parts.specs.Shapes.{list_of, whole}
 use Rattle.desk_words.specs.declared.rows.batch.BatchRow.{BatchRow}
 use Rattle.desk_words.specs.declared.rows.clerk.ClerkRow.{ClerkRow}
 use Rattle.desk_words.specs.declared.rows.edition.EditionRow.{EditionRow}
-use Rattle.desk_words.specs.declared.rows.master.MasterRow.{MasterRow}
 use Rattle.desk_words.specs.declared.rows.record.RecordRow.{RecordRow}
 use Rattle.desk_words.specs.declared.rows.region.RegionRow.{RegionRow}
 use Rattle.desk_words.specs.declared.rows.rulebook.RulebookRow.{RulebookRow}
-use Rattle.desk_words.specs.declared.rows.schema.SchemaRow.{SchemaRow}
 use Rattle.desk_words.specs.declared.rows.session.SessionRow.{SessionRow}
+use Rattle.desk_words.specs.declared.rows.text.TextRow.{TextRow}
 use Rattle.desk_words.specs.Words.{act_word, stage_word}
 
 -- numbers
@@ -35,13 +34,9 @@ abbrev pub clerk_fields : ClerkRow → List Data
 clerk_fields row =
     string row.name ∷ whole row.last ∷ numbers_shown row.digest.bytes ∷ string (act_word row.act) ∷ whole row.target ∷ []
 
--- a schema
-abbrev pub schema_fields : SchemaRow → List Data
-schema_fields row = string row.name ∷ whole row.version ∷ body_shown row.body ∷ []
-
--- a master
-abbrev pub master_fields : MasterRow → List Data
-master_fields row = string row.name ∷ whole row.version ∷ body_shown row.body ∷ []
+-- a schema or a master
+abbrev pub text_fields : TextRow → List Data
+text_fields row = string row.name ∷ whole row.version ∷ body_shown row.body ∷ []
 
 -- a rulebook
 abbrev pub rulebook_fields : RulebookRow → List Data

@@ -15,45 +15,54 @@ pub fn dump_text(alloc: Global, tables: &Tables) -> Result<List<u8>, NoMemory>
 {
     let mut text = DumpText::new(alloc);
     text.begin()?;
-    write_table(&mut text, tables.clerks.as_slice())?;
-    write_table(&mut text, tables.schemas.as_slice())?;
-    write_table(&mut text, tables.masters.as_slice())?;
-    write_table(&mut text, tables.rulebooks.as_slice())?;
-    write_table(&mut text, tables.editions.as_slice())?;
-    write_table(&mut text, tables.regions.as_slice())?;
-    write_lists(&mut text, &tables.sessions)?;
-    write_lists(&mut text, &tables.records)?;
-    write_lists(&mut text, &tables.batches)?;
+    write_table(&mut text, "clerk", tables.clerks.as_slice())?;
+    write_table(&mut text, "schema", tables.schemas.as_slice())?;
+    write_table(&mut text, "master", tables.masters.as_slice())?;
+    write_table(&mut text, "rulebook", tables.rulebooks.as_slice())?;
+    write_table(&mut text, "edition", tables.editions.as_slice())?;
+    write_table(&mut text, "region", tables.regions.as_slice())?;
+    write_lists(&mut text, "session", &tables.sessions)?;
+    write_lists(&mut text, "record", &tables.records)?;
+    write_lists(&mut text, "batch", &tables.batches)?;
     text.end()?;
     Ok(text.into_bytes())
 }
 
-/// Writes the lines of a table.
-fn write_table<R: DumpRow>(text: &mut DumpText, rows: &[R]) -> Result<(), NoMemory>
-    ensures { OnOk result (text.new ≡ with_lines text.old (table_lines R.kind R.fields rows.now)) }
+/// Writes the lines of a table, whose rows are of this kind.
+fn write_table<R: DumpRow>(text: &mut DumpText, kind: &str, rows: &[R]) -> Result<(), NoMemory>
+    ensures { OnOk result (text.new ≡ with_lines text.old (table_lines kind.now R.fields rows.now)) }
 {
     'rows: for (place, row) in rows.iter().enumerate() {
-        text.row(&[place as u64], row)?;
+        text.row(kind, &[place as u64], row)?;
     }
     Ok(())
 }
 
-/// Writes the lines of the clerks' own lists.
-fn write_lists<R: DumpRow>(text: &mut DumpText, lists: &Room<Room<R>>) -> Result<(), NoMemory>
-    ensures { OnOk result (text.new ≡ with_lines text.old (lists_lines R.kind R.fields (lists_of lists.now))) }
+/// Writes the lines of the clerks' own lists, whose rows are of this kind.
+fn write_lists<R: DumpRow>(
+    text: &mut DumpText,
+    kind: &str,
+    lists: &Room<Room<R>>,
+) -> Result<(), NoMemory>
+    ensures { OnOk result (text.new ≡ with_lines text.old (lists_lines kind.now R.fields (lists_of lists.now))) }
 {
     'lists: for (clerk, list) in lists.as_slice().iter().enumerate() {
-        write_list(text, clerk as u64, list.as_slice())?;
+        write_list(text, kind, clerk as u64, list.as_slice())?;
     }
     Ok(())
 }
 
-/// Writes the lines of the list of a clerk.
-fn write_list<R: DumpRow>(text: &mut DumpText, clerk: u64, rows: &[R]) -> Result<(), NoMemory>
-    ensures { OnOk result (text.new ≡ with_lines text.old (lines_from R.kind R.fields (clerk ∷ []) 0 rows.now)) }
+/// Writes the lines of the list of a clerk, whose rows are of this kind.
+fn write_list<R: DumpRow>(
+    text: &mut DumpText,
+    kind: &str,
+    clerk: u64,
+    rows: &[R],
+) -> Result<(), NoMemory>
+    ensures { OnOk result (text.new ≡ with_lines text.old (lines_from kind.now R.fields (clerk ∷ []) 0 rows.now)) }
 {
     'rows: for (place, row) in rows.iter().enumerate() {
-        text.row(&[clerk, place as u64], row)?;
+        text.row(kind, &[clerk, place as u64], row)?;
     }
     Ok(())
 }

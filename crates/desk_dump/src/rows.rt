@@ -1,27 +1,20 @@
 //! The rows of the nine tables, as a dump has them.
-ghost use Rattle.std.specs.Prelude.{◌≡◌, codes, OnOk};
+ghost use Rattle.std.specs.Prelude.{◌≡◌, OnOk};
 ghost use Rattle.json_parts.specs.Writing.{with_value};
-ghost use Rattle.desk_dump.specs.Fields.{batch_fields, body_shown, clerk_fields, edition_fields, master_fields};
-ghost use Rattle.desk_dump.specs.Fields.{record_fields, region_fields, rulebook_fields, schema_fields, session_fields};
+ghost use Rattle.desk_dump.specs.Fields.{batch_fields, body_shown, clerk_fields, edition_fields, record_fields};
+ghost use Rattle.desk_dump.specs.Fields.{region_fields, rulebook_fields, session_fields, text_fields};
 
 use crate::writing::DumpRow;
 use desk_base::List;
 use desk_json::{Show, show_all};
 use desk_words::{
-    BatchRow, ClerkRow, EditionRow, MasterRow, RecordRow, RegionRow, RulebookRow, SchemaRow,
-    SessionRow,
+    BatchRow, ClerkRow, EditionRow, RecordRow, RegionRow, RulebookRow, SessionRow, TextRow,
 };
 use json_parts::JsonText;
 use std::alloc::AllocError;
 
 impl DumpRow for ClerkRow {
-    ghost kind = { codes "clerk" };
-
     ghost fields = { clerk_fields };
-
-    fn kind() -> &'static str {
-        "clerk"
-    }
 
     fn write_fields(&self, out: &mut JsonText) -> Result<(), AllocError> {
         self.name.show(out)?;
@@ -32,30 +25,8 @@ impl DumpRow for ClerkRow {
     }
 }
 
-impl DumpRow for SchemaRow {
-    ghost kind = { codes "schema" };
-
-    ghost fields = { schema_fields };
-
-    fn kind() -> &'static str {
-        "schema"
-    }
-
-    fn write_fields(&self, out: &mut JsonText) -> Result<(), AllocError> {
-        self.name.show(out)?;
-        self.version.show(out)?;
-        write_body(out, &self.body)
-    }
-}
-
-impl DumpRow for MasterRow {
-    ghost kind = { codes "master" };
-
-    ghost fields = { master_fields };
-
-    fn kind() -> &'static str {
-        "master"
-    }
+impl DumpRow for TextRow {
+    ghost fields = { text_fields };
 
     fn write_fields(&self, out: &mut JsonText) -> Result<(), AllocError> {
         self.name.show(out)?;
@@ -65,13 +36,7 @@ impl DumpRow for MasterRow {
 }
 
 impl DumpRow for RulebookRow {
-    ghost kind = { codes "rulebook" };
-
     ghost fields = { rulebook_fields };
-
-    fn kind() -> &'static str {
-        "rulebook"
-    }
 
     fn write_fields(&self, out: &mut JsonText) -> Result<(), AllocError> {
         self.name.show(out)?;
@@ -82,13 +47,7 @@ impl DumpRow for RulebookRow {
 }
 
 impl DumpRow for EditionRow {
-    ghost kind = { codes "edition" };
-
     ghost fields = { edition_fields };
-
-    fn kind() -> &'static str {
-        "edition"
-    }
 
     fn write_fields(&self, out: &mut JsonText) -> Result<(), AllocError> {
         self.name.show(out)?;
@@ -100,13 +59,7 @@ impl DumpRow for EditionRow {
 }
 
 impl DumpRow for RegionRow {
-    ghost kind = { codes "region" };
-
     ghost fields = { region_fields };
-
-    fn kind() -> &'static str {
-        "region"
-    }
 
     fn write_fields(&self, out: &mut JsonText) -> Result<(), AllocError> {
         self.edition.show(out)?;
@@ -116,13 +69,7 @@ impl DumpRow for RegionRow {
 }
 
 impl DumpRow for SessionRow {
-    ghost kind = { codes "session" };
-
     ghost fields = { session_fields };
-
-    fn kind() -> &'static str {
-        "session"
-    }
 
     fn write_fields(&self, out: &mut JsonText) -> Result<(), AllocError> {
         self.edition.show(out)?;
@@ -134,13 +81,7 @@ impl DumpRow for SessionRow {
 }
 
 impl DumpRow for RecordRow {
-    ghost kind = { codes "record" };
-
     ghost fields = { record_fields };
-
-    fn kind() -> &'static str {
-        "record"
-    }
 
     fn write_fields(&self, out: &mut JsonText) -> Result<(), AllocError> {
         self.session.show(out)?;
@@ -150,13 +91,7 @@ impl DumpRow for RecordRow {
 }
 
 impl DumpRow for BatchRow {
-    ghost kind = { codes "batch" };
-
     ghost fields = { batch_fields };
-
-    fn kind() -> &'static str {
-        "batch"
-    }
 
     fn write_fields(&self, out: &mut JsonText) -> Result<(), AllocError> {
         self.edition.show(out)?;

@@ -1,5 +1,5 @@
 //! The text of a dump as it is written, line by line.
-ghost use Rattle.std.specs.Prelude.{◌≡◌, ℕ, List, [], ◌∷◌, map, OnOk};
+ghost use Rattle.std.specs.Prelude.{◌≡◌, List, [], ◌∷◌, map, OnOk};
 ghost use Rattle.serde_json.specs.Data.{Data};
 ghost use Rattle.serde_json.specs.Written.{compact_text};
 ghost use Rattle.json_parts.specs.Shapes.{whole};
@@ -13,15 +13,8 @@ use std::marker::Model;
 
 /// A row of a table, as a dump has it.
 pub trait DumpRow {
-    /// What the lines of its table begin with.
-    ghost kind: { List ℕ };
-
     /// Its fields.
     ghost fields: { Self → List Data };
-
-    /// What the lines of its table begin with.
-    fn kind() -> &'static str
-        ensures { result.now ≡ kind };
 
     /// Writes its fields after what was written.
     fn write_fields(&self, out: &mut JsonText) -> Result<(), AllocError>
@@ -70,13 +63,13 @@ impl DumpText {
         self.add(out.into_bytes())
     }
 
-    /// Writes the line of a row that stands at these places.
-    pub fn row<R: DumpRow>(&mut self, places: &[u64], row: &R) -> Result<(), NoMemory>
-        ensures { OnOk result (self.new ≡ with_lines self.old (row_line R.kind places.now (R.fields row.now) ∷ [])) }
+    /// Writes the line of a row of this kind that stands at these places.
+    pub fn row<R: DumpRow>(&mut self, kind: &str, places: &[u64], row: &R) -> Result<(), NoMemory>
+        ensures { OnOk result (self.new ≡ with_lines self.old (row_line kind.now places.now (R.fields row.now) ∷ [])) }
     {
         let mut out = JsonText::new(*self.bytes.allocator())?;
         out.begin_array()?;
-        out.string(R::kind())?;
+        out.string(kind)?;
         write_numbers(&mut out, places)?;
         row.write_fields(&mut out)?;
         out.end_array()?;

@@ -13,7 +13,7 @@ use Rattle.desk_words.specs.declared.proposal.Proposal.{Proposal}
 use Rattle.desk_words.specs.declared.proposal.Proposal.TheVariants.{Schema, Master, Rulebook}
 use Rattle.desk_words.specs.declared.rows.clerk.Digest.{Digest}
 use Rattle.desk_words.specs.declared.steward_work.StewardWork.{StewardWork}
-use Rattle.desk_words.specs.Proposals.{work_of}
+use Rattle.desk_words.specs.declared.steward_work.StewardWork.TheVariants.{Publish}
 use Rattle.desk_json.specs.Bodies.Abandon.{abandon}
 use Rattle.desk_json.specs.Bodies.AddClerk.{add_clerk}
 use Rattle.desk_json.specs.Bodies.AddDerived.{add_derived}
@@ -47,7 +47,7 @@ pub data Asked : Type 0 where
 abbrev pub to_publish : ℕ → Checked Proposal → Asked
 to_publish n read = by_steward n do
   proposal ← read
-  Ok (work_of proposal)
+  Ok (Publish proposal)
 
 -- it is asked what publishing this would come to
 abbrev pub to_check : Checked Proposal → Asked

@@ -3,7 +3,7 @@ ghost use Rattle.std.specs.Prelude.{◌≡◌, ◌≢◌, Ok, Err, IfOk, IfErr};
 ghost use Rattle.desk_words.specs.declared.desk_look.DeskLook.TheVariants as desk_looks;
 ghost use Rattle.desk_words.specs.declared.look.Look.TheVariants as looks;
 ghost use Rattle.desk_words.specs.declared.command.Command.TheVariants as commands;
-ghost use Rattle.desk_words.specs.Proposals.{work_of};
+ghost use Rattle.desk_words.specs.declared.steward_work.StewardWork.TheVariants.{Publish};
 ghost use Rattle.desk_json.specs.Commands.{command_in};
 
 use crate::bodies::abandon::abandon;
@@ -161,9 +161,9 @@ fn by_steward(n: u64, digest: Digest, work: StewardWork) -> Command
 
 /// The write of the steward that publishes a proposal.
 fn to_publish(n: u64, digest: Digest, proposal: Proposal) -> Command
-    ensures { result ≡ commands.Steward (record { number = n; digest = digest }) (work_of proposal) }
+    ensures { result ≡ commands.Steward (record { number = n; digest = digest }) (Publish proposal) }
 {
-    by_steward(n, digest, proposal.publish())
+    by_steward(n, digest, StewardWork::Publish(proposal))
 }
 
 /// The look at what publishing a proposal would come to.

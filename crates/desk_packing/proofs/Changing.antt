@@ -18,7 +18,7 @@ use Rattle.desk_words.specs.Changes.{FitAll, Fits, changed, changed_all, put, wi
 use Rattle.desk_words.specs.Tables.{AreTables, Rows, list_at}
 use Rattle.desk_packing.specs.Formats.{Format}
 use Rattle.desk_packing.specs.Lines.{Line, put_line, put_lines}
-use Rattle.desk_packing.specs.RowFormats.{batch, clerk, committed, edition, master, region, rulebook, schema, session}
+use Rattle.desk_packing.specs.RowFormats.{batch, clerk, committed, edition, region, rulebook, session, text_row}
 use Rattle.desk_packing.specs.Shapes.{FitLengths, FitsFields, FitsIn, grown, grown_all, line_of_change}
 use Rattle.desk_packing.specs.Shapes.{lines_of_changes}
 use Rattle.desk_packing.specs.Shapes.{shape_of, with_empty}
@@ -69,8 +69,8 @@ puts-change rows change are fits = put_over change fits
           own_lines-with_clerk batch 9 rows.batches place (length rows.clerks),
         ) (at_part 1 (row_line clerk 1 0 place row) _ refl (omega arith)
         (puts-list clerk 1 0 rows.clerks place row inside))
-    put_over (Schema row) fits = at_part 2 _ _ refl (omega arith) (puts-end schema 2 rows.schemas row)
-    put_over (Master row) fits = at_part 3 _ _ refl (omega arith) (puts-end master 3 rows.masters row)
+    put_over (Schema row) fits = at_part 2 _ _ refl (omega arith) (puts-end text_row 2 rows.schemas row)
+    put_over (Master row) fits = at_part 3 _ _ refl (omega arith) (puts-end text_row 3 rows.masters row)
     put_over (Rulebook row) fits = at_part 4 _ _ refl (omega arith) (puts-end rulebook 4 rows.rulebooks row)
     put_over (Edition row) fits = at_part 5 _ _ refl (omega arith) (puts-end edition 5 rows.editions row)
     put_over (Region row) fits = at_part 6 _ _ refl (omega arith) (puts-end region 6 rows.regions row)
@@ -227,9 +227,9 @@ FitFields-changed rows (Clerk place row) fit fields = assumption (
   each-with_clerk batch.Fits rows.batches place (length rows.clerks) fit.batches,
 )
 FitFields-changed rows (Schema row) fit fields =
-    assumption (AllByRecursion-push schema.Fits rows.schemas row fit.schemas fields)
+    assumption (AllByRecursion-push text_row.Fits rows.schemas row fit.schemas fields)
 FitFields-changed rows (Master row) fit fields =
-    assumption (AllByRecursion-push master.Fits rows.masters row fit.masters fields)
+    assumption (AllByRecursion-push text_row.Fits rows.masters row fit.masters fields)
 FitFields-changed rows (Rulebook row) fit fields =
     assumption (AllByRecursion-push rulebook.Fits rows.rulebooks row fit.rulebooks fields)
 FitFields-changed rows (Edition row) fit fields =

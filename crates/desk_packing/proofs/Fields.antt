@@ -9,7 +9,7 @@ use Rattle.desk_words.specs.declared.rows.session.Stage.TheVariants as stage
 use Rattle.desk_packing.specs.Formats.{Format, IsExact, both, bytes, fixed, flag, formed, list, none, text, u16, u32}
 use Rattle.desk_packing.specs.Formats.{u64}
 use Rattle.desk_packing.specs.RowFormats.{act_code, act_format, acts, batch, clerk, committed, digest, edition}
-use Rattle.desk_packing.specs.RowFormats.{edition_with, master, old_edition, region, region_format, rulebook, schema}
+use Rattle.desk_packing.specs.RowFormats.{edition_with, old_edition, region, region_format, rulebook, text_row}
 use Rattle.desk_packing.specs.RowFormats.{session, stage_code, stage_format, stages}
 use Rattle.desk_packing.proofs.Exact.{both-exact, bytes-exact, coded-exact, fixed-exact, flag-exact, formed-exact}
 use Rattle.desk_packing.proofs.Exact.{list-exact, none-exact, text-exact, u16-exact, u32-exact, u64-exact}
@@ -134,13 +134,9 @@ pub clerk-exact : IsExact clerk
 clerk-exact = formed_of-exact (beside a_text (beside a_u64 (beside a_digest (beside an_act a_u32)))) _ _ (λ row. refl)
     (λ f. refl)
 
--- schemas
-pub schema-exact : IsExact schema
-schema-exact = formed_of-exact (beside a_text (beside a_u32 some_bytes)) _ _ (λ row. refl) (λ f. refl)
-
--- masters
-pub master-exact : IsExact master
-master-exact = formed_of-exact (beside a_text (beside a_u32 some_bytes)) _ _ (λ row. refl) (λ f. refl)
+-- schemas and masters
+pub text_row-exact : IsExact text_row
+text_row-exact = formed_of-exact (beside a_text (beside a_u32 some_bytes)) _ _ (λ row. refl) (λ f. refl)
 
 -- rulebooks
 pub rulebook-exact : IsExact rulebook

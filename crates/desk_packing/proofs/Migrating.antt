@@ -9,7 +9,7 @@ use Rattle.desk_words.specs.declared.rows.edition.EditionRow.{EditionRow}
 use Rattle.desk_words.specs.Tables.{Rows}
 use Rattle.desk_packing.specs.Formats.{Format, list, u16}
 use Rattle.desk_packing.specs.Lines.{Line, put_line, put_lines, same_key}
-use Rattle.desk_packing.specs.RowFormats.{clerk, edition, master, old_edition, rulebook, schema}
+use Rattle.desk_packing.specs.RowFormats.{clerk, edition, old_edition, rulebook, text_row}
 use Rattle.desk_packing.specs.Shapes.{migration_lines}
 use Rattle.desk_packing.specs.Stands.{StandIn, lines_of, list_lines, old_lines_of, row_line, version_line}
 use Rattle.desk_packing.proofs.Joined.{joined, joined-before}
@@ -71,8 +71,8 @@ module _ (rows : Rows) where
 
   -- the lines of tables before and after the editions
   split_at_editions : (lines : List Line)
-      → version_line false ∷ (list_lines clerk 1 0 0 rows.clerks ++ (list_lines schema 2 0 0 rows.schemas
-      ++ (list_lines master 3 0 0 rows.masters ++ (list_lines rulebook 4 0 0 rows.rulebooks ++ lines))))
+      → version_line false ∷ (list_lines clerk 1 0 0 rows.clerks ++ (list_lines text_row 2 0 0 rows.schemas
+      ++ (list_lines text_row 3 0 0 rows.masters ++ (list_lines rulebook 4 0 0 rows.rulebooks ++ lines))))
       ≡ in_front ++ lines
   split_at_editions lines = simp append_assoc
 

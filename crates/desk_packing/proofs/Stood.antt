@@ -10,12 +10,11 @@ use Rattle.std.proofs.lemmas.List.Sorted.{IsPermutation-sym, IsPermutation-trans
 use Rattle.desk_words.specs.declared.rows.batch.BatchRow.{BatchRow}
 use Rattle.desk_words.specs.declared.rows.clerk.ClerkRow.{ClerkRow}
 use Rattle.desk_words.specs.declared.rows.edition.EditionRow.{EditionRow}
-use Rattle.desk_words.specs.declared.rows.master.MasterRow.{MasterRow}
 use Rattle.desk_words.specs.declared.rows.record.RecordRow.{RecordRow}
 use Rattle.desk_words.specs.declared.rows.region.RegionRow.{RegionRow}
 use Rattle.desk_words.specs.declared.rows.rulebook.RulebookRow.{RulebookRow}
-use Rattle.desk_words.specs.declared.rows.schema.SchemaRow.{SchemaRow}
 use Rattle.desk_words.specs.declared.rows.session.SessionRow.{SessionRow}
+use Rattle.desk_words.specs.declared.rows.text.TextRow.{TextRow}
 use Rattle.desk_words.specs.Tables.{AreListsOf, AreTables, IsShort, Rows, empty_rows}
 use Rattle.desk_packing.specs.declared.kinds.TheConstants.{VERSION, CLERKS, SCHEMAS, MASTERS, RULEBOOKS, EDITIONS}
 use Rattle.desk_packing.specs.declared.kinds.TheConstants.{REGIONS, SESSIONS, RECORDS, BATCHES}
@@ -23,13 +22,12 @@ use Rattle.desk_packing.specs.Formats.{Format, IsExact}
 use Rattle.desk_packing.specs.Lines.{AreByKey, Line, comes_before}
 use Rattle.desk_packing.specs.Reading.{by_key, is_of, list_in, lists_in, rows_in, rows_in_order, tables_in}
 use Rattle.desk_packing.specs.Reading.{version_in, version_of}
-use Rattle.desk_packing.specs.RowFormats.{batch, clerk, committed, master, region, rulebook}
-use Rattle.desk_packing.specs.RowFormats.{schema, session}
+use Rattle.desk_packing.specs.RowFormats.{batch, clerk, committed, region, rulebook, session, text_row}
 use Rattle.desk_packing.specs.Stands.{FitFields, StandAs, StandFor, StandIn, edition_in, lines_in, list_lines}
 use Rattle.desk_packing.specs.Stands.{own_lines}
 use Rattle.desk_packing.specs.Stands.{version_line}
-use Rattle.desk_packing.proofs.Fields.{batch-exact, clerk-exact, committed-exact, edition-exact, master-exact}
-use Rattle.desk_packing.proofs.Fields.{old_edition-exact, region-exact, rulebook-exact, schema-exact, session-exact}
+use Rattle.desk_packing.proofs.Fields.{batch-exact, clerk-exact, committed-exact, edition-exact, text_row-exact}
+use Rattle.desk_packing.proofs.Fields.{old_edition-exact, region-exact, rulebook-exact, session-exact}
 use Rattle.desk_packing.proofs.Joined.{AreParts, IsPart, StandFrom, StandFrom-drop, StandFrom-joined, joined}
 use Rattle.desk_packing.proofs.Options.{and_then-some, if-found, if-some}
 use Rattle.desk_packing.proofs.Order.{AreApart-from_order, AreByKey-append, by_key-IsPermutation, by_key-permutation}
@@ -110,8 +108,8 @@ other_kinds kind owner lines from = each-weaker (λ line. kind + 1 ≤ line.kind
 abbrev pub parts_of : Bool → Rows → List (List Line)
 parts_of is_old rows = (version_line is_old ∷ [])
     ∷ list_lines clerk CLERKS 0 0 rows.clerks
-    ∷ list_lines schema SCHEMAS 0 0 rows.schemas
-    ∷ list_lines master MASTERS 0 0 rows.masters
+    ∷ list_lines text_row SCHEMAS 0 0 rows.schemas
+    ∷ list_lines text_row MASTERS 0 0 rows.masters
     ∷ list_lines rulebook RULEBOOKS 0 0 rows.rulebooks
     ∷ list_lines (edition_in is_old) EDITIONS 0 0 rows.editions
     ∷ list_lines region REGIONS 0 0 rows.regions
@@ -132,9 +130,9 @@ module _ (is_old : Bool) (rows : Rows) where
     (
       list_lines-IsPart clerk 1 rows.clerks,
       (
-        list_lines-IsPart schema 2 rows.schemas,
+        list_lines-IsPart text_row 2 rows.schemas,
         (
-          list_lines-IsPart master 3 rows.masters,
+          list_lines-IsPart text_row 3 rows.masters,
           (
             list_lines-IsPart rulebook 4 rows.rulebooks,
             (
@@ -187,8 +185,8 @@ module _ (is_old : Bool) (rows : Rows) where
   tables_in-back are fit =
       rw (
         list_in-part clerk clerk-exact 1 rows.clerks fit.clerks are.clerks,
-        list_in-part schema schema-exact 2 rows.schemas fit.schemas are.schemas,
-        list_in-part master master-exact 3 rows.masters fit.masters are.masters,
+        list_in-part text_row text_row-exact 2 rows.schemas fit.schemas are.schemas,
+        list_in-part text_row text_row-exact 3 rows.masters fit.masters are.masters,
         list_in-part rulebook rulebook-exact 4 rows.rulebooks fit.rulebooks are.rulebooks,
         list_in-part (edition_in is_old) (edition_in-exact is_old) 5 rows.editions fit.editions are.editions,
         list_in-part region region-exact 6 rows.regions fit.regions are.regions,
@@ -203,14 +201,14 @@ IsShort-from : {A : Type 0} (rows : List A) → 0 + length rows < 2 ^ 31 → IsS
 IsShort-from rows few = omega arith
 
 -- tables whose lists are read one after another, each with the lines after it
-module _ (is_old : Bool) (lines : List Line) {clerks : List ClerkRow} {schemas : List SchemaRow}
-    {masters : List MasterRow} {rulebooks : List RulebookRow} {editions : List EditionRow} {regions : List RegionRow}
+module _ (is_old : Bool) (lines : List Line) {clerks : List ClerkRow} {schemas : List TextRow}
+    {masters : List TextRow} {rulebooks : List RulebookRow} {editions : List EditionRow} {regions : List RegionRow}
     {sessions : List (List SessionRow)} {records : List (List RecordRow)} {batches : List (List BatchRow)}
     {after_clerks after_schemas after_masters after_rulebooks after_editions after_regions after_sessions : List Line}
     {after_records rest : List Line}
     (clerks_are : list_in clerk CLERKS 0 0 lines ≡ Some (clerks, after_clerks))
-    (schemas_are : list_in schema SCHEMAS 0 0 after_clerks ≡ Some (schemas, after_schemas))
-    (masters_are : list_in master MASTERS 0 0 after_schemas ≡ Some (masters, after_masters))
+    (schemas_are : list_in text_row SCHEMAS 0 0 after_clerks ≡ Some (schemas, after_schemas))
+    (masters_are : list_in text_row MASTERS 0 0 after_schemas ≡ Some (masters, after_masters))
     (rulebooks_are : list_in rulebook RULEBOOKS 0 0 after_masters ≡ Some (rulebooks, after_rulebooks))
     (editions_are : list_in (edition_in is_old) EDITIONS 0 0 after_rulebooks ≡ Some (editions, after_editions))
     (regions_are : list_in region REGIONS 0 0 after_editions ≡ Some (regions, after_regions))
@@ -254,9 +252,9 @@ module _ (is_old : Bool) (lines : List Line) {clerks : List ClerkRow} {schemas :
       let less : length rest ≤ 0 = leb-true (length rest) 0 all.1 in
       let none : rest ≡ [] = nil_from_length rest (omega arith) in
       let of_clerks = list_in-only clerk clerk-exact 1 0 0 lines after_clerks clerks (omega arith) clerks_are in
-      let of_schemas = list_in-only schema schema-exact 2 0 0 after_clerks after_schemas schemas (omega arith)
+      let of_schemas = list_in-only text_row text_row-exact 2 0 0 after_clerks after_schemas schemas (omega arith)
       schemas_are in
-      let of_masters = list_in-only master master-exact 3 0 0 after_schemas after_masters masters (omega arith)
+      let of_masters = list_in-only text_row text_row-exact 3 0 0 after_schemas after_masters masters (omega arith)
       masters_are in
       let of_rulebooks = list_in-only rulebook rulebook-exact 4 0 0 after_masters after_rulebooks rulebooks
       (omega arith)
@@ -303,9 +301,9 @@ pub tables_in-only : (is_old : Bool) (lines : List Line) (rows : Rows) → table
     → AreTables rows × FitFields is_old rows × (lines ≡ lines_from is_old rows 1)
 tables_in-only is_old lines rows found =
     let (clerks, clerks_are, after_clerks) = and_then-some _ (list_in clerk CLERKS 0 0 lines) rows found in
-    let (schemas, schemas_are, after_schemas) = and_then-some _ (list_in schema SCHEMAS 0 0 clerks.1) rows
+    let (schemas, schemas_are, after_schemas) = and_then-some _ (list_in text_row SCHEMAS 0 0 clerks.1) rows
     after_clerks in
-    let (masters, masters_are, after_masters) = and_then-some _ (list_in master MASTERS 0 0 schemas.1) rows
+    let (masters, masters_are, after_masters) = and_then-some _ (list_in text_row MASTERS 0 0 schemas.1) rows
     after_schemas in
     let (rulebooks, rulebooks_are, after_rulebooks) = and_then-some _ (list_in rulebook RULEBOOKS 0 0 masters.1) rows
     after_masters in

@@ -6,7 +6,7 @@ use Rattle.desk_packing.specs.declared.kinds.TheConstants.{VERSION, CLERKS, SCHE
 use Rattle.desk_packing.specs.declared.kinds.TheConstants.{REGIONS, SESSIONS, RECORDS, BATCHES}
 use Rattle.desk_packing.specs.Formats.{Format, whole}
 use Rattle.desk_packing.specs.Lines.{Line, comes_before}
-use Rattle.desk_packing.specs.RowFormats.{clerk, schema, master, rulebook, region, session, committed, batch}
+use Rattle.desk_packing.specs.RowFormats.{batch, clerk, committed, region, rulebook, session, text_row}
 use Rattle.desk_packing.specs.Stands.{edition_in}
 
 -- the line among lines in the order of their keys
@@ -54,8 +54,8 @@ abbrev pub ◌>>=◌ : {A B : Type 0} → Option A → (A → Option B) → Opti
 abbrev pub tables_in : Bool → List Line → Option Rows
 tables_in is_old lines = do
   clerks ← list_in clerk CLERKS 0 0 lines
-  schemas ← list_in schema SCHEMAS 0 0 clerks.1
-  masters ← list_in master MASTERS 0 0 schemas.1
+  schemas ← list_in text_row SCHEMAS 0 0 clerks.1
+  masters ← list_in text_row MASTERS 0 0 schemas.1
   rulebooks ← list_in rulebook RULEBOOKS 0 0 masters.1
   editions ← list_in (edition_in is_old) EDITIONS 0 0 rulebooks.1
   regions ← list_in region REGIONS 0 0 editions.1

@@ -6,14 +6,13 @@ use Rattle.desk_words.specs.declared.rows.batch.BatchRow.{BatchRow}
 use Rattle.desk_words.specs.declared.rows.clerk.ClerkRow.{ClerkRow}
 use Rattle.desk_words.specs.declared.rows.clerk.Digest.{Digest}
 use Rattle.desk_words.specs.declared.rows.edition.EditionRow.{EditionRow}
-use Rattle.desk_words.specs.declared.rows.master.MasterRow.{MasterRow}
 use Rattle.desk_words.specs.declared.rows.record.RecordRow.{RecordRow}
 use Rattle.desk_words.specs.declared.rows.region.RegionRow.{RegionRow}
 use Rattle.desk_words.specs.declared.rows.rulebook.RulebookRow.{RulebookRow}
-use Rattle.desk_words.specs.declared.rows.schema.SchemaRow.{SchemaRow}
 use Rattle.desk_words.specs.declared.rows.session.SessionRow.{SessionRow}
 use Rattle.desk_words.specs.declared.rows.session.Stage.{Stage}
 use Rattle.desk_words.specs.declared.rows.session.Stage.TheVariants as stage
+use Rattle.desk_words.specs.declared.rows.text.TextRow.{TextRow}
 use Rattle.fix_model.specs.declared.region.Region.{Region}
 use Rattle.desk_packing.specs.Formats.{Format, u16, u32, u64, fixed, coded, both, formed, text, bytes, list, none, flag}
 
@@ -69,24 +68,14 @@ clerk = formed (both text (both u64 (both digest (both act_format u32))))
     clerk_from
     (λ row. (row.name, (row.last, (row.digest, (row.act, row.target)))))
 
--- a schema from its fields in their order
-abbrev pub schema_from : List ℕ × (ℕ × List ℕ) → SchemaRow
-schema_from (name, (version, body)) = record { name = name; version = version; body = body }
+-- a schema or a master from its fields in their order
+abbrev pub text_row_from : List ℕ × (ℕ × List ℕ) → TextRow
+text_row_from (name, (version, body)) = record { name = name; version = version; body = body }
 
--- a schema: name, version and text
-abbrev pub schema : Format SchemaRow
-schema = formed (both text (both u32 bytes))
-    schema_from
-    (λ row. (row.name, (row.version, row.body)))
-
--- a master from its fields in their order
-abbrev pub master_from : List ℕ × (ℕ × List ℕ) → MasterRow
-master_from (name, (version, body)) = record { name = name; version = version; body = body }
-
--- a master: name, version and sheet
-abbrev pub master : Format MasterRow
-master = formed (both text (both u32 bytes))
-    master_from
+-- a schema or a master: name, version and text
+abbrev pub text_row : Format TextRow
+text_row = formed (both text (both u32 bytes))
+    text_row_from
     (λ row. (row.name, (row.version, row.body)))
 
 -- a rulebook from its fields in their order

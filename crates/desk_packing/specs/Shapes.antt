@@ -10,7 +10,7 @@ use Rattle.desk_words.specs.Tables.{Rows}
 use Rattle.desk_packing.specs.declared.kinds.TheConstants.{CLERKS, SCHEMAS, MASTERS, RULEBOOKS, EDITIONS}
 use Rattle.desk_packing.specs.declared.kinds.TheConstants.{REGIONS, SESSIONS, RECORDS, BATCHES}
 use Rattle.desk_packing.specs.Lines.{Line}
-use Rattle.desk_packing.specs.RowFormats.{clerk, schema, master, rulebook, edition, region, session, committed, batch}
+use Rattle.desk_packing.specs.RowFormats.{batch, clerk, committed, edition, region, rulebook, session, text_row}
 use Rattle.desk_packing.specs.Stands.{list_lines, row_line, version_line}
 
 -- the lengths of the lists; of the clerks' own lists the length for each clerk
@@ -109,8 +109,8 @@ grown_all = fold grown
 -- the line of the row that a change puts, at the place where it goes
 abbrev pub line_of_change : Lengths → Change → Line
 line_of_change shape (Clerk place row) = row_line clerk CLERKS 0 place row
-line_of_change shape (Schema row) = row_line schema SCHEMAS 0 shape.schemas row
-line_of_change shape (Master row) = row_line master MASTERS 0 shape.masters row
+line_of_change shape (Schema row) = row_line text_row SCHEMAS 0 shape.schemas row
+line_of_change shape (Master row) = row_line text_row MASTERS 0 shape.masters row
 line_of_change shape (Rulebook row) = row_line rulebook RULEBOOKS 0 shape.rulebooks row
 line_of_change shape (Edition row) = row_line edition EDITIONS 0 shape.editions row
 line_of_change shape (Region row) = row_line region REGIONS 0 shape.regions row
@@ -127,8 +127,8 @@ lines_of_changes shape (change ∷ changes) =
 -- the row that a change puts fits its fields
 abbrev pub FitsFields : Change → Type 0
 FitsFields (Clerk place row) = clerk.Fits row
-FitsFields (Schema row) = schema.Fits row
-FitsFields (Master row) = master.Fits row
+FitsFields (Schema row) = text_row.Fits row
+FitsFields (Master row) = text_row.Fits row
 FitsFields (Rulebook row) = rulebook.Fits row
 FitsFields (Edition row) = edition.Fits row
 FitsFields (Region row) = region.Fits row

@@ -7,7 +7,7 @@ use Rattle.desk_packing.specs.declared.kinds.TheConstants.{VERSION, CLERKS, SCHE
 use Rattle.desk_packing.specs.declared.kinds.TheConstants.{REGIONS, SESSIONS, RECORDS, BATCHES}
 use Rattle.desk_packing.specs.Formats.{Format}
 use Rattle.desk_packing.specs.Lines.{Line}
-use Rattle.desk_packing.specs.RowFormats.{clerk, schema, master, rulebook, edition, old_edition, region, session}
+use Rattle.desk_packing.specs.RowFormats.{clerk, edition, old_edition, region, rulebook, session, text_row}
 use Rattle.desk_packing.specs.RowFormats.{committed, batch}
 
 -- a row at a place of a list
@@ -38,8 +38,8 @@ version_line is_old = record { kind = VERSION; owner = 0; place = 0; body = (if 
 -- the lines of tables in a version
 abbrev pub lines_in : Bool → Rows → List Line
 lines_in is_old rows = version_line is_old ∷ (list_lines clerk CLERKS 0 0 rows.clerks
-    ++ (list_lines schema SCHEMAS 0 0 rows.schemas
-    ++ (list_lines master MASTERS 0 0 rows.masters
+    ++ (list_lines text_row SCHEMAS 0 0 rows.schemas
+    ++ (list_lines text_row MASTERS 0 0 rows.masters
     ++ (list_lines rulebook RULEBOOKS 0 0 rows.rulebooks
     ++ (list_lines (edition_in is_old) EDITIONS 0 0 rows.editions
     ++ (list_lines region REGIONS 0 0 rows.regions
@@ -58,8 +58,8 @@ old_lines_of = lines_in true
 -- every row fits its fields; in the old version no edition has a folded attribute
 pub record FitFields (is_old : Bool) (rows : Rows) : Type 0 where
   pub clerks : AllByRecursion clerk.Fits rows.clerks
-  pub schemas : AllByRecursion schema.Fits rows.schemas
-  pub masters : AllByRecursion master.Fits rows.masters
+  pub schemas : AllByRecursion text_row.Fits rows.schemas
+  pub masters : AllByRecursion text_row.Fits rows.masters
   pub rulebooks : AllByRecursion rulebook.Fits rows.rulebooks
   pub editions : AllByRecursion (edition_in is_old).Fits rows.editions
   pub regions : AllByRecursion region.Fits rows.regions

@@ -9,9 +9,8 @@ ghost use Rattle.desk_packing.specs.declared.kinds.TheConstants.{EDITIONS, REGIO
 ghost use Rattle.desk_packing.specs.Formats.{IsApart, IsExact};
 ghost use Rattle.desk_packing.specs.Lines.{Line, put_lines};
 ghost use Rattle.desk_packing.specs.Reading.{rows_in};
-ghost use Rattle.desk_packing.specs.RowFormats.{batch, clerk, committed, edition, master, old_edition, region};
-ghost use Rattle.desk_packing.specs.RowFormats.{rulebook};
-ghost use Rattle.desk_packing.specs.RowFormats.{schema, session};
+ghost use Rattle.desk_packing.specs.RowFormats.{batch, clerk, committed, edition, old_edition, region, text_row};
+ghost use Rattle.desk_packing.specs.RowFormats.{rulebook, session};
 ghost use Rattle.desk_packing.specs.Shapes.{FitLengths, FitsFields, grown_all, lines_of_changes, migration_lines};
 ghost use Rattle.desk_packing.specs.Shapes.{shape_of};
 ghost use Rattle.desk_packing.specs.Stands.{StandFor, StandIn, lines_of, old_lines_of};
@@ -34,8 +33,7 @@ pub fn the_kinds_are()
 /// A packed row is read back, whatever stands after it; and what is read was packed so.
 pub fn packed_rows_are_read_back()
     ensures clerks { IsExact clerk }
-    ensures schemas { IsExact schema }
-    ensures masters { IsExact master }
+    ensures texts { IsExact text_row }
     ensures rulebooks { IsExact rulebook }
     ensures editions { IsExact edition }
     ensures old_editions { IsExact old_edition }
@@ -81,8 +79,7 @@ pub fn a_new_desk_stands()
 /// Equal bytes are those of one row.
 pub fn equal_bytes_are_of_one_row()
     ensures clerks { IsApart clerk }
-    ensures schemas { IsApart schema }
-    ensures masters { IsApart master }
+    ensures texts { IsApart text_row }
     ensures rulebooks { IsApart rulebook }
     ensures editions { IsApart edition }
     ensures old_editions { IsApart old_edition }

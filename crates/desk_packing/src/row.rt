@@ -3,7 +3,7 @@ ghost use Rattle.std.specs.Prelude.{◌≡◌, ◌+◌, ◌<◌, ◌^◌, Bool, 
 ghost use Rattle.desk_packing.specs.Formats.{Format, whole};
 ghost use Rattle.desk_packing.specs.Lines.{line_of};
 ghost use Rattle.desk_packing.specs.Reading.{is_of, row_at};
-ghost use Rattle.desk_packing.specs.RowFormats.{batch, clerk, committed, master, region, rulebook, schema, session};
+ghost use Rattle.desk_packing.specs.RowFormats.{batch, clerk, committed, region, rulebook, session, text_row};
 ghost use Rattle.desk_packing.specs.Stands.{edition_in, row_line};
 
 use crate::error::{FieldFault, UnpackFault};
@@ -12,8 +12,7 @@ use crate::packs::{Packs, unpack_whole};
 use crate::rows::unpack_old_edition;
 use desk_base::List;
 use desk_words::{
-    BatchRow, ClerkRow, EditionRow, MasterRow, RecordRow, RegionRow, RulebookRow, SchemaRow,
-    SessionRow,
+    BatchRow, ClerkRow, EditionRow, RecordRow, RegionRow, RulebookRow, SessionRow, TextRow,
 };
 use std::alloc::Global;
 
@@ -39,18 +38,10 @@ impl TableRow for ClerkRow {
     }
 }
 
-impl TableRow for SchemaRow {
-    ghost format_in = { λ _. schema };
+impl TableRow for TextRow {
+    ghost format_in = { λ _. text_row };
 
-    fn read(alloc: Global, _is_old: bool, body: &[u8]) -> Result<SchemaRow, UnpackFault> {
-        unpack_whole(alloc, body)
-    }
-}
-
-impl TableRow for MasterRow {
-    ghost format_in = { λ _. master };
-
-    fn read(alloc: Global, _is_old: bool, body: &[u8]) -> Result<MasterRow, UnpackFault> {
+    fn read(alloc: Global, _is_old: bool, body: &[u8]) -> Result<TextRow, UnpackFault> {
         unpack_whole(alloc, body)
     }
 }

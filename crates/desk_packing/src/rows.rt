@@ -1,16 +1,16 @@
 //! The rows of the nine tables: the fields of each in their order.
 ghost use Rattle.std.specs.Prelude.{◌≡◌, Some, None, IfOk, IsErrOf};
 ghost use Rattle.desk_packing.specs.Formats.{whole};
-ghost use Rattle.desk_packing.specs.RowFormats.{batch, clerk, committed, edition, master, old_edition, region};
-ghost use Rattle.desk_packing.specs.RowFormats.{region_format, rulebook, schema, session};
+ghost use Rattle.desk_packing.specs.RowFormats.{batch, clerk, committed, edition, old_edition, region, text_row};
+ghost use Rattle.desk_packing.specs.RowFormats.{region_format, rulebook, session};
 
 use crate::error::{FieldFault, UnpackFault};
 use crate::packs::Packs;
 use crate::texts::{pack_bytes, unpack_bytes};
 use desk_base::{List, Shared, Text};
 use desk_words::{
-    Act, BatchRow, ClerkRow, Digest, EditionRow, MasterRow, RecordRow, RegionRow, RulebookRow,
-    SchemaRow, SessionRow, Stage,
+    Act, BatchRow, ClerkRow, Digest, EditionRow, RecordRow, RegionRow, RulebookRow, SessionRow,
+    Stage, TextRow,
 };
 use fix_model::Region;
 use std::alloc::Global;
@@ -43,8 +43,8 @@ impl Packs for ClerkRow {
     }
 }
 
-impl Packs for SchemaRow {
-    ghost format = { schema };
+impl Packs for TextRow {
+    ghost format = { text_row };
 
     fn pack(&self, bytes: &mut Vec<u8>) -> Result<(), FieldFault> {
         self.name.pack(bytes)?;
@@ -52,33 +52,11 @@ impl Packs for SchemaRow {
         pack_bytes(&self.body, bytes)
     }
 
-    fn unpack(alloc: Global, bytes: &[u8]) -> Result<(SchemaRow, &[u8]), UnpackFault> {
+    fn unpack(alloc: Global, bytes: &[u8]) -> Result<(TextRow, &[u8]), UnpackFault> {
         let (name, rest) = Text::unpack(alloc, bytes)?;
         let (version, rest) = u32::unpack(alloc, rest)?;
         let (body, rest) = unpack_bytes(alloc, rest)?;
-        let row = SchemaRow {
-            name,
-            version,
-            body,
-        };
-        Ok((row, rest))
-    }
-}
-
-impl Packs for MasterRow {
-    ghost format = { master };
-
-    fn pack(&self, bytes: &mut Vec<u8>) -> Result<(), FieldFault> {
-        self.name.pack(bytes)?;
-        self.version.pack(bytes)?;
-        pack_bytes(&self.body, bytes)
-    }
-
-    fn unpack(alloc: Global, bytes: &[u8]) -> Result<(MasterRow, &[u8]), UnpackFault> {
-        let (name, rest) = Text::unpack(alloc, bytes)?;
-        let (version, rest) = u32::unpack(alloc, rest)?;
-        let (body, rest) = unpack_bytes(alloc, rest)?;
-        let row = MasterRow {
+        let row = TextRow {
             name,
             version,
             body,

@@ -25,29 +25,28 @@ use Rattle.desk_words.specs.declared.rows.act.Act.TheVariants as act
 use Rattle.desk_words.specs.declared.rows.batch.BatchRow.{BatchRow}
 use Rattle.desk_words.specs.declared.rows.clerk.ClerkRow.{ClerkRow}
 use Rattle.desk_words.specs.declared.rows.edition.EditionRow.{EditionRow}
-use Rattle.desk_words.specs.declared.rows.master.MasterRow.{MasterRow}
 use Rattle.desk_words.specs.declared.rows.record.RecordRow.{RecordRow}
 use Rattle.desk_words.specs.declared.rows.region.RegionRow.{RegionRow}
 use Rattle.desk_words.specs.declared.rows.rulebook.RulebookRow.{RulebookRow}
-use Rattle.desk_words.specs.declared.rows.schema.SchemaRow.{SchemaRow}
 use Rattle.desk_words.specs.declared.rows.session.SessionRow.{SessionRow}
 use Rattle.desk_words.specs.declared.rows.session.Stage.{Stage}
 use Rattle.desk_words.specs.declared.rows.session.Stage.TheVariants as stage
+use Rattle.desk_words.specs.declared.rows.text.TextRow.{TextRow}
 use Rattle.desk_words.specs.Changes.{changed_all}
 use Rattle.desk_words.specs.Tables.{AreTables, IsShort, Rows, empty_rows}
 use Rattle.desk_words.specs.Words.{act_word, stage_word}
 use Rattle.desk_dump.specs.Dumps.{dump_of, first_line, last_line, lines_from, lines_of, lists_from, row_line}
 use Rattle.desk_dump.specs.Dumps.{rows_lines, text_of}
-use Rattle.desk_dump.specs.Fields.{batch_fields, body_shown, clerk_fields, edition_fields, flags_shown, master_fields}
-use Rattle.desk_dump.specs.Fields.{numbers_shown, record_fields, region_fields, rulebook_fields, schema_fields}
+use Rattle.desk_dump.specs.Fields.{batch_fields, body_shown, clerk_fields, edition_fields, flags_shown, text_fields}
+use Rattle.desk_dump.specs.Fields.{numbers_shown, record_fields, region_fields, rulebook_fields}
 use Rattle.desk_dump.specs.Fields.{session_fields, texts_shown}
 use Rattle.desk_restore.specs.Changes.{changes_of, put_from, put_lists}
 use Rattle.desk_restore.specs.Parts.{act_in, body_in, byte_in, digest_in, digest_of, number_in, short_in}
 use Rattle.desk_restore.specs.Parts.{stage_in, whole_in}
-use Rattle.desk_restore.specs.Ranges.{AreBytes, AreInRange, AreTexts, IsBatch, IsByte, IsClerk, IsEdition, IsMaster}
-use Rattle.desk_restore.specs.Ranges.{IsNumber, IsRecord, IsRegion, IsRulebook, IsSchema, IsSession, IsShortNumber}
+use Rattle.desk_restore.specs.Ranges.{AreBytes, AreInRange, AreTexts, IsBatch, IsByte, IsClerk, IsEdition, IsTextRow}
+use Rattle.desk_restore.specs.Ranges.{IsNumber, IsRecord, IsRegion, IsRulebook, IsSession, IsShortNumber}
 use Rattle.desk_restore.specs.Ranges.{IsText}
-use Rattle.desk_restore.specs.Reading.{changes_in, line_changes, lines_in, told_by, told_changes, told_in}
+use Rattle.desk_restore.specs.Reading.{changes_in, line_changes, lines_in, text_row_in, told_by, told_changes, told_in}
 use Rattle.desk_restore.proofs.PlainValues.{ArePlain, IsPlain, IsUtf8-compact_text, inline-compact_text}
 use Rattle.desk_restore.proofs.PlainValues.{read-compact_text, split-line}
 use Rattle.desk_restore.proofs.Puts.{Puts-changes_of, each-short}
@@ -256,43 +255,37 @@ clerk-line place row below is = line-of (values_of (codes "clerk") (place ∷ []
       whole-in row.target (2 ^ 32) is.target,
     ) refl)
 
+-- a line of a schema or of a master is plain, and its row is read back
+text_row-plain : (kind : List ℕ) (place : ℕ) (row : TextRow) → are_ascii kind ≡ true → place < 2 ^ 32 → IsTextRow row
+    → ArePlain (items_of (values_of kind (place ∷ []) (text_fields row))) 2
+text_row-plain kind place row are below is = (
+  ascii kind are,
+  (
+    omega (arith, below),
+    (
+      is.name.1,
+      (omega (arith, is.version), (plain-body row.body is.body, tt)),
+    ),
+  ),
+)
+
+text_row-told : (place : ℕ) (row : TextRow) → IsTextRow row → text_row_in (whole place ∷ text_fields row) ≡ Some row
+text_row-told place row is =
+    rw (text-in row.name is.name, whole-in row.version (2 ^ 32) is.version, body-in row.body is.body) refl
+
 -- a schema
-schema-line : (place : ℕ) (row : SchemaRow) → place < 2 ^ 32 → IsSchema row
-    → IsLineOf (row_line (codes "schema") (place ∷ []) (schema_fields row)) (change.Schema row ∷ [])
-schema-line place row below is = line-of (values_of (codes "schema") (place ∷ []) (schema_fields row))
-    (Some (change.Schema row)) (
-      ascii (codes "schema") refl,
-      (
-        omega (arith, below),
-        (
-          is.name.1,
-          (
-            omega (arith, is.version),
-            (plain-body row.body is.body, tt),
-          ),
-        ),
-      ),
-    )
-    (rw (text-in row.name is.name, whole-in row.version (2 ^ 32) is.version, body-in row.body is.body) refl)
+schema-line : (place : ℕ) (row : TextRow) → place < 2 ^ 32 → IsTextRow row
+    → IsLineOf (row_line (codes "schema") (place ∷ []) (text_fields row)) (change.Schema row ∷ [])
+schema-line place row below is = line-of (values_of (codes "schema") (place ∷ []) (text_fields row))
+    (Some (change.Schema row)) (text_row-plain (codes "schema") place row refl below is)
+    (ap (option_map (λ one. Some (change.Schema one))) (text_row-told place row is))
 
 -- a master
-master-line : (place : ℕ) (row : MasterRow) → place < 2 ^ 32 → IsMaster row
-    → IsLineOf (row_line (codes "master") (place ∷ []) (master_fields row)) (change.Master row ∷ [])
-master-line place row below is = line-of (values_of (codes "master") (place ∷ []) (master_fields row))
-    (Some (change.Master row)) (
-      ascii (codes "master") refl,
-      (
-        omega (arith, below),
-        (
-          is.name.1,
-          (
-            omega (arith, is.version),
-            (plain-body row.body is.body, tt),
-          ),
-        ),
-      ),
-    )
-    (rw (text-in row.name is.name, whole-in row.version (2 ^ 32) is.version, body-in row.body is.body) refl)
+master-line : (place : ℕ) (row : TextRow) → place < 2 ^ 32 → IsTextRow row
+    → IsLineOf (row_line (codes "master") (place ∷ []) (text_fields row)) (change.Master row ∷ [])
+master-line place row below is = line-of (values_of (codes "master") (place ∷ []) (text_fields row))
+    (Some (change.Master row)) (text_row-plain (codes "master") place row refl below is)
+    (ap (option_map (λ one. Some (change.Master one))) (text_row-told place row is))
 
 -- a rulebook
 rulebook-line : (place : ℕ) (row : RulebookRow) → place < 2 ^ 32 → IsRulebook row
@@ -553,14 +546,14 @@ module _ (rows : Rows) (tables : AreTables rows) (are : AreInRange rows) where
   clerk-lines = rows-lines (codes "clerk") clerk_fields IsClerk [] change.Clerk clerk-line 0 rows.clerks
       (omega (arith, tables.clerks)) are.clerks
 
-  schema-lines : AreLinesOf (lines_from (codes "schema") schema_fields [] 0 rows.schemas)
+  schema-lines : AreLinesOf (lines_from (codes "schema") text_fields [] 0 rows.schemas)
       (put_from (λ place row. change.Schema row) 0 rows.schemas)
-  schema-lines = rows-lines (codes "schema") schema_fields IsSchema [] (λ place row. change.Schema row) schema-line 0
+  schema-lines = rows-lines (codes "schema") text_fields IsTextRow [] (λ place row. change.Schema row) schema-line 0
       rows.schemas (omega (arith, tables.schemas)) are.schemas
 
-  master-lines : AreLinesOf (lines_from (codes "master") master_fields [] 0 rows.masters)
+  master-lines : AreLinesOf (lines_from (codes "master") text_fields [] 0 rows.masters)
       (put_from (λ place row. change.Master row) 0 rows.masters)
-  master-lines = rows-lines (codes "master") master_fields IsMaster [] (λ place row. change.Master row) master-line 0
+  master-lines = rows-lines (codes "master") text_fields IsTextRow [] (λ place row. change.Master row) master-line 0
       rows.masters (omega (arith, tables.masters)) are.masters
 
   rulebook-lines : AreLinesOf (lines_from (codes "rulebook") rulebook_fields [] 0 rows.rulebooks)
@@ -605,8 +598,8 @@ module _ (rows : Rows) (tables : AreTables rows) (are : AreInRange rows) where
   few-lines : length (lines_of rows) < 2 ^ 64
   few-lines =
       let clerks = lines_from (codes "clerk") clerk_fields [] 0 rows.clerks in
-      let schemas = lines_from (codes "schema") schema_fields [] 0 rows.schemas in
-      let masters = lines_from (codes "master") master_fields [] 0 rows.masters in
+      let schemas = lines_from (codes "schema") text_fields [] 0 rows.schemas in
+      let masters = lines_from (codes "master") text_fields [] 0 rows.masters in
       let rulebooks = lines_from (codes "rulebook") rulebook_fields [] 0 rows.rulebooks in
       let editions = lines_from (codes "edition") edition_fields [] 0 rows.editions in
       let regions = lines_from (codes "region") region_fields [] 0 rows.regions in
@@ -624,8 +617,8 @@ module _ (rows : Rows) (tables : AreTables rows) (are : AreInRange rows) where
         length-append (clerks ++ schemas) masters,
         length-append clerks schemas,
         length-lines_from (codes "clerk") clerk_fields [] 0 rows.clerks,
-        length-lines_from (codes "schema") schema_fields [] 0 rows.schemas,
-        length-lines_from (codes "master") master_fields [] 0 rows.masters,
+        length-lines_from (codes "schema") text_fields [] 0 rows.schemas,
+        length-lines_from (codes "master") text_fields [] 0 rows.masters,
         length-lines_from (codes "rulebook") rulebook_fields [] 0 rows.rulebooks,
         length-lines_from (codes "edition") edition_fields [] 0 rows.editions,
         length-lines_from (codes "region") region_fields [] 0 rows.regions,

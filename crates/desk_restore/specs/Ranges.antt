@@ -5,12 +5,11 @@ use Rattle.desk_base.specs.declared.limits.TheConstants.{MAX_TEXT}
 use Rattle.desk_words.specs.declared.rows.batch.BatchRow.{BatchRow}
 use Rattle.desk_words.specs.declared.rows.clerk.ClerkRow.{ClerkRow}
 use Rattle.desk_words.specs.declared.rows.edition.EditionRow.{EditionRow}
-use Rattle.desk_words.specs.declared.rows.master.MasterRow.{MasterRow}
 use Rattle.desk_words.specs.declared.rows.record.RecordRow.{RecordRow}
 use Rattle.desk_words.specs.declared.rows.region.RegionRow.{RegionRow}
 use Rattle.desk_words.specs.declared.rows.rulebook.RulebookRow.{RulebookRow}
-use Rattle.desk_words.specs.declared.rows.schema.SchemaRow.{SchemaRow}
 use Rattle.desk_words.specs.declared.rows.session.SessionRow.{SessionRow}
+use Rattle.desk_words.specs.declared.rows.text.TextRow.{TextRow}
 use Rattle.desk_words.specs.Tables.{Rows}
 
 -- numbers of 8, 16, 32 and 64 bits
@@ -46,12 +45,7 @@ pub record IsClerk (row : ClerkRow) : Type 0 where
   pub count : length row.digest.bytes ≡ 32
   pub target : IsNumber row.target
 
-pub record IsSchema (row : SchemaRow) : Type 0 where
-  pub name : IsText row.name
-  pub version : IsNumber row.version
-  pub body : AreBytes row.body
-
-pub record IsMaster (row : MasterRow) : Type 0 where
+pub record IsTextRow (row : TextRow) : Type 0 where
   pub name : IsText row.name
   pub version : IsNumber row.version
   pub body : AreBytes row.body
@@ -91,8 +85,8 @@ pub record IsBatch (row : BatchRow) : Type 0 where
 -- all rows
 pub record AreInRange (rows : Rows) : Type 0 where
   pub clerks : AllByRecursion IsClerk rows.clerks
-  pub schemas : AllByRecursion IsSchema rows.schemas
-  pub masters : AllByRecursion IsMaster rows.masters
+  pub schemas : AllByRecursion IsTextRow rows.schemas
+  pub masters : AllByRecursion IsTextRow rows.masters
   pub rulebooks : AllByRecursion IsRulebook rows.rulebooks
   pub editions : AllByRecursion IsEdition rows.editions
   pub regions : AllByRecursion IsRegion rows.regions

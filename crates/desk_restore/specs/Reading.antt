@@ -7,6 +7,7 @@ use Rattle.serde_json.specs.Find.{as_bool, as_str}
 use Rattle.json_parts.specs.Parts.{◌>>=◌, items_in, json_of, list_in, text_in, texts_in}
 use Rattle.desk_words.specs.declared.change.Change.{Change}
 use Rattle.desk_words.specs.declared.change.Change.TheVariants as change
+use Rattle.desk_words.specs.declared.rows.text.TextRow.{TextRow}
 use Rattle.desk_restore.specs.Parts.{act_in, body_in, digest_in, long_in, number_in, short_in, stage_in}
 
 -- a caller at a place
@@ -21,23 +22,14 @@ clerk_in (place ∷ name ∷ last ∷ digest ∷ deed ∷ target ∷ []) = do
   Some (change.Clerk at (record { name = text; last = number; digest = sent; act = did; target = goal }))
 clerk_in values = None
 
--- a schema
-abbrev pub schema_in : List Data → Option Change
-schema_in (place ∷ name ∷ version ∷ body ∷ []) = do
+-- a schema or a master
+abbrev pub text_row_in : List Data → Option TextRow
+text_row_in (place ∷ name ∷ version ∷ body ∷ []) = do
   text ← text_in name
   number ← number_in version
   bytes ← body_in body
-  Some (change.Schema (record { name = text; version = number; body = bytes }))
-schema_in values = None
-
--- a master
-abbrev pub master_in : List Data → Option Change
-master_in (place ∷ name ∷ version ∷ body ∷ []) = do
-  text ← text_in name
-  number ← number_in version
-  bytes ← body_in body
-  Some (change.Master (record { name = text; version = number; body = bytes }))
-master_in values = None
+  Some (record { name = text; version = number; body = bytes })
+text_row_in values = None
 
 -- a rulebook
 abbrev pub rulebook_in : List Data → Option Change
@@ -119,8 +111,8 @@ abbrev pub told_of : List ℕ → List Data → Option (Option Change)
 told_of kind values =
     if bytes_eq kind (codes "fixdesk") then Some None
     else if bytes_eq kind (codes "clerk") then option_map Some (clerk_in values)
-    else if bytes_eq kind (codes "schema") then option_map Some (schema_in values)
-    else if bytes_eq kind (codes "master") then option_map Some (master_in values)
+    else if bytes_eq kind (codes "schema") then option_map (λ row. Some (change.Schema row)) (text_row_in values)
+    else if bytes_eq kind (codes "master") then option_map (λ row. Some (change.Master row)) (text_row_in values)
     else if bytes_eq kind (codes "rulebook") then option_map Some (rulebook_in values)
     else if bytes_eq kind (codes "edition") then option_map Some (edition_in values)
     else if bytes_eq kind (codes "region") then option_map Some (region_in values)

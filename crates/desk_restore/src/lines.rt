@@ -4,7 +4,7 @@ ghost use Rattle.desk_base.specs.Texts.{bytes_of};
 ghost use Rattle.serde_json.specs.View.{view};
 ghost use Rattle.desk_restore.specs.Reading.{lines_in, told_by, told_in, told_of};
 
-use crate::rows::{batch, clerk, edition, master, record_of, region, rulebook, schema, session};
+use crate::rows::{batch, clerk, edition, record_of, region, rulebook, session, text_row};
 use desk_words::Change;
 use json_parts::{PartFault, items, json_of};
 use serde_json::Value;
@@ -50,8 +50,8 @@ fn told_of(alloc: Global, kind: &str, values: &[Value]) -> Result<Option<Change>
     match kind {
         "fixdesk" => Ok(None),
         "clerk" => Ok(Some(clerk(alloc, values)?)),
-        "schema" => Ok(Some(schema(alloc, values)?)),
-        "master" => Ok(Some(master(alloc, values)?)),
+        "schema" => Ok(Some(Change::Schema(text_row(alloc, values)?))),
+        "master" => Ok(Some(Change::Master(text_row(alloc, values)?))),
         "rulebook" => Ok(Some(rulebook(alloc, values)?)),
         "edition" => Ok(Some(edition(alloc, values)?)),
         "region" => Ok(Some(region(alloc, values)?)),

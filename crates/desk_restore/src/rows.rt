@@ -1,14 +1,14 @@
 //! The changes that the lines of rows tell, one kind of row a function.
 ghost use Rattle.std.specs.Prelude.{◌≡◌, map, Some, None, IfOk, IsErrOf};
 ghost use Rattle.serde_json.specs.View.{view};
-ghost use Rattle.desk_restore.specs.Reading.{batch_in, clerk_in, edition_in, master_in, record_in, region_in};
-ghost use Rattle.desk_restore.specs.Reading.{rulebook_in, schema_in, session_in};
+ghost use Rattle.desk_restore.specs.Reading.{batch_in, clerk_in, edition_in, record_in, region_in, rulebook_in};
+ghost use Rattle.desk_restore.specs.Reading.{session_in, text_row_in};
 
 use crate::parts::{InDump, body};
 use desk_base::{List, Shared, Text};
 use desk_words::{
-    Act, BatchRow, Change, ClerkRow, Digest, EditionRow, MasterRow, RecordRow, RegionRow,
-    RulebookRow, SchemaRow, SessionRow, Stage,
+    Act, BatchRow, Change, ClerkRow, Digest, EditionRow, RecordRow, RegionRow, RulebookRow,
+    SessionRow, Stage, TextRow,
 };
 use fix_model::Region;
 use json_parts::{Part, PartFault};
@@ -41,10 +41,10 @@ pub fn clerk(alloc: Global, values: &[Value]) -> Result<Change, PartFault>
     ))
 }
 
-/// A schema.
-pub fn schema(alloc: Global, values: &[Value]) -> Result<Change, PartFault>
-    ensures change { IfOk result (λ change. schema_in (map view values.now) ≡ Some change) }
-    ensures none { IsErrOf result PartFault.WrongForm → schema_in (map view values.now) ≡ None }
+/// A schema or a master.
+pub fn text_row(alloc: Global, values: &[Value]) -> Result<TextRow, PartFault>
+    ensures row { IfOk result (λ row. text_row_in (map view values.now) ≡ Some row) }
+    ensures none { IsErrOf result PartFault.WrongForm → text_row_in (map view values.now) ≡ None }
 {
     let [_, name, version, text] = values else {
         return Err(PartFault::WrongForm);
@@ -52,29 +52,11 @@ pub fn schema(alloc: Global, values: &[Value]) -> Result<Change, PartFault>
     let name = Text::read(alloc, &InDump, name)?;
     let version = u32::read(alloc, &InDump, version)?;
     let body = body(alloc, text)?;
-    Ok(Change::Schema(SchemaRow {
+    Ok(TextRow {
         name,
         version,
         body,
-    }))
-}
-
-/// A master.
-pub fn master(alloc: Global, values: &[Value]) -> Result<Change, PartFault>
-    ensures change { IfOk result (λ change. master_in (map view values.now) ≡ Some change) }
-    ensures none { IsErrOf result PartFault.WrongForm → master_in (map view values.now) ≡ None }
-{
-    let [_, name, version, text] = values else {
-        return Err(PartFault::WrongForm);
-    };
-    let name = Text::read(alloc, &InDump, name)?;
-    let version = u32::read(alloc, &InDump, version)?;
-    let body = body(alloc, text)?;
-    Ok(Change::Master(MasterRow {
-        name,
-        version,
-        body,
-    }))
+    })
 }
 
 /// A rulebook.

@@ -16,7 +16,7 @@ use Rattle.master_rows.proofs.Outlines.{outlined-fault, outlined-master}
 use Rattle.desk_words.specs.declared.change.Change.{Change}
 use Rattle.desk_words.specs.declared.change.Change.TheVariants.{Clerk, Schema, Master as MasterChange, Rulebook}
 use Rattle.desk_words.specs.declared.change.Change.TheVariants.{Edition, Region, Session, Record, Batch}
-use Rattle.desk_words.specs.declared.rows.master.MasterRow.{MasterRow}
+use Rattle.desk_words.specs.declared.rows.text.TextRow.{TextRow}
 use Rattle.desk_words.specs.Changes.{changed, changed_all}
 use Rattle.desk_words.specs.Tables.{Rows}
 use Rattle.desk_valid.specs.Readings.{read}
@@ -37,16 +37,16 @@ cells_read-few name (Ok master) sound =
 cells_read-few name (Err fault) sound = omega arith
 
 -- so a row has at most 960,000 cells
-pub cells_in-few : (row : MasterRow) → cells_in row ≤ 960000
+pub cells_in-few : (row : TextRow) → cells_in row ≤ 960000
 cells_in-few row = cells_read-few row.name (read_sheet row.body) (λ master is. IsMaster-read_sheet _ row.body master is)
 
 -- and all rows have that many each at most
-pub master_cells-le : (masters : List MasterRow) → master_cells masters ≤ length masters * 960000
+pub master_cells-le : (masters : List TextRow) → master_cells masters ≤ length masters * 960000
 master_cells-le masters =
     sum_by-le cells_in 960000 masters (λ place default within. cells_in-few (get_or masters place default))
 
 -- the cells of the master that a body reads as are those of its outline
-pub cells_in-outline : (row : MasterRow) (outline : Outline) → read_outline row.body ≡ Ok outline
+pub cells_in-outline : (row : TextRow) (outline : Outline) → read_outline row.body ≡ Ok outline
     → length outline.columns * outline.rows ≡ cells_in row
 cells_in-outline row outline is =
     let (master, reads, outlined) = outlined-master (read_sheet row.body) outline is in
@@ -54,7 +54,7 @@ cells_in-outline row outline is =
     ∙ ap (λ (given : Result Master SheetFault). cells_read row.name given) (sym reads)
 
 -- a body that reads as none has no cells
-pub cells_in-fault : (row : MasterRow) (fault : SheetFault) → read_outline row.body ≡ Err fault → 0 ≡ cells_in row
+pub cells_in-fault : (row : TextRow) (fault : SheetFault) → read_outline row.body ≡ Err fault → 0 ≡ cells_in row
 cells_in-fault row fault is =
     ap (λ (given : Result Master SheetFault). cells_read row.name given)
     (sym (outlined-fault (read_sheet row.body) fault is))

@@ -5,12 +5,12 @@ ghost use Rattle.desk_valid.specs.Tallies.{cells_in, master_cells};
 ghost use Rattle.desk_totals.specs.Totals.{new_cells};
 
 use desk_base::NoMemory;
-use desk_words::{Change, MasterRow};
+use desk_words::{Change, TextRow};
 use master_rows::{Master, SheetFault};
 use std::alloc::Global;
 
 /// The cells of the master in a row.
-fn cells_in(alloc: Global, row: &MasterRow) -> Result<u64, NoMemory>
+fn cells_in(alloc: Global, row: &TextRow) -> Result<u64, NoMemory>
     ensures { IfOk result (λ cells. cells ≡ cells_in row.now) }
 {
     match Master::outline(alloc, row.body.as_slice()) {
@@ -21,7 +21,7 @@ fn cells_in(alloc: Global, row: &MasterRow) -> Result<u64, NoMemory>
 }
 
 /// The cells of all masters.
-pub(crate) fn master_cells(alloc: Global, masters: &[MasterRow]) -> Result<u64, NoMemory>
+pub(crate) fn master_cells(alloc: Global, masters: &[TextRow]) -> Result<u64, NoMemory>
     requires { IsShort masters.now }
     ensures { IfOk result (λ cells. cells ≡ master_cells masters.now) }
 {

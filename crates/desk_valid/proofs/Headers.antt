@@ -2,7 +2,7 @@
 use Rattle.std.proofs.Common.{◌≡◌, ◌≤◌, ◌∙◌, List, [], ℕ, ap, length, refl, sym}
 use Rattle.std.specs.Prelude.{Some, None, Result, Ok, Err, option_map}
 use Rattle.desk_base.specs.declared.limits.TheConstants.{MAX_COLUMNS}
-use Rattle.desk_words.specs.declared.rows.master.MasterRow.{MasterRow}
+use Rattle.desk_words.specs.declared.rows.text.TextRow.{TextRow}
 use Rattle.master_rows.specs.Outline.{outline_of, read_outline}
 use Rattle.master_rows.specs.Sheet.{read_sheet}
 use Rattle.master_rows.specs.declared.error.SheetFault.{SheetFault}
@@ -31,7 +31,7 @@ header_over-outline master width = ap (λ (columns : ℕ). let header : Header =
 } in header) (sym width)
 
 -- and is the header of the row
-pub header_in-outline : (row : MasterRow) (outline : Outline) → read_outline row.body ≡ Ok outline
+pub header_in-outline : (row : TextRow) (outline : Outline) → read_outline row.body ≡ Ok outline
     → Some (header_over outline) ≡ header_in row
 header_in-outline row outline is =
     let (master, reads, outlined) = outlined-master (read_sheet row.body) outline is in
@@ -41,6 +41,6 @@ header_in-outline row outline is =
     ∙ ap (λ (given : Result Master SheetFault). option_map header_of (read given)) (sym reads)
 
 -- a body without an outline has no header
-pub header_in-fault : (row : MasterRow) (fault : SheetFault) → read_outline row.body ≡ Err fault
+pub header_in-fault : (row : TextRow) (fault : SheetFault) → read_outline row.body ≡ Err fault
     → None ≡ header_in row
 header_in-fault row fault is = rw (outlined-fault (read_sheet row.body) fault is) refl

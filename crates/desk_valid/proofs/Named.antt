@@ -17,7 +17,7 @@ use Rattle.rule_text.specs.Rulebooks.{IsRulebook}
 use Rattle.rule_text.proofs.Sound.{IsRulebook-from_text}
 pub use Rattle.desk_base.proofs.Options.{option_map-Some}
 use Rattle.desk_words.specs.declared.rows.edition.EditionRow.{EditionRow}
-use Rattle.desk_words.specs.declared.rows.master.MasterRow.{MasterRow}
+use Rattle.desk_words.specs.declared.rows.text.TextRow.{TextRow}
 use Rattle.desk_words.specs.Tables.{Published}
 use Rattle.desk_valid.specs.declared.bare.Bare.{Bare}
 use Rattle.desk_valid.specs.declared.reading.Header.{Header}
@@ -77,14 +77,14 @@ all_of-get_or (Some first ∷ rest) values place d is within =
     ] below) place within
 
 -- the master of a row that has a header
-pub master_in-header : (row : MasterRow) (header : Header) → header_in row ≡ Some header
+pub master_in-header : (row : TextRow) (header : Header) → header_in row ≡ Some header
     → (master : Master) × (master_in row ≡ Some (row.name, master)) × (header_of master ≡ header)
 master_in-header row header is =
     let (master, reads, made) = option_map-Some header_of (read (read_sheet row.body)) header is in
     (master, ap (λ (found : Option Master). option_map (λ one. (row.name, one)) found) reads, made)
 
 -- one master more
-pub bare_at-push : (rows : Published) (places : List ℕ) (bare : Bare) (place : ℕ) (row : MasterRow) (header : Header)
+pub bare_at-push : (rows : Published) (places : List ℕ) (bare : Bare) (place : ℕ) (row : TextRow) (header : Header)
     → bare_at rows places ≡ Some bare
     → slice_get rows.masters place ≡ Some row → header_at rows place ≡ Some header
     → bare_at rows (places ++ place ∷ []) ≡ Some (with_master bare row.name header)
@@ -144,12 +144,12 @@ rules_at-sound rows place rules is =
     )))
 
 -- two masters have the same name
-pub same-names : (rows : Published) (one other : ℕ) (first second : MasterRow) (test : Bool)
+pub same-names : (rows : Published) (one other : ℕ) (first second : TextRow) (test : Bool)
     → slice_get rows.masters one ≡ Some first
     → slice_get rows.masters other ≡ Some second → (IsTrue test ↔ (first.name ≡ second.name))
     → (IsTrue test ↔ (name_at rows one ≡ name_at rows other))
 same-names rows one other first second test here there decides =
-    let name : Option MasterRow → Option (List ℕ) = λ found. option_map (λ master. master.name) found in
+    let name : Option TextRow → Option (List ℕ) = λ found. option_map (λ master. master.name) found in
     let left : name_at rows one ≡ Some first.name = ap name here in
     let right : name_at rows other ≡ Some second.name = ap name there in (
       λ yes. left ∙ ap Some (decides.0 yes) ∙ sym right,
@@ -165,7 +165,7 @@ master_at-sound rows place master is =
     let named : Master → List ℕ × Master = λ one. (row.name, one) in
     let (found, reading, named_is) = option_map-Some named (read (read_sheet row.body)) master reads in
     let Sound : List ℕ × Master → Type 0 = λ one. IsMaster one.1 × (name_at rows place ≡ Some one.0) in
-    let name : Option MasterRow → Option (List ℕ) = λ found. option_map (λ one. one.name) found in
+    let name : Option TextRow → Option (List ℕ) = λ found. option_map (λ one. one.name) found in
     subst Sound named_is (
       IsMaster-read_sheet _ row.body found (Ok-from_read (read_sheet row.body) found reading),
       ap

@@ -3,9 +3,8 @@ use Rattle.std.proofs.Common.{◌≡◌, ℕ, List, map, Option, Some, None, sym
 use Rattle.std.specs.Prelude.{is_some, option_map, option_and_then, slice_get, Result, Ok, Err}
 use Rattle.std.proofs.lemmas.Option.{option_and_then_some, slice_get-map}
 use Rattle.desk_base.proofs.Options.{None-from_is_some}
-use Rattle.desk_words.specs.declared.rows.master.MasterRow.{MasterRow}
 use Rattle.desk_words.specs.declared.rows.rulebook.RulebookRow.{RulebookRow}
-use Rattle.desk_words.specs.declared.rows.schema.SchemaRow.{SchemaRow}
+use Rattle.desk_words.specs.declared.rows.text.TextRow.{TextRow}
 use Rattle.desk_words.specs.Tables.{Published}
 use Rattle.master_rows.specs.declared.master.Master.{Master}
 use Rattle.master_rows.specs.Sheet.{read_sheet}
@@ -33,7 +32,7 @@ found_at-map f rows place =
     found) [ None ↦ refl | Some row ↦ refl ]
 
 -- what is read of a row is a schema
-pub IsSchema-read : (row : SchemaRow) (schema : Schema) → schema_in row ≡ Some schema → IsSchema schema
+pub IsSchema-read : (row : TextRow) (schema : Schema) → schema_in row ≡ Some schema → IsSchema schema
 IsSchema-read row schema is = IsSchema-from_bytes row.body schema (Ok-from_read (schema_of row.body) schema is)
 
 -- so is the schema at a place
@@ -58,7 +57,7 @@ pub rules_in-read : (rows : Published) (row : RulebookRow) (schema : Schema) (fo
 rules_in-read rows row schema found is reads = rw (is, reads) refl
 
 -- a master reads where its header does
-is_some-header_in : (row : MasterRow) → is_some (header_in row) ≡ is_some (master_in row)
+is_some-header_in : (row : TextRow) → is_some (header_in row) ≡ is_some (master_in row)
 is_some-header_in row =
     let named : Option Master → Option (List ℕ × Master) = λ found. option_map (λ master. (row.name, master)) found in
     elim (read (read_sheet row.body)) as (λ found. is_some (option_map header_of found) ≡ is_some (named found))

@@ -1,6 +1,6 @@
 -- Tables whose published bodies were read, each once.
 use Rattle.std.specs.Prelude.{◌≡◌, ℕ, List, [], map, length, Option, option_map, option_and_then, slice_get}
-use Rattle.desk_words.specs.declared.rows.master.MasterRow.{MasterRow}
+use Rattle.desk_words.specs.declared.rows.text.TextRow.{TextRow}
 use Rattle.desk_words.specs.Tables.{Published, Rows, published_of, rows_of}
 use Rattle.master_rows.specs.declared.master.Master.{Master}
 use Rattle.master_rows.specs.declared.outline.Outline.{Outline}
@@ -25,7 +25,7 @@ header_over outline = record {
 }
 
 -- the header of the master of a row
-abbrev pub header_in : MasterRow → Option Header
+abbrev pub header_in : TextRow → Option Header
 header_in row = option_map header_of (read (read_sheet row.body))
 
 -- the header of the master at a place

@@ -1,9 +1,8 @@
 -- What published bodies read as, where they read.
 use Rattle.std.specs.Prelude.{ℕ, List, ◌∷◌, [], length, Option, Some, None, option_map, option_and_then, slice_get}
 use Rattle.std.specs.Prelude.{Result, Ok, Err}
-use Rattle.desk_words.specs.declared.rows.master.MasterRow.{MasterRow}
 use Rattle.desk_words.specs.declared.rows.rulebook.RulebookRow.{RulebookRow}
-use Rattle.desk_words.specs.declared.rows.schema.SchemaRow.{SchemaRow}
+use Rattle.desk_words.specs.declared.rows.text.TextRow.{TextRow}
 use Rattle.desk_words.specs.Tables.{Published}
 use Rattle.master_rows.specs.declared.master.Master.{Master}
 use Rattle.master_rows.specs.Sheet.{read_sheet}
@@ -18,7 +17,7 @@ read (Ok value) = Some value
 read (Err fault) = None
 
 -- the schema of a row
-abbrev pub schema_in : SchemaRow → Option Schema
+abbrev pub schema_in : TextRow → Option Schema
 schema_in row = read (schema_of row.body)
 
 -- the schema at a place
@@ -26,7 +25,7 @@ abbrev pub schema_at : Published → ℕ → Option Schema
 schema_at published place = option_and_then schema_in (slice_get published.schemas place)
 
 -- the master of a row, under its name
-abbrev pub master_in : MasterRow → Option (List ℕ × Master)
+abbrev pub master_in : TextRow → Option (List ℕ × Master)
 master_in row = option_map (λ master. (row.name, master)) (read (read_sheet row.body))
 
 -- the master at a place, under its name

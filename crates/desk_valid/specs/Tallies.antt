@@ -1,11 +1,11 @@
 -- What the limits count of a clerk, and of masters.
 use Rattle.std.specs.Prelude.{ℕ, ◌+◌, ◌*◌, Bool, true, false, List, length, count_by, sum_by}
 use Rattle.std.specs.Option.{option_map_or}
-use Rattle.desk_words.specs.declared.rows.master.MasterRow.{MasterRow}
 use Rattle.desk_words.specs.declared.rows.record.RecordRow.{RecordRow}
 use Rattle.desk_words.specs.declared.rows.session.SessionRow.{SessionRow}
 use Rattle.desk_words.specs.declared.rows.session.Stage.{Stage}
 use Rattle.desk_words.specs.declared.rows.session.Stage.TheVariants.{Active, Committed, Abandoned}
+use Rattle.desk_words.specs.declared.rows.text.TextRow.{TextRow}
 use Rattle.master_rows.specs.declared.master.Master.{Master}
 use Rattle.desk_valid.specs.Readings.{master_in}
 
@@ -40,9 +40,9 @@ abbrev pub cell_count : Master → ℕ
 cell_count master = length master.columns * length master.grid.rows
 
 -- the cells of the master in a row
-abbrev pub cells_in : MasterRow → ℕ
+abbrev pub cells_in : TextRow → ℕ
 cells_in row = option_map_or (λ master. cell_count master.1) (master_in row) 0
 
 -- the cells of all masters
-abbrev pub master_cells : List MasterRow → ℕ
+abbrev pub master_cells : List TextRow → ℕ
 master_cells masters = sum_by cells_in masters

@@ -18,7 +18,7 @@ use crate::read_tables::ReadTables;
 use crate::reading::Rules;
 use crate::versions::is_version;
 use desk_base::{MAX_EDITIONS, MAX_ENTRIES, MAX_MASTERS, NoMemory};
-use desk_words::{EditionRow, MasterRow, Tables};
+use desk_words::{EditionRow, Tables, TextRow};
 use rule_text::{BindFault, bind};
 use std::alloc::Global;
 
@@ -113,7 +113,7 @@ fn are_same_name(tables: &Tables, one: u32, other: u32) -> bool
     has_name_of(one, other)
 }
 
-fn has_name_of(one: &MasterRow, other: &MasterRow) -> bool
+fn has_name_of(one: &TextRow, other: &TextRow) -> bool
     ensures { IsTrue result ↔ (one.now.name ≡ other.now.name) }
 {
     one.name.as_str() == other.name.as_str()

@@ -8,7 +8,7 @@ ghost use Rattle.desk_valid.specs.Rows.Master.{IsMasterRow};
 
 use crate::read_tables::ReadTables;
 use crate::versions::is_version;
-use desk_words::MasterRow;
+use desk_words::TextRow;
 
 /// The first damaged row of the masters.
 pub(crate) fn first_damaged(read: &ReadTables<'_>) -> Option<u64>
@@ -24,7 +24,7 @@ pub(crate) fn first_damaged(read: &ReadTables<'_>) -> Option<u64>
 }
 
 /// Whether the row at this place is the next version of its name, and its body reads.
-fn is_master_row(read: &ReadTables<'_>, place: usize, row: &MasterRow) -> bool
+fn is_master_row(read: &ReadTables<'_>, place: usize, row: &TextRow) -> bool
     requires read { AreRead read.now }
     requires stands { slice_get (published_in read.now).masters place ≡ Some row.now }
     ensures { IsTrue result ↔ IsMasterRow (published_in read.now) place row.now }

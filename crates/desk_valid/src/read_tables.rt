@@ -7,7 +7,7 @@ ghost use Rattle.desk_valid.specs.ReadTables.{AreRead, found_at, header_at, head
 
 use crate::reading::{Header, Rules, header_in, rulebook_in, schema_in};
 use desk_base::{Duplicate, List, NoMemory};
-use desk_words::{MasterRow, RulebookRow, SchemaRow, Tables};
+use desk_words::{RulebookRow, Tables, TextRow};
 use schema_core::Schema;
 use std::alloc::Global;
 
@@ -84,7 +84,7 @@ pub(crate) fn found_at<T>(found: &[Option<T>], place: usize) -> Option<&T>
 }
 
 /// The schemas of all rows.
-fn schemas_in(alloc: Global, rows: &[SchemaRow]) -> Result<List<Option<Schema>>, NoMemory>
+fn schemas_in(alloc: Global, rows: &[TextRow]) -> Result<List<Option<Schema>>, NoMemory>
     ensures { IfOk result (λ schemas. schemas ≡ map schema_in rows.now) }
 {
     let mut schemas = List::new(alloc);
@@ -95,7 +95,7 @@ fn schemas_in(alloc: Global, rows: &[SchemaRow]) -> Result<List<Option<Schema>>,
 }
 
 /// The headers of the masters of all rows.
-fn headers_in(alloc: Global, rows: &[MasterRow]) -> Result<List<Option<Header>>, NoMemory>
+fn headers_in(alloc: Global, rows: &[TextRow]) -> Result<List<Option<Header>>, NoMemory>
     ensures { IfOk result (λ headers. headers ≡ map header_in rows.now) }
 {
     let mut headers = List::new(alloc);

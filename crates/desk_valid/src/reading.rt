@@ -7,7 +7,7 @@ ghost use Rattle.desk_valid.specs.Readings.{read, schema_in};
 ghost use Rattle.desk_valid.specs.ReadTables.{header_in, header_over};
 
 use desk_base::{Grid, MAX_COLUMNS, NoMemory};
-use desk_words::{MasterRow, RulebookRow, SchemaRow};
+use desk_words::{RulebookRow, TextRow};
 use master_rows::{Master, Outline, SheetFault};
 use rule_text::{RuleFault, Rulebook};
 use schema_core::{Schema, SchemaFault};
@@ -29,7 +29,7 @@ pub(crate) struct Header {
 }
 
 /// The schema of a row.
-pub(crate) fn schema_in(alloc: Global, row: &SchemaRow) -> Result<Option<Schema>, NoMemory>
+pub(crate) fn schema_in(alloc: Global, row: &TextRow) -> Result<Option<Schema>, NoMemory>
     ensures { IfOk result (λ found. found ≡ schema_in row.now) }
 {
     match Schema::read(alloc, row.body.as_slice()) {
@@ -40,7 +40,7 @@ pub(crate) fn schema_in(alloc: Global, row: &SchemaRow) -> Result<Option<Schema>
 }
 
 /// The master of a row.
-pub(crate) fn sheet_in(alloc: Global, row: &MasterRow) -> Result<Option<Master>, NoMemory>
+pub(crate) fn sheet_in(alloc: Global, row: &TextRow) -> Result<Option<Master>, NoMemory>
     ensures { IfOk result (λ found. found ≡ read (read_sheet row.now.body)) }
 {
     match Master::read(alloc, row.body.as_slice()) {
@@ -51,7 +51,7 @@ pub(crate) fn sheet_in(alloc: Global, row: &MasterRow) -> Result<Option<Master>,
 }
 
 /// The header of the master of a row, with the number of its rows.
-pub(crate) fn header_in(alloc: Global, row: &MasterRow) -> Result<Option<Header>, NoMemory>
+pub(crate) fn header_in(alloc: Global, row: &TextRow) -> Result<Option<Header>, NoMemory>
     ensures { IfOk result (λ found. found ≡ header_in row.now) }
 {
     match Master::outline(alloc, row.body.as_slice()) {

@@ -7,7 +7,7 @@ ghost use Rattle.desk_valid.specs.Rows.Schema.{IsSchemaRow};
 
 use crate::read_tables::ReadTables;
 use crate::versions::is_version;
-use desk_words::SchemaRow;
+use desk_words::TextRow;
 
 /// The first damaged row of the schemas.
 pub(crate) fn first_damaged(read: &ReadTables<'_>) -> Option<u64>
@@ -23,7 +23,7 @@ pub(crate) fn first_damaged(read: &ReadTables<'_>) -> Option<u64>
 }
 
 /// Whether the row at this place is the next version of its name, which is that of the schema.
-fn is_schema_row(read: &ReadTables<'_>, place: usize, row: &SchemaRow) -> bool
+fn is_schema_row(read: &ReadTables<'_>, place: usize, row: &TextRow) -> bool
     requires read { AreRead read.now }
     requires stands { slice_get (published_in read.now).schemas place ≡ Some row.now }
     ensures { IsTrue result ↔ IsSchemaRow (published_in read.now) place row.now }

@@ -4,7 +4,7 @@ ghost use Rattle.std.specs.Str.{bytes_eq};
 ghost use Rattle.desk_valid.specs.Versions.{IsVersion};
 
 use desk_base::{Text, is_name};
-use desk_words::{EditionRow, MasterRow, RulebookRow, SchemaRow};
+use desk_words::{EditionRow, RulebookRow, TextRow};
 
 /// A row that is published as a version of a name.
 pub trait Versioned {
@@ -21,21 +21,7 @@ pub trait Versioned {
         ensures { result ≡ version_of self.now };
 }
 
-impl Versioned for SchemaRow {
-    ghost name_of = { λ row. row.name };
-
-    ghost version_of = { λ row. row.version };
-
-    fn name(&self) -> &Text {
-        &self.name
-    }
-
-    fn version(&self) -> u32 {
-        self.version
-    }
-}
-
-impl Versioned for MasterRow {
+impl Versioned for TextRow {
     ghost name_of = { λ row. row.name };
 
     ghost version_of = { λ row. row.version };

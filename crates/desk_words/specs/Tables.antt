@@ -5,19 +5,18 @@ use Rattle.desk_words.specs.declared.rows.act.Act.TheVariants.{Nothing}
 use Rattle.desk_words.specs.declared.rows.batch.BatchRow.{BatchRow}
 use Rattle.desk_words.specs.declared.rows.clerk.ClerkRow.{ClerkRow}
 use Rattle.desk_words.specs.declared.rows.edition.EditionRow.{EditionRow}
-use Rattle.desk_words.specs.declared.rows.master.MasterRow.{MasterRow}
 use Rattle.desk_words.specs.declared.rows.record.RecordRow.{RecordRow}
 use Rattle.desk_words.specs.declared.rows.region.RegionRow.{RegionRow}
 use Rattle.desk_words.specs.declared.rows.rulebook.RulebookRow.{RulebookRow}
-use Rattle.desk_words.specs.declared.rows.schema.SchemaRow.{SchemaRow}
 use Rattle.desk_words.specs.declared.rows.session.SessionRow.{SessionRow}
+use Rattle.desk_words.specs.declared.rows.text.TextRow.{TextRow}
 use Rattle.desk_words.specs.declared.tables.Tables.{Tables}
 
 -- the rows of each table; the last three have a list for each row of the clerks
 pub record Rows : Type 0 where
   pub clerks : List ClerkRow
-  pub schemas : List SchemaRow
-  pub masters : List MasterRow
+  pub schemas : List TextRow
+  pub masters : List TextRow
   pub rulebooks : List RulebookRow
   pub editions : List EditionRow
   pub regions : List RegionRow
@@ -27,8 +26,8 @@ pub record Rows : Type 0 where
 
 -- what stewards published, which nothing changes any more
 pub record Published : Type 0 where
-  pub schemas : List SchemaRow
-  pub masters : List MasterRow
+  pub schemas : List TextRow
+  pub masters : List TextRow
   pub rulebooks : List RulebookRow
   pub editions : List EditionRow
   pub regions : List RegionRow

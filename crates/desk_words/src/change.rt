@@ -2,12 +2,11 @@
 use crate::rows::batch::BatchRow;
 use crate::rows::clerk::ClerkRow;
 use crate::rows::edition::EditionRow;
-use crate::rows::master::MasterRow;
 use crate::rows::record::RecordRow;
 use crate::rows::region::RegionRow;
 use crate::rows::rulebook::RulebookRow;
-use crate::rows::schema::SchemaRow;
 use crate::rows::session::SessionRow;
+use crate::rows::text::TextRow;
 use desk_base::{Duplicate, NoMemory};
 
 /// A row that is put into a table. `specs/Changes.antt` says what each change does, and which changes fit.
@@ -17,9 +16,9 @@ pub enum Change {
     /// sessions, records and batches.
     Clerk(u32, ClerkRow),
     /// After the other schemas.
-    Schema(SchemaRow),
+    Schema(TextRow),
     /// After the other masters.
-    Master(MasterRow),
+    Master(TextRow),
     /// After the other rulebooks.
     Rulebook(RulebookRow),
     /// After the other editions.

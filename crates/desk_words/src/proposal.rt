@@ -1,8 +1,4 @@
 //! What a steward would publish.
-ghost use Rattle.std.specs.Prelude.{◌≡◌};
-ghost use Rattle.desk_words.specs.Proposals.{work_of};
-
-use crate::steward_work::StewardWork;
 use desk_base::{List, Str};
 
 /// What would be published, as it is tried before.
@@ -31,38 +27,4 @@ pub enum Proposal {
         masters: List<(Str, u32)>,
         folded: List<Str>,
     },
-}
-
-impl Proposal {
-    /// The work that publishes it.
-    pub fn publish(self) -> StewardWork
-        ensures { result ≡ work_of self }
-    {
-        match self {
-            Proposal::Schema { body } => StewardWork::AddSchema { body },
-            Proposal::Master { name, body } => StewardWork::AddMaster { name, body },
-            Proposal::Rulebook {
-                name,
-                schema,
-                version,
-                body,
-            } => StewardWork::AddRulebook {
-                name,
-                schema,
-                version,
-                body,
-            },
-            Proposal::Edition {
-                name,
-                rulebook,
-                masters,
-                folded,
-            } => StewardWork::AddEdition {
-                name,
-                rulebook,
-                masters,
-                folded,
-            },
-        }
-    }
 }

@@ -1,35 +1,15 @@
 //! What the steward writes.
+use crate::proposal::Proposal;
 use desk_base::{List, Str};
 
-/// What the steward publishes. Nothing that is published is ever changed.
+/// What the steward writes. Nothing that is published is ever changed.
 #[derive(Debug)]
 pub enum StewardWork {
     AddClerk {
         name: Str,
     },
-    /// The body names the schema.
-    AddSchema {
-        body: List<u8>,
-    },
-    AddMaster {
-        name: Str,
-        body: List<u8>,
-    },
-    /// A rulebook over a version of a schema.
-    AddRulebook {
-        name: Str,
-        schema: Str,
-        version: u32,
-        body: List<u8>,
-    },
-    /// A version of a rulebook with versions of masters, and the attributes that are compared without regard to
-    /// ASCII case.
-    AddEdition {
-        name: Str,
-        rulebook: (Str, u32),
-        masters: List<(Str, u32)>,
-        folded: List<Str>,
-    },
+    /// The next version of what is proposed.
+    Publish(Proposal),
     /// A region of a version of an edition: in each row a text for each of the attributes.
     AddRegion {
         edition: Str,
@@ -53,32 +33,7 @@ impl Drop for StewardWork {
     fn drop(self) {
         match self {
             StewardWork::AddClerk { name } => drop(name),
-            StewardWork::AddSchema { body } => drop(body),
-            StewardWork::AddMaster { name, body } => {
-                drop(name);
-                drop(body);
-            }
-            StewardWork::AddRulebook {
-                name,
-                schema,
-                version: _,
-                body,
-            } => {
-                drop(name);
-                drop(schema);
-                drop(body);
-            }
-            StewardWork::AddEdition {
-                name,
-                rulebook,
-                masters,
-                folded,
-            } => {
-                drop(name);
-                drop(rulebook);
-                drop(masters);
-                drop(folded);
-            }
+            StewardWork::Publish(proposal) => drop(proposal),
             StewardWork::AddRegion {
                 edition,
                 version: _,

@@ -7,12 +7,11 @@ use crate::rows::act::Act;
 use crate::rows::batch::BatchRow;
 use crate::rows::clerk::{ClerkRow, Digest};
 use crate::rows::edition::EditionRow;
-use crate::rows::master::MasterRow;
 use crate::rows::record::RecordRow;
 use crate::rows::region::RegionRow;
 use crate::rows::rulebook::RulebookRow;
-use crate::rows::schema::SchemaRow;
 use crate::rows::session::SessionRow;
+use crate::rows::text::TextRow;
 use desk_base::{Duplicate, NoMemory, Room, Text};
 use std::alloc::Global;
 
@@ -21,8 +20,8 @@ use std::alloc::Global;
 #[derive(Debug)]
 pub struct Tables {
     pub clerks: Room<ClerkRow>,
-    pub schemas: Room<SchemaRow>,
-    pub masters: Room<MasterRow>,
+    pub schemas: Room<TextRow>,
+    pub masters: Room<TextRow>,
     pub rulebooks: Room<RulebookRow>,
     pub editions: Room<EditionRow>,
     pub regions: Room<RegionRow>,
@@ -158,29 +157,5 @@ impl ClerkRow {
             act: Act::Nothing,
             target: 0,
         }
-    }
-}
-
-impl Duplicate for Tables {
-    fn copy(&self) -> Result<Tables, NoMemory> {
-        let clerks = self.clerks.copy()?;
-        let schemas = self.schemas.copy()?;
-        let masters = self.masters.copy()?;
-        let rulebooks = self.rulebooks.copy()?;
-        let editions = self.editions.copy()?;
-        let regions = self.regions.copy()?;
-        let sessions = self.sessions.copy()?;
-        let records = self.records.copy()?;
-        Ok(Tables {
-            clerks,
-            schemas,
-            masters,
-            rulebooks,
-            editions,
-            regions,
-            sessions,
-            records,
-            batches: self.batches.copy()?,
-        })
     }
 }

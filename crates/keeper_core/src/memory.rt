@@ -10,7 +10,7 @@ ghost use Rattle.keeper_core.specs.Keeping.{LoadsHeld, NeverFails, StayTold};
 use crate::changing::change_all;
 use crate::keeper::{KeepFail, Keeper};
 use crate::room::make_room;
-use desk_base::{CallPlan, Duplicate, FaultCount, List};
+use desk_base::{CallPlan, Duplicate, FaultCount, List, NoMemory};
 use desk_words::{Change, Tables};
 use std::marker::Model;
 
@@ -93,7 +93,7 @@ impl Keeper for MemKeeper {
             self.faults.rise();
             return Err(KeepFail::Failed);
         }
-        Ok(self.tables.copy()?)
+        Ok(copy_of(&self.tables)?)
     }
 
     fn commit(&mut self, changes: &List<Change>) -> Result<(), KeepFail>
@@ -114,6 +114,13 @@ impl Keeper for MemKeeper {
         }
         change_tables(&mut self.tables, changes)
     }
+}
+
+/// The tables with the same rows.
+fn copy_of(tables: &Tables) -> Result<Tables, NoMemory>
+    ensures { IfOk result (λ made. rows_of made ≡ rows_of tables.now) }
+{
+    tables.copy_rows(tables.clerks.allocator())
 }
 
 /// Makes all changes in the tables, or none where there is no memory.

@@ -19,7 +19,7 @@ use Rattle.desk_packing.proofs.Stood.{lines_in-order, rows_in-StandFor}
 use Rattle.desk_packing.specs.Formats.{Format}
 use Rattle.desk_packing.specs.Lines.{AreByKey, Line, comes_before}
 use Rattle.desk_packing.specs.Reading.{rows_in}
-use Rattle.desk_packing.specs.RowFormats.{batch, clerk, committed, master, region, rulebook, schema, session}
+use Rattle.desk_packing.specs.RowFormats.{batch, clerk, committed, region, rulebook, session, text_row}
 use Rattle.desk_packing.specs.Stands as stands
 use Rattle.desk_packing.specs.Stands.{StandFor, edition_in, list_lines, own_lines}
 use Rattle.desk_words.specs.Tables.{AreTables, IsShort as IsShortList, Rows}
@@ -126,9 +126,9 @@ all_short is_old rows are = (
   (omega arith, omega arith, omega arith),
   each-append IsShort _ _ (list_short clerk 1 0 0 rows.clerks (omega arith) (omega arith) (omega (arith, are.clerks)))
       (each-append IsShort _ _
-      (list_short schema 2 0 0 rows.schemas (omega arith) (omega arith) (omega (arith, are.schemas)))
+      (list_short text_row 2 0 0 rows.schemas (omega arith) (omega arith) (omega (arith, are.schemas)))
       (each-append IsShort _ _
-      (list_short master 3 0 0 rows.masters (omega arith) (omega arith) (omega (arith, are.masters)))
+      (list_short text_row 3 0 0 rows.masters (omega arith) (omega arith) (omega (arith, are.masters)))
       (each-append IsShort _ _
       (list_short rulebook 4 0 0 rows.rulebooks (omega arith) (omega arith) (omega (arith, are.rulebooks)))
       (each-append IsShort _ _

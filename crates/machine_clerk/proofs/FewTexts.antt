@@ -13,9 +13,7 @@ use Rattle.desk_valid.specs.Rows.Session.{IsSessionRow}
 use Rattle.desk_valid.specs.Tallies.{bytes_in, text_bytes}
 use Rattle.desk_valid.specs.Valid.{AreValid}
 use Rattle.desk_valid.proofs.Kits.{edition-kit}
-use Rattle.master_index.specs.declared.shelf.Shelved.{Shelved}
 use Rattle.machine_core.specs.Own.{IsOwn, Own}
-use Rattle.machine_core.specs.Shelves.{bound_on}
 use Rattle.machine_core.proofs.GoodRows.{own-sessions}
 use Rattle.machine_core.proofs.Widths.{few-attributes, typed-width}
 
@@ -33,13 +31,6 @@ few-texts rows batches session valid good =
       typed-width (published_of rows) batches session bound is good,
       few-attributes rows session.edition bound valid is,
     )
-
--- and so many words has the book of an edition, as they are read
-pub few-words : (rows : Rows) (edition : ℕ) (shelved : Shelved) {words : List (List ℕ)} → AreValid rows
-    → bound_at (published_of rows) edition ≡ Some (bound_on shelved) → words ≡ shelved.names.attributes
-    → length words ≤ 48
-few-words rows edition shelved valid binds same =
-    omega (arith, few-attributes rows edition (bound_on shelved) valid binds, ap length same)
 
 -- each session of a clerk has no more texts either
 pub few-own : (rows : Rows) (own : Own) → AreValid rows → IsOwn rows own → (place : ℕ)

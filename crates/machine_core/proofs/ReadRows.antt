@@ -8,7 +8,7 @@ use Rattle.std.proofs.lemmas.List.{get_or_default}
 use Rattle.std.proofs.lemmas.List.Elements.{All-head, All-tail}
 use Rattle.std.proofs.lemmas.Option.{same_Some}
 use Rattle.desk_words.specs.declared.rows.edition.EditionRow.{EditionRow}
-use Rattle.desk_words.specs.declared.rows.master.MasterRow.{MasterRow}
+use Rattle.desk_words.specs.declared.rows.text.TextRow.{TextRow}
 use Rattle.desk_words.specs.Tables.{Published, Rows, published_of}
 use Rattle.desk_valid.specs.Readings.{read}
 use Rattle.desk_valid.specs.Valid.{AreValid}
@@ -53,7 +53,7 @@ some-read name (Ok sheet) there = (sheet, refl)
 some-read name (Err fault) there = absurd (cc)
 
 -- the master that is found by its name is what its body reads as
-pub master-read : (rows : Rows) (edition : EditionRow) (name : List ℕ) (place : ℕ) (row : MasterRow) → AreValid rows
+pub master-read : (rows : Rows) (edition : EditionRow) (name : List ℕ) (place : ℕ) (row : TextRow) → AreValid rows
     → find (λ one. bytes_eq (master_name rows.masters one) name) edition.masters ≡ Some place
     → slice_get rows.masters place ≡ Some row
     → run (value_or (read_sheet row.body) sheet_refusal) ≡ run (master_of (published_of rows) edition name)

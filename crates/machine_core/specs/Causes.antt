@@ -26,8 +26,8 @@ use Rattle.desk_words.specs.declared.rows.clerk.ClerkRow.{ClerkRow}
 use Rattle.desk_words.specs.declared.rows.edition.EditionRow.{EditionRow}
 use Rattle.desk_words.specs.declared.rows.session.SessionRow.{SessionRow}
 use Rattle.desk_words.specs.declared.rows.session.Stage.TheVariants.{Active}
-use Rattle.desk_words.specs.declared.steward_work.StewardWork.TheVariants.{AddClerk, AddSchema, AddMaster, AddRulebook}
-use Rattle.desk_words.specs.declared.steward_work.StewardWork.TheVariants.{AddEdition, AddRegion}
+use Rattle.desk_words.specs.declared.proposal.Proposal.TheVariants as proposal
+use Rattle.desk_words.specs.declared.steward_work.StewardWork.TheVariants.{AddClerk, Publish, AddRegion}
 use Rattle.desk_words.specs.Tables.{Rows, published_of}
 use Rattle.desk_valid.specs.declared.bound.Bound.{Bound}
 use Rattle.desk_valid.specs.Bindings.{binding, bound_at, parts_of}
@@ -58,7 +58,7 @@ use Rattle.machine_core.specs.Clerk.Confirm.{bytes_with, confirm_row}
 use Rattle.machine_core.specs.Clerk.Enter.{typed_over}
 use Rattle.machine_core.specs.Deriving.{master_of}
 use Rattle.machine_core.specs.Faults.{bind_refusal, rules_refusal, schema_refusal, sheet_refusal}
-use Rattle.machine_core.specs.Finding.{edition_named, master_named, newest_edition, rulebook_named, schema_named}
+use Rattle.machine_core.specs.Finding.{edition_named, newest_edition, rulebook_named, text_named}
 use Rattle.machine_core.specs.Finding.{numbered, session_at}
 use Rattle.machine_core.specs.Limits.{limit_of}
 use Rattle.machine_core.specs.Look.Suggest.{regions_of}
@@ -178,17 +178,17 @@ pub record Withdraws (rows : Rows) (command : Command) (word : List ℕ) (sessio
 
 -- this reader refuses the body with this refusal
 abbrev pub RefusesBody : Rows → Command → Refusal → Type 0
-RefusesBody rows (Steward ticket (AddSchema body)) refusal =
+RefusesBody rows (Steward ticket (Publish (proposal.Schema body))) refusal =
     (fault : SchemaFault) × (schema_of body ≡ Err fault) × (refusal ≡ schema_refusal fault)
-RefusesBody rows (Steward ticket (AddMaster name body)) refusal =
+RefusesBody rows (Steward ticket (Publish (proposal.Master name body))) refusal =
     (fault : SheetFault) × (read_sheet body ≡ Err fault) × (refusal ≡ sheet_refusal fault)
-RefusesBody rows (Steward ticket (AddRulebook name schema version body)) refusal =
-    (place : ℕ) × (over : Schema) × (fault : RuleFault) × (schema_named rows.schemas schema version ≡ Some place)
+RefusesBody rows (Steward ticket (Publish (proposal.Rulebook name schema version body))) refusal =
+    (place : ℕ) × (over : Schema) × (fault : RuleFault) × (text_named rows.schemas schema version ≡ Some place)
     × (schema_at (published_of rows) place ≡ Some over) × (read_rules body over ≡ Err fault)
     × (refusal ≡ rules_refusal fault)
-RefusesBody rows (Steward ticket (AddEdition name rulebook masters folded)) refusal =
+RefusesBody rows (Steward ticket (Publish (proposal.Edition name rulebook masters folded))) refusal =
     (row : EditionRow) × (rulebook_named rows.rulebooks rulebook.0 rulebook.1 ≡ Some row.rulebook)
-    × (all_of (map (λ master. master_named rows.masters master.0 master.1) masters) ≡ Some row.masters)
+    × (all_of (map (λ master. text_named rows.masters master.0 master.1) masters) ≡ Some row.masters)
     × IsSomeAnd (parts_of (published_of rows) row) (λ parts.
     ((fault : BindFault) × (binding parts row.folded ≡ Err fault) × (refusal ≡ bind_refusal fault))
     ⊎ ((kit : Kit) × (binding parts row.folded ≡ Ok kit) × (MAX_ENTRIES < entries kit)
@@ -248,22 +248,23 @@ abbrev pub WouldStand : Rows → Command → Which → ℕ → Type 0
 WouldStand rows command which.Clerks count =
     (ticket : Ticket) × (name : List ℕ) × (command ≡ Steward ticket (AddClerk name)) × (count ≡ length rows.clerks)
 WouldStand rows command which.Schemas count =
-    (ticket : Ticket) × (body : List ℕ) × (command ≡ Steward ticket (AddSchema body))
+    (ticket : Ticket) × (body : List ℕ) × (command ≡ Steward ticket (Publish (proposal.Schema body)))
     × (count ≡ length rows.schemas + 1)
 WouldStand rows command which.Masters count =
-    (ticket : Ticket) × (name : List ℕ) × (body : List ℕ) × (command ≡ Steward ticket (AddMaster name body))
-    × (count ≡ length rows.masters + 1)
+    (ticket : Ticket) × (name : List ℕ) × (body : List ℕ)
+    × (command ≡ Steward ticket (Publish (proposal.Master name body))) × (count ≡ length rows.masters + 1)
 WouldStand rows command which.MasterCells count =
     (ticket : Ticket) × (name : List ℕ) × (body : List ℕ) × (master : Master)
-    × (command ≡ Steward ticket (AddMaster name body)) × (read_sheet body ≡ Ok master)
+    × (command ≡ Steward ticket (Publish (proposal.Master name body))) × (read_sheet body ≡ Ok master)
     × (count ≡ master_cells rows.masters + cell_count master)
 WouldStand rows command which.Rulebooks count =
     (ticket : Ticket) × (name : List ℕ) × (schema : List ℕ) × (version : ℕ) × (body : List ℕ)
-    × (command ≡ Steward ticket (AddRulebook name schema version body)) × (count ≡ length rows.rulebooks + 1)
+    × (command ≡ Steward ticket (Publish (proposal.Rulebook name schema version body)))
+    × (count ≡ length rows.rulebooks + 1)
 WouldStand rows command which.EditionMasters count = count ≡ length (masters_in command)
 WouldStand rows command which.Editions count =
     (ticket : Ticket) × (name : List ℕ) × (rulebook : List ℕ × ℕ) × (masters : List (List ℕ × ℕ))
-    × (folded : List (List ℕ)) × (command ≡ Steward ticket (AddEdition name rulebook masters folded))
+    × (folded : List (List ℕ)) × (command ≡ Steward ticket (Publish (proposal.Edition name rulebook masters folded)))
     × (count ≡ length rows.editions + 1)
 WouldStand rows command which.RegionRows count =
     (ticket : Ticket) × (edition : List ℕ) × (version : ℕ) × (attributes : List (List ℕ))
@@ -301,10 +302,10 @@ Cause rows command (Reused last) =
     × (ticket.number ≡ row.last) × (row.digest.bytes ≢ ticket.digest.bytes)
 Cause rows command (NoSuch kind.Schema) =
     (version : List ℕ × ℕ) × (schema_in command ≡ Some version)
-    × (schema_named rows.schemas version.0 version.1 ≡ None)
+    × (text_named rows.schemas version.0 version.1 ≡ None)
 Cause rows command (NoSuch kind.Master) =
     ((version : List ℕ × ℕ) × Contains (masters_in command) version
-    × (master_named rows.masters version.0 version.1 ≡ None))
+    × (text_named rows.masters version.0 version.1 ≡ None))
     ⊎ ((edition : EditionRow) × (name : List ℕ) × AsksMaster rows command edition name
     × All (λ place. master_name rows.masters place ≢ name) edition.masters)
 Cause rows command (NoSuch kind.Rulebook) =
@@ -325,7 +326,7 @@ Cause rows command (NoSuch kind.Region) =
     × (numbered (regions_of rows.regions edition) number ≡ None)
 Cause rows command (NoSuch kind.Row) =
     (version : List ℕ × ℕ) × (place : ℕ) × (master : List ℕ × Master) × (number : ℕ)
-    × Contains (masters_in command) version × (master_named rows.masters version.0 version.1 ≡ Some place)
+    × Contains (masters_in command) version × (text_named rows.masters version.0 version.1 ≡ Some place)
     × (master_at (published_of rows) place ≡ Some master) × (row_in command ≡ Some number)
     × (numbered master.1.grid.rows number ≡ None)
 Cause rows command (NoSuch kind.Rule) =

@@ -2,10 +2,9 @@
 use Rattle.std.specs.Prelude.{ℕ, ◌+◌, ◌-◌, ◌==◌, ◌&&◌, List, count_by, position, slice_get, Option, None, if◌then◌else◌}
 use Rattle.std.specs.Str.{bytes_eq}
 use Rattle.desk_words.specs.declared.rows.edition.EditionRow.{EditionRow}
-use Rattle.desk_words.specs.declared.rows.master.MasterRow.{MasterRow}
 use Rattle.desk_words.specs.declared.rows.rulebook.RulebookRow.{RulebookRow}
-use Rattle.desk_words.specs.declared.rows.schema.SchemaRow.{SchemaRow}
 use Rattle.desk_words.specs.declared.rows.session.SessionRow.{SessionRow}
+use Rattle.desk_words.specs.declared.rows.text.TextRow.{TextRow}
 
 -- the place of the row with this name and version
 abbrev pub place_of : {T : Type 0} → (T → List ℕ) → (T → ℕ) → List T → List ℕ → ℕ → Option ℕ
@@ -24,13 +23,9 @@ newest_of name_of version_of rows name = place_of name_of version_of rows name (
 abbrev pub next_version : {T : Type 0} → (T → List ℕ) → List T → List ℕ → ℕ
 next_version name_of rows name = version_count name_of rows name + 1
 
--- the place of this version of a schema
-abbrev pub schema_named : List SchemaRow → List ℕ → ℕ → Option ℕ
-schema_named schemas name version = place_of (λ row. row.name) (λ row. row.version) schemas name version
-
--- the place of this version of a master
-abbrev pub master_named : List MasterRow → List ℕ → ℕ → Option ℕ
-master_named masters name version = place_of (λ row. row.name) (λ row. row.version) masters name version
+-- the place of this version of a schema or of a master
+abbrev pub text_named : List TextRow → List ℕ → ℕ → Option ℕ
+text_named rows name version = place_of (λ row. row.name) (λ row. row.version) rows name version
 
 -- the place of this version of a rulebook
 abbrev pub rulebook_named : List RulebookRow → List ℕ → ℕ → Option ℕ
@@ -45,7 +40,7 @@ abbrev pub newest_edition : List EditionRow → List ℕ → Option ℕ
 newest_edition editions name = newest_of (λ row. row.name) (λ row. row.version) editions name
 
 -- the place of the newest version of a master's name
-abbrev pub newest_master : List MasterRow → List ℕ → Option ℕ
+abbrev pub newest_master : List TextRow → List ℕ → Option ℕ
 newest_master masters name = newest_of (λ row. row.name) (λ row. row.version) masters name
 
 -- the item with this number, counted from 1

@@ -17,8 +17,8 @@ use Rattle.desk_words.specs.declared.reply.Reply.TheVariants as reply
 use Rattle.desk_words.specs.declared.rows.act.Act.TheVariants as act
 use Rattle.desk_words.specs.declared.rows.clerk.ClerkRow.{ClerkRow}
 use Rattle.desk_words.specs.declared.steward_work.StewardWork.{StewardWork}
-use Rattle.desk_words.specs.declared.steward_work.StewardWork.TheVariants.{AddClerk, AddSchema, AddMaster, AddRulebook}
-use Rattle.desk_words.specs.declared.steward_work.StewardWork.TheVariants.{AddEdition, AddRegion, AddDerived}
+use Rattle.desk_words.specs.declared.proposal.Proposal.TheVariants.{Schema, Master, Rulebook, Edition}
+use Rattle.desk_words.specs.declared.steward_work.StewardWork.TheVariants.{AddClerk, Publish, AddRegion, AddDerived}
 use Rattle.desk_words.specs.Changes.{changed}
 use Rattle.desk_words.specs.Tables.{Published, Rows, published_of}
 use Rattle.machine_core.specs.Checked.{Checked, ◌>>=◌, done, Gives, some_or}
@@ -51,16 +51,16 @@ abbrev pub making_of : Rows → StewardWork → Checked Making
 making_of rows (AddClerk name) = do
   row ← clerk_row rows.clerks name
   done (record { change = change.Clerk (length rows.clerks) row; act = act.Clerk; target = length rows.clerks })
-making_of rows (AddSchema body) = do
+making_of rows (Publish (Schema body)) = do
   row ← schema_row rows.schemas body
   done (record { change = change.Schema row; act = act.Schema; target = length rows.schemas })
-making_of rows (AddMaster name body) = do
+making_of rows (Publish (Master name body)) = do
   row ← master_row rows.masters name body
   done (record { change = change.Master row; act = act.Master; target = length rows.masters })
-making_of rows (AddRulebook name schema version body) = do
+making_of rows (Publish (Rulebook name schema version body)) = do
   row ← rulebook_row (published_of rows) name schema version body
   done (record { change = change.Rulebook row; act = act.Rulebook; target = length rows.rulebooks })
-making_of rows (AddEdition name rulebook masters folded) = do
+making_of rows (Publish (Edition name rulebook masters folded)) = do
   row ← edition_row (published_of rows) name rulebook masters folded
   done (record { change = change.Edition row; act = act.Edition; target = length rows.editions })
 making_of rows (AddRegion edition version attributes texts) = do

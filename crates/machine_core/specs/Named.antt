@@ -5,8 +5,8 @@ use Rattle.desk_words.specs.declared.clerk_work.ClerkWork.TheVariants.{Enter, Co
 use Rattle.desk_words.specs.declared.clerk_work.ClerkWork.TheVariants.{Carry}
 use Rattle.desk_words.specs.declared.command.Command.{Command}
 use Rattle.desk_words.specs.declared.command.Command.TheVariants.{Steward, Clerk, Look, Desk}
-use Rattle.desk_words.specs.declared.steward_work.StewardWork.TheVariants.{AddClerk, AddMaster, AddRulebook, AddEdition}
-use Rattle.desk_words.specs.declared.steward_work.StewardWork.TheVariants.{AddRegion, AddDerived}
+use Rattle.desk_words.specs.declared.proposal.Proposal.TheVariants as proposal
+use Rattle.desk_words.specs.declared.steward_work.StewardWork.TheVariants.{AddClerk, Publish, AddRegion, AddDerived}
 use Rattle.master_rows.specs.declared.error.SheetFault.{SheetFault}
 use Rattle.master_rows.specs.declared.master.Master.{Master}
 use Rattle.master_rows.specs.Sheet.{read_sheet}
@@ -46,13 +46,13 @@ version_in _ = None
 
 -- a version of a schema
 abbrev pub schema_in : Command → Option (List ℕ × ℕ)
-schema_in (Steward ticket (AddRulebook name schema version body)) = Some (schema, version)
+schema_in (Steward ticket (Publish (proposal.Rulebook name schema version body))) = Some (schema, version)
 schema_in (Desk look) = (desk_named_by look).schema
 schema_in _ = None
 
 -- a version of a rulebook
 abbrev pub rulebook_in : Command → Option (List ℕ × ℕ)
-rulebook_in (Steward ticket (AddEdition name rulebook masters folded)) = Some rulebook
+rulebook_in (Steward ticket (Publish (proposal.Edition name rulebook masters folded))) = Some rulebook
 rulebook_in (Desk look) = (desk_named_by look).rulebook
 rulebook_in _ = None
 
@@ -63,7 +63,7 @@ sheet_words (Err fault) = []
 
 -- attributes, by their words
 abbrev pub attributes_in : Command → List (List ℕ)
-attributes_in (Steward ticket (AddEdition name rulebook masters folded)) = folded
+attributes_in (Steward ticket (Publish (proposal.Edition name rulebook masters folded))) = folded
 attributes_in (Steward ticket (AddRegion edition version attributes rows)) = attributes
 attributes_in (Steward ticket (AddDerived edition version master pairs from)) = map (λ pair. pair.0) pairs
 attributes_in (Clerk name ticket (Enter edition cells confirmed)) = map (λ cell. cell.0) cells ++ confirmed
@@ -76,7 +76,7 @@ attributes_in _ = []
 
 -- masters, by their names and versions
 abbrev pub masters_in : Command → List (List ℕ × ℕ)
-masters_in (Steward ticket (AddEdition name rulebook masters folded)) = masters
+masters_in (Steward ticket (Publish (proposal.Edition name rulebook masters folded))) = masters
 masters_in (Desk look) = option_to_list (desk_named_by look).sheet
 masters_in _ = []
 
@@ -130,7 +130,7 @@ GivesText _ word text = ⊥
 -- a name that is to be published, or a clerk's
 abbrev pub new_name_in : Command → Option (List ℕ)
 new_name_in (Steward ticket (AddClerk name)) = Some name
-new_name_in (Steward ticket (AddMaster name body)) = Some name
-new_name_in (Steward ticket (AddRulebook name schema version body)) = Some name
-new_name_in (Steward ticket (AddEdition name rulebook masters folded)) = Some name
+new_name_in (Steward ticket (Publish (proposal.Master name body))) = Some name
+new_name_in (Steward ticket (Publish (proposal.Rulebook name schema version body))) = Some name
+new_name_in (Steward ticket (Publish (proposal.Edition name rulebook masters folded))) = Some name
 new_name_in _ = None

@@ -4,7 +4,7 @@ use Rattle.std.specs.List.{filter_map}
 use Rattle.std.specs.Option.{option_map_or}
 use Rattle.desk_words.specs.declared.proposal.Proposal.{Proposal}
 use Rattle.desk_words.specs.declared.proposal.Proposal.TheVariants.{Schema, Master, Rulebook, Edition}
-use Rattle.desk_words.specs.declared.rows.master.MasterRow.{MasterRow}
+use Rattle.desk_words.specs.declared.rows.text.TextRow.{TextRow}
 use Rattle.desk_words.specs.Tables.{Published}
 use Rattle.fault_sentences.specs.Notes.{absent_note, column_note, rules_told, schema_notes, sheet_notes}
 use Rattle.master_rows.specs.Sheet.{read_sheet}
@@ -20,17 +20,17 @@ if_read notes (Ok value) = notes value
 if_read notes (Err fault) = []
 
 -- the newest version of a master's name
-abbrev pub newest_row : List MasterRow → List ℕ → Option MasterRow
+abbrev pub newest_row : List TextRow → List ℕ → Option TextRow
 newest_row masters name = option_and_then (slice_get masters) (newest_master masters name)
 
 -- what is told of a rule that looks into no master of the desk, or that its newest version lacks a column
-abbrev pub rule_note : List MasterRow → RuleLine → Option (List ℕ)
+abbrev pub rule_note : List TextRow → RuleLine → Option (List ℕ)
 rule_note masters line =
     option_map_or (λ row. column_note line row.version row.body) (newest_row masters line.master)
     (Some (absent_note line))
 
 -- on rules: those that lack something
-abbrev pub rules_notes : List MasterRow → List RuleLine → List (List ℕ)
+abbrev pub rules_notes : List TextRow → List RuleLine → List (List ℕ)
 rules_notes masters lines = rules_told (filter_map (rule_note masters) lines)
 
 -- on a text of rules over a version of a schema

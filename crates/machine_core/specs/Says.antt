@@ -14,7 +14,7 @@ use Rattle.desk_words.specs.declared.refusal.Reader.{Reader}
 use Rattle.desk_words.specs.declared.refusal.Reader.TheVariants as reader
 use Rattle.desk_words.specs.declared.refusal.Refusal.{Refusal}
 use Rattle.desk_words.specs.declared.refusal.Refusal.TheVariants.{BadName, BadText, Limit, NoSuch, Twice, UnknownAttr}
-use Rattle.desk_words.specs.declared.rows.master.MasterRow.{MasterRow}
+use Rattle.desk_words.specs.declared.rows.text.TextRow.{TextRow}
 use Rattle.desk_words.specs.Tables.{Published}
 use Rattle.desk_valid.specs.declared.parts.Parts.{Parts}
 use Rattle.desk_valid.specs.declared.reading.Rules.{Rules}
@@ -30,13 +30,13 @@ use Rattle.fault_sentences.specs.Rules.{rules_sentence}
 use Rattle.fault_sentences.specs.Schemas.{plain_schema_sentence}
 use Rattle.fault_sentences.specs.Sheets.{sheet_sentence}
 use Rattle.machine_core.specs.Codes.{bind_fault, rules_fault, schema_fault, sheet_fault}
-use Rattle.machine_core.specs.Finding.{master_named, rulebook_named, schema_named, version_count}
+use Rattle.machine_core.specs.Finding.{rulebook_named, text_named, version_count}
 
 -- ---- what a proposal names
 
 -- the schema of a version
 abbrev pub schema_for : Published → List ℕ → ℕ → Option SchemaOf
-schema_for rows name version = option_and_then (schema_at rows) (schema_named rows.schemas name version)
+schema_for rows name version = option_and_then (schema_at rows) (text_named rows.schemas name version)
 
 -- the rules of a version of a rulebook
 abbrev pub rules_for : Published → List ℕ × ℕ → Option Rules
@@ -44,7 +44,7 @@ rules_for rows book = option_and_then (rules_at rows) (rulebook_named rows.ruleb
 
 -- the master of a version, under its name
 abbrev pub master_for : Published → List ℕ × ℕ → Option (List ℕ × MasterOf)
-master_for rows master = option_and_then (master_at rows) (master_named rows.masters master.0 master.1)
+master_for rows master = option_and_then (master_at rows) (text_named rows.masters master.0 master.1)
 
 -- the rules and the masters of versions, where each stands
 abbrev pub parts_for : Published → List ℕ × ℕ → List (List ℕ × ℕ) → Option Parts
@@ -68,8 +68,8 @@ absent_master rows master =
     absent_sentence published.Master master.0 master.1 (version_count (λ row. row.name) rows.masters master.0)
 
 -- a version of a master is not there
-abbrev pub is_absent : List MasterRow → List ℕ × ℕ → Bool
-is_absent masters master = is_none (master_named masters master.0 master.1)
+abbrev pub is_absent : List TextRow → List ℕ × ℕ → Bool
+is_absent masters master = is_none (text_named masters master.0 master.1)
 
 -- the same of the first of these masters that is not there
 abbrev pub absent_among : Published → List (List ℕ × ℕ) → List ℕ

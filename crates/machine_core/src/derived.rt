@@ -21,7 +21,7 @@ use crate::steward::master_name;
 use crate::stop::Stop;
 use crate::words::words_of;
 use desk_base::{Duplicate, List, NoMemory, Steps, Str, Text, place_of};
-use desk_words::{Kind, MasterRow, Refusal, Tables};
+use desk_words::{Kind, Refusal, Tables, TextRow};
 use fix_engine::Work;
 use master_index::Shelf;
 use master_rows::Master;
@@ -78,7 +78,7 @@ fn master_of(alloc: Global, tables: &Tables, edition: u32, name: &Str) -> Result
 }
 
 /// The first of these places at which a master of the name stands.
-fn place_named(masters: &[MasterRow], places: &[u32], name: &str) -> Option<u32>
+fn place_named(masters: &[TextRow], places: &[u32], name: &str) -> Option<u32>
     ensures { result ≡ find (λ place. bytes_eq (master_name masters.now place) name.now) places.now }
 {
     places

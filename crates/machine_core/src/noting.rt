@@ -14,7 +14,7 @@ ghost use Rattle.machine_core.specs.Notes.{if_read, notes_of, rule_note, ruleboo
 use crate::finding::newest_of;
 use crate::saying::schema_for;
 use desk_base::{List, NoMemory, Str};
-use desk_words::{MasterRow, Proposal, Tables};
+use desk_words::{Proposal, Tables, TextRow};
 use fault_sentences::{Sentence, absent_note, column_note, rules_told, schema_notes, sheet_notes};
 use master_rows::{Master, SheetFault};
 use rule_text::{RuleFault, RuleLine, read};
@@ -86,7 +86,7 @@ fn on_rulebook(
 /// On a text of rules over a schema.
 fn on_rules(
     alloc: Global,
-    masters: &[MasterRow],
+    masters: &[TextRow],
     schema: &Schema,
     body: &[u8],
 ) -> Result<List<Str>, NoMemory>
@@ -108,7 +108,7 @@ fn on_rules(
 /// The sentences on the rules that lack something.
 fn rule_notes(
     alloc: Global,
-    masters: &[MasterRow],
+    masters: &[TextRow],
     lines: &[RuleLine],
 ) -> Result<List<Sentence>, NoMemory>
     requires { AreVersions (λ row. row.name) (λ row. row.version) masters.now }
@@ -124,7 +124,7 @@ fn rule_notes(
 /// Adds the sentence on a rule, if it lacks something.
 fn add_note(
     notes: &mut List<Sentence>,
-    masters: &[MasterRow],
+    masters: &[TextRow],
     line: &RuleLine,
 ) -> Result<(), NoMemory>
     requires { AreVersions (λ row. row.name) (λ row. row.version) masters.now }
@@ -139,7 +139,7 @@ fn add_note(
 /// That a rule looks into no master of the desk, or which column its newest version lacks.
 fn rule_note(
     alloc: Global,
-    masters: &[MasterRow],
+    masters: &[TextRow],
     line: &RuleLine,
 ) -> Result<Option<Sentence>, NoMemory>
     requires { AreVersions (λ row. row.name) (λ row. row.version) masters.now }

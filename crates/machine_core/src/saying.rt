@@ -13,7 +13,7 @@ use crate::codes::{bind_fault, rules_fault, schema_fault, sheet_fault};
 use crate::finding::{next_version, place_of};
 use desk_base::{List, MAX_ROWS, NoMemory, Str, Text};
 use desk_valid::{Parts, Rules, master_of, rules_of, schema_of};
-use desk_words::{Kind, MasterRow, Proposal, Reader, Refusal, Tables, Which};
+use desk_words::{Kind, Proposal, Reader, Refusal, Tables, TextRow, Which};
 use fault_sentences::{
     Over, Published, Sentence, absent_sentence, bad_name_sentence, bind_sentence, cells_sentence,
     folded_sentence, full_sentence, index_sentence, masters_sentence, plain_schema_sentence,
@@ -241,14 +241,14 @@ fn absent_among(
 }
 
 /// The first of these versions of masters that is not there.
-fn first_absent<'a>(rows: &[MasterRow], masters: &'a [(Str, u32)]) -> Option<&'a (Str, u32)>
+fn first_absent<'a>(rows: &[TextRow], masters: &'a [(Str, u32)]) -> Option<&'a (Str, u32)>
     ensures { option_map (λ master. master.now) result ≡ find (is_absent rows.now) masters.now }
 {
     masters.iter().find(|master| is_absent(rows, master))
 }
 
 /// Whether this version of a master is not there.
-fn is_absent(rows: &[MasterRow], master: &(Str, u32)) -> bool
+fn is_absent(rows: &[TextRow], master: &(Str, u32)) -> bool
     ensures { result ≡ is_absent rows.now master.now }
 {
     place_of(rows, master.0.as_str(), master.1).is_none()

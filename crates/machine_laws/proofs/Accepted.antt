@@ -16,8 +16,8 @@ use Rattle.desk_words.specs.declared.rows.act.Act.{Act}
 use Rattle.desk_words.specs.declared.rows.act.Act.TheVariants as act
 use Rattle.desk_words.specs.declared.rows.clerk.ClerkRow.{ClerkRow}
 use Rattle.desk_words.specs.declared.steward_work.StewardWork.{StewardWork}
-use Rattle.desk_words.specs.declared.steward_work.StewardWork.TheVariants.{AddClerk, AddSchema, AddMaster, AddRulebook}
-use Rattle.desk_words.specs.declared.steward_work.StewardWork.TheVariants.{AddEdition, AddRegion, AddDerived}
+use Rattle.desk_words.specs.declared.proposal.Proposal.TheVariants.{Schema, Master, Rulebook, Edition}
+use Rattle.desk_words.specs.declared.steward_work.StewardWork.TheVariants.{AddClerk, Publish, AddRegion, AddDerived}
 use Rattle.desk_words.specs.Changes.{Fits, FitAll, changed, changed_all}
 use Rattle.desk_words.specs.Tables.{AreTables, Rows, new_clerk, published_of}
 use Rattle.desk_words.proofs.Changes.{AreTables-changed, AreTables-changed_all}
@@ -77,11 +77,12 @@ deed-sound rows place (Carry number version) deed valid within gives = IsSoundDe
 pub making-sound : (rows : Rows) (work : StewardWork) (making : Making) → AreValid rows
     → Gives (making_of rows work) (Ok making) → IsSoundMaking rows making
 making-sound rows (AddClerk name) making valid gives = IsSoundMaking-add_clerk rows valid name making gives
-making-sound rows (AddSchema body) making valid gives = IsSoundMaking-add_schema rows valid body making gives
-making-sound rows (AddMaster name body) making valid gives = IsSoundMaking-add_master rows valid name body making gives
-making-sound rows (AddRulebook name schema version body) making valid gives =
+making-sound rows (Publish (Schema body)) making valid gives = IsSoundMaking-add_schema rows valid body making gives
+making-sound rows (Publish (Master name body)) making valid gives =
+    IsSoundMaking-add_master rows valid name body making gives
+making-sound rows (Publish (Rulebook name schema version body)) making valid gives =
     IsSoundMaking-add_rulebook rows valid name schema version body making gives
-making-sound rows (AddEdition name rulebook masters folded) making valid gives =
+making-sound rows (Publish (Edition name rulebook masters folded)) making valid gives =
     IsSoundMaking-add_edition rows valid name rulebook masters folded making gives
 making-sound rows (AddRegion edition version attributes texts) making valid gives =
     IsSoundMaking-add_region rows valid edition version attributes texts making gives

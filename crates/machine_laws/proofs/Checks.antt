@@ -20,13 +20,10 @@ use Rattle.desk_words.specs.declared.reply.Reply.TheVariants as reply
 use Rattle.desk_words.specs.declared.rows.act.Act.TheVariants as act
 use Rattle.desk_words.specs.declared.rows.clerk.ClerkRow.{ClerkRow}
 use Rattle.desk_words.specs.declared.rows.clerk.Digest.{Digest}
-use Rattle.desk_words.specs.declared.rows.master.MasterRow.{MasterRow}
-use Rattle.desk_words.specs.declared.rows.schema.SchemaRow.{SchemaRow}
+use Rattle.desk_words.specs.declared.rows.text.TextRow.{TextRow}
 use Rattle.desk_words.specs.declared.steward_work.StewardWork.{StewardWork}
-use Rattle.desk_words.specs.declared.steward_work.StewardWork.TheVariants.{AddSchema, AddMaster, AddRulebook}
-use Rattle.desk_words.specs.declared.steward_work.StewardWork.TheVariants.{AddEdition}
+use Rattle.desk_words.specs.declared.steward_work.StewardWork.TheVariants.{Publish}
 use Rattle.desk_words.specs.Changes.{changed}
-use Rattle.desk_words.specs.Proposals.{work_of}
 use Rattle.desk_words.specs.Tables.{Rows, published_of}
 use Rattle.desk_valid.specs.Bindings.{binding, parts_of}
 use Rattle.desk_valid.specs.Readings.{schema_at}
@@ -148,19 +145,20 @@ module _ (rows : Rows) (digest : Digest) where
     ]
 
   schema-agrees : (body : List ℕ) (result : Result Fits Refusal) → Gives (schema_fits rows.schemas body) result
-      → Agrees (AddSchema body) result
-  schema-agrees body = row-agrees (AddSchema body) (schema_row rows.schemas body) (schema_making (published_of rows))
-      refl (λ row. made.Schema row.name row.version) (λ row. rw (slice_get-end rows.schemas row) refl)
+      → Agrees (Publish (Schema body)) result
+  schema-agrees body = row-agrees (Publish (Schema body)) (schema_row rows.schemas body)
+      (schema_making (published_of rows)) refl (λ row. made.Schema row.name row.version)
+      (λ row. rw (slice_get-end rows.schemas row) refl)
       (λ row. value_or (schema_of row.body) schema_refusal
       >>= (λ schema. done (fits.Schema row.name row.version schema.attributes)))
       (λ row found (schema, read, is). ap made_for is)
       (λ row refusal (schema, read, (_, few, is)). no-fault (schema_of row.body) schema_refusal
       (λ schema. fits.Schema row.name row.version schema.attributes) schema refusal
-      (ap (λ (one : SchemaRow). schema_of one.body) is ∙ read))
+      (ap (λ (one : TextRow). schema_of one.body) is ∙ read))
 
   master-agrees : (name body : List ℕ) (result : Result Fits Refusal) → Gives (master_fits rows.masters name body) result
-      → Agrees (AddMaster name body) result
-  master-agrees name body = row-agrees (AddMaster name body) (master_row rows.masters name body)
+      → Agrees (Publish (Master name body)) result
+  master-agrees name body = row-agrees (Publish (Master name body)) (master_row rows.masters name body)
       (master_making (published_of rows)) refl (λ row. made.Master row.name row.version)
       (λ row. rw (slice_get-end rows.masters row) refl)
       (λ row. value_or (read_outline row.body) sheet_refusal
@@ -168,12 +166,12 @@ module _ (rows : Rows) (digest : Digest) where
       (λ row found (outline, read, is). ap made_for is)
       (λ row refusal (_, named, (master, read, (_, few, (_, cells, is)))). no-fault (read_outline row.body)
       sheet_refusal (λ outline. fits.Master row.name row.version outline.columns outline.rows) (outline_of master)
-      refusal (ap (λ (one : MasterRow). read_outline one.body) is ∙ ap outline_read read))
+      refusal (ap (λ (one : TextRow). read_outline one.body) is ∙ ap outline_read read))
 
   rulebook-agrees : (name schema : List ℕ) (version : ℕ) (body : List ℕ) (result : Result Fits Refusal)
       → Gives (rulebook_fits (published_of rows) name schema version body) result
-      → Agrees (AddRulebook name schema version body) result
-  rulebook-agrees name schema version body = row-agrees (AddRulebook name schema version body)
+      → Agrees (Publish (Rulebook name schema version body)) result
+  rulebook-agrees name schema version body = row-agrees (Publish (Rulebook name schema version body))
       (rulebook_row (published_of rows) name schema version body) (rulebook_making (published_of rows)) refl
       (λ row. made.Rulebook row.name row.version) (λ row. rw (slice_get-end rows.rulebooks row) refl)
       (λ row. certainly (schema_at (published_of rows) row.schema)
@@ -188,8 +186,8 @@ module _ (rows : Rows) (digest : Digest) where
 
   edition-agrees : (name : List ℕ) (rulebook : List ℕ × ℕ) (masters : List (List ℕ × ℕ)) (folded : List (List ℕ))
       (result : Result Fits Refusal) → Gives (edition_fits (published_of rows) name rulebook masters folded) result
-      → Agrees (AddEdition name rulebook masters folded) result
-  edition-agrees name rulebook masters folded = row-agrees (AddEdition name rulebook masters folded)
+      → Agrees (Publish (Edition name rulebook masters folded)) result
+  edition-agrees name rulebook masters folded = row-agrees (Publish (Edition name rulebook masters folded))
       (edition_row (published_of rows) name rulebook masters folded) (edition_making (published_of rows)) refl
       (λ row. made.Edition row.name row.version) (λ row. rw (slice_get-end rows.editions row) refl)
       (λ row. entries_of (published_of rows) row >>= (λ count. done (fits.Edition row.name row.version count)))
@@ -204,7 +202,7 @@ module _ (rows : Rows) (digest : Digest) where
       ])
 
   proposal-agrees : (proposal : Proposal) (result : Result Fits Refusal) → Gives (fits_of (published_of rows) proposal) result
-      → Agrees (work_of proposal) result
+      → Agrees (Publish proposal) result
   proposal-agrees (Schema body) = schema-agrees body
   proposal-agrees (Master name body) = master-agrees name body
   proposal-agrees (Rulebook name schema version body) = rulebook-agrees name schema version body

@@ -14,7 +14,8 @@ use Rattle.desk_words.specs.declared.reply.DerivedSheet.{DerivedSheet}
 use Rattle.desk_words.specs.declared.reply.Reply.{Reply}
 use Rattle.desk_words.specs.declared.reply.Reply.TheVariants as reply
 use Rattle.desk_words.specs.declared.rows.region.RegionRow.{RegionRow}
-use Rattle.desk_words.specs.declared.steward_work.StewardWork.TheVariants.{AddDerived}
+use Rattle.desk_words.specs.declared.proposal.Proposal.TheVariants.{}
+use Rattle.desk_words.specs.declared.steward_work.StewardWork.TheVariants.{AddDerived, Publish}
 use Rattle.desk_words.specs.Tables.{Published, Rows, published_of}
 use Rattle.desk_words.specs.declared.command.Command.{Command}
 use Rattle.desk_valid.specs.declared.bound.Bound.{Bound}

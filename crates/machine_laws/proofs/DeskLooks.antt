@@ -25,7 +25,7 @@ use Rattle.machine_core.specs.DeskLook.{desk_reply}
 use Rattle.machine_core.specs.DeskLook.Bodies.{body_at, body_of}
 use Rattle.machine_core.specs.DeskLook.Check.{fits_of}
 use Rattle.machine_core.specs.DeskLook.Edition.{edition_sheet, sheet_at}
-use Rattle.machine_core.specs.Finding.{master_named, place_of, rulebook_named, schema_named}
+use Rattle.machine_core.specs.Finding.{place_of, rulebook_named, text_named}
 use Rattle.machine_core.specs.Machine.{IsStep, answered, machine}
 use Rattle.machine_core.specs.Own.{own_of}
 use Rattle.machine_core.specs.Sessions.{IsSessionOf}
@@ -170,10 +170,10 @@ desk-why rows (Region edition version number) =
     causes-asked (decides bound.kit (row_state bound.kit.width region.attrs texts)))) (λ _ _. causes-done)))))
 desk-why rows (Body publication.Schema name version) =
     told-why (body_at-why (Cause rows (Desk (Body publication.Schema name version))) (λ row. row.body) kind.Schema
-    rows.schemas (schema_named rows.schemas name version) (λ none. ((name, version), refl, none)))
+    rows.schemas (text_named rows.schemas name version) (λ none. ((name, version), refl, none)))
 desk-why rows (Body publication.Master name version) =
     told-why (body_at-why (Cause rows (Desk (Body publication.Master name version))) (λ row. row.body) kind.Master
-    rows.masters (master_named rows.masters name version)
+    rows.masters (text_named rows.masters name version)
     (λ none. inl ((name, version), Contains-first (name, version) [], none)))
 desk-why rows (Body publication.Rulebook name version) =
     told-why (body_at-why (Cause rows (Desk (Body publication.Rulebook name version))) (λ row. row.body) kind.Rulebook

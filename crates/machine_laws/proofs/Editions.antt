@@ -8,7 +8,8 @@ use Rattle.std.proofs.lemmas.List.Elements.{All-nil}
 use Rattle.std.proofs.lemmas.Option.{option_and_then_some, same_Some}
 use Rattle.desk_words.specs.declared.limit.Which.TheVariants as which
 use Rattle.desk_words.specs.declared.rows.edition.EditionRow.{EditionRow}
-use Rattle.desk_words.specs.declared.steward_work.StewardWork.TheVariants.{AddEdition}
+use Rattle.desk_words.specs.declared.proposal.Proposal.TheVariants.{Edition}
+use Rattle.desk_words.specs.declared.steward_work.StewardWork.TheVariants.{Publish}
 use Rattle.desk_words.specs.Tables.{Published, Rows, published_of}
 use Rattle.desk_valid.specs.Bindings.{parts_of}
 use Rattle.desk_valid.specs.Readings.{all_of, master_at, rules_at}
@@ -79,13 +80,14 @@ module _ (rows : Rows) (valid : AreValid rows) where
 
   -- a new edition
   pub IsSoundMaking-add_edition : (name : List ℕ) (rulebook : List ℕ × ℕ) (masters : List (List ℕ × ℕ))
-      (folded : List (List ℕ)) (making : Making) → Gives (making_of rows (AddEdition name rulebook masters folded))
+      (folded : List (List ℕ)) (making : Making)
+      → Gives (making_of rows (Publish (Edition name rulebook masters folded)))
       (Ok making)
       → IsSoundMaking rows making
   IsSoundMaking-add_edition name rulebook masters folded making gives =
       let published : Published = published_of rows in
       let (row, (_, named, (book, stands, (rules, found, (attributes, folds_are, rest)))), is) =
-      Met-Gives (making_of rows (AddEdition name rulebook masters folded)) (Ok making) gives in
+      Met-Gives (making_of rows (Publish (Edition name rulebook masters folded))) (Ok making) gives in
       let (_, few_masters, (places, are_places, (_, few, (bindable_so, binds, is_row)))) = rest in
       let words : List (List ℕ) = rules.schema.attributes in
       let made : EditionRow = next_edition rows.editions name book places (in_order attributes (length words)) in

@@ -14,8 +14,8 @@ use Rattle.desk_words.specs.declared.rows.act.Act.TheVariants as act
 use Rattle.desk_words.specs.declared.rows.edition.EditionRow.{EditionRow}
 use Rattle.desk_words.specs.declared.rows.region.RegionRow.{RegionRow}
 use Rattle.desk_words.specs.declared.steward_work.StewardWork.{StewardWork}
-use Rattle.desk_words.specs.declared.steward_work.StewardWork.TheVariants.{AddClerk, AddSchema, AddMaster, AddRulebook}
-use Rattle.desk_words.specs.declared.steward_work.StewardWork.TheVariants.{AddEdition, AddRegion, AddDerived}
+use Rattle.desk_words.specs.declared.proposal.Proposal.TheVariants as proposal
+use Rattle.desk_words.specs.declared.steward_work.StewardWork.TheVariants.{AddClerk, Publish, AddRegion, AddDerived}
 use Rattle.desk_words.specs.Tables.{Rows, published_of}
 use Rattle.desk_valid.specs.declared.bound.Bound.{Bound}
 use Rattle.desk_valid.specs.declared.parts.Parts.{Parts}
@@ -223,11 +223,11 @@ module _ (rows : Rows) (valid : AreValid rows) where
   -- each command of the steward
   pub outcome-making : (work : StewardWork) → HasOutcome (making_of rows work)
   outcome-making (AddClerk name) = search plain_tests depth 9
-  outcome-making (AddSchema body) = search plain_tests depth 9
-  outcome-making (AddMaster name body) = search plain_tests depth 9
-  outcome-making (AddRulebook name schema version body) =
+  outcome-making (Publish (proposal.Schema body)) = search plain_tests depth 9
+  outcome-making (Publish (proposal.Master name body)) = search plain_tests depth 9
+  outcome-making (Publish (proposal.Rulebook name schema version body)) =
       outcome-bind (outcome-rulebook_row name schema version body) (λ row ok. outcome-done)
-  outcome-making (AddEdition name rulebook masters folded) =
+  outcome-making (Publish (proposal.Edition name rulebook masters folded)) =
       outcome-bind (outcome-edition_row name rulebook masters folded) (λ row ok. outcome-done)
   outcome-making (AddRegion edition version attributes texts) = outcome-bind
       (outcome-version rows valid edition version (λ place within.

@@ -12,16 +12,16 @@ use Rattle.desk_words.specs.declared.change.Change.TheVariants as change
 use Rattle.desk_words.specs.declared.limit.Which.TheVariants as which
 use Rattle.desk_words.specs.declared.rows.act.Act.TheVariants as act
 use Rattle.desk_words.specs.declared.rows.clerk.ClerkRow.{ClerkRow}
-use Rattle.desk_words.specs.declared.rows.master.MasterRow.{MasterRow}
 use Rattle.desk_words.specs.declared.rows.rulebook.RulebookRow.{RulebookRow}
-use Rattle.desk_words.specs.declared.rows.schema.SchemaRow.{SchemaRow}
-use Rattle.desk_words.specs.declared.steward_work.StewardWork.TheVariants.{AddClerk, AddMaster, AddRulebook, AddSchema}
+use Rattle.desk_words.specs.declared.proposal.Proposal.TheVariants.{Schema, Master, Rulebook}
+use Rattle.desk_words.specs.declared.steward_work.StewardWork.TheVariants.{AddClerk, Publish}
 use Rattle.desk_words.specs.Changes.{Fits, changed}
 use Rattle.desk_words.specs.Tables.{AreTables, Published, Rows, new_clerk, published_of}
 use Rattle.desk_words.proofs.Changes.{AreTables-changed, put-end, with_clerk-end}
 use Rattle.desk_words.specs.declared.change.Change.{Change}
 use Rattle.desk_words.specs.declared.rows.edition.EditionRow.{EditionRow}
 use Rattle.desk_words.specs.declared.rows.region.RegionRow.{RegionRow}
+use Rattle.desk_words.specs.declared.rows.text.TextRow.{TextRow}
 use Rattle.desk_valid.specs.Readings.{read, rules_over}
 use Rattle.desk_valid.specs.Rows.Clerk.{IsClerkRow, HasTarget, IsStewardsAct}
 use Rattle.desk_valid.specs.Rows.Master.{IsMasterRow}
@@ -115,11 +115,11 @@ own-last rows name place tables last =
     λ i. record { row = caller i; sessions = sessions i; records = records i; batches = batches i }
 
 -- what is made of each kind of row that is published after the others
-abbrev pub schema_making : Published → SchemaRow → Making
+abbrev pub schema_making : Published → TextRow → Making
 schema_making published row =
     record { change = change.Schema row; act = act.Schema; target = length published.schemas }
 
-abbrev pub master_making : Published → MasterRow → Making
+abbrev pub master_making : Published → TextRow → Making
 master_making published row =
     record { change = change.Master row; act = act.Master; target = length published.masters }
 
@@ -198,12 +198,14 @@ module _ (rows : Rows) (valid : AreValid rows) where
 
 module _ (rows : Rows) (valid : AreValid rows) where
   -- a new schema
-  pub IsSoundMaking-add_schema : (body : List ℕ) (making : Making) → Gives (making_of rows (AddSchema body)) (Ok making)
+  pub IsSoundMaking-add_schema : (body : List ℕ) (making : Making)
+      → Gives (making_of rows (Publish (Schema body))) (Ok making)
       → IsSoundMaking rows making
   IsSoundMaking-add_schema body making gives =
-      let (row, (schema, reads, (_, few, is_row)), is) = Met-Gives (making_of rows (AddSchema body)) (Ok making) gives
+      let (row, (schema, reads, (_, few, is_row)), is) =
+      Met-Gives (making_of rows (Publish (Schema body))) (Ok making) gives
       in
-      let new : SchemaRow =
+      let new : TextRow =
       record { name = schema.name; version = next_version (λ one. one.name) rows.schemas schema.name; body = body } in
       let few_it = few-stand which.Schemas (length rows.schemas + 1) few in
       subst (IsSoundMaking rows) (sym (is ∙ ap (schema_making (published_of rows)) is_row))
@@ -218,11 +220,11 @@ module _ (rows : Rows) (valid : AreValid rows) where
 
   -- a new master
   pub IsSoundMaking-add_master : (name body : List ℕ) (making : Making)
-      → Gives (making_of rows (AddMaster name body)) (Ok making) → IsSoundMaking rows making
+      → Gives (making_of rows (Publish (Master name body))) (Ok making) → IsSoundMaking rows making
   IsSoundMaking-add_master name body making gives =
       let (row, (_, named, (master, reads, (_, few, (_, cells, is_row)))), is) =
-      Met-Gives (making_of rows (AddMaster name body)) (Ok making) gives in
-      let new : MasterRow =
+      Met-Gives (making_of rows (Publish (Master name body))) (Ok making) gives in
+      let new : TextRow =
       record { name = name; version = next_version (λ one. one.name) rows.masters name; body = body } in
       let few_it = few-stand which.Masters (length rows.masters + 1) few in
       subst (IsSoundMaking rows) (sym (is ∙ ap (master_making (published_of rows)) is_row))
@@ -234,10 +236,10 @@ module _ (rows : Rows) (valid : AreValid rows) where
 
   -- a new rulebook
   pub IsSoundMaking-add_rulebook : (name schema : List ℕ) (version : ℕ) (body : List ℕ) (making : Making)
-      → Gives (making_of rows (AddRulebook name schema version body)) (Ok making) → IsSoundMaking rows making
+      → Gives (making_of rows (Publish (Rulebook name schema version body))) (Ok making) → IsSoundMaking rows making
   IsSoundMaking-add_rulebook name schema_name version body making gives =
       let (row, (_, named, (place, found, (schema, stands, (rulebook, reads, (_, few, is_row))))), is) =
-      Met-Gives (making_of rows (AddRulebook name schema_name version body)) (Ok making) gives in
+      Met-Gives (making_of rows (Publish (Rulebook name schema_name version body))) (Ok making) gives in
       let new : RulebookRow = record {
         name = name;
         version = next_version (λ one. one.name) rows.rulebooks name;

@@ -6,12 +6,11 @@ use Rattle.std.specs.Str.{bytes_eq}
 use Rattle.std.proofs.lemmas.List.Elements.{All-get_or, All-head, All-tail, All-weaker}
 use Rattle.desk_words.specs.declared.rows.batch.BatchRow.{BatchRow}
 use Rattle.desk_words.specs.declared.rows.edition.EditionRow.{EditionRow}
-use Rattle.desk_words.specs.declared.rows.master.MasterRow.{MasterRow}
 use Rattle.desk_words.specs.declared.rows.record.RecordRow.{RecordRow}
 use Rattle.desk_words.specs.declared.rows.region.RegionRow.{RegionRow}
 use Rattle.desk_words.specs.declared.rows.rulebook.RulebookRow.{RulebookRow}
-use Rattle.desk_words.specs.declared.rows.schema.SchemaRow.{SchemaRow}
 use Rattle.desk_words.specs.declared.rows.session.SessionRow.{SessionRow}
+use Rattle.desk_words.specs.declared.rows.text.TextRow.{TextRow}
 use Rattle.desk_words.specs.Tables.{Published, Rows, published_of}
 use Rattle.desk_valid.specs.Bindings.{parts_of}
 use Rattle.desk_valid.specs.Readings.{master_at, master_in, rules_at, rules_in, rules_over, schema_at, schema_in}
@@ -148,7 +147,7 @@ module _ (rows : Rows) (valid : AreValid rows) (other : Published) (more : AreMo
       rw (there, here.1, rules_at-more here.0.rulebook good.rulebook) refl
 
   -- a row of each table is good where it was
-  pub IsSchemaRow-more : (place : ℕ) (row : SchemaRow) → place ≤ length rows.schemas
+  pub IsSchemaRow-more : (place : ℕ) (row : TextRow) → place ≤ length rows.schemas
       → IsSchemaRow (published_of rows) place row → IsSchemaRow other place row
   IsSchemaRow-more place row within is = record {
     schema = is.schema;
@@ -158,7 +157,7 @@ module _ (rows : Rows) (valid : AreValid rows) (other : Published) (more : AreMo
         within is.version;
   }
 
-  pub IsMasterRow-more : (place : ℕ) (row : MasterRow) → place ≤ length rows.masters
+  pub IsMasterRow-more : (place : ℕ) (row : TextRow) → place ≤ length rows.masters
       → IsMasterRow (published_of rows) place row → IsMasterRow other place row
   IsMasterRow-more place row within is = record {
     version = IsVersion-more (λ one. one.name) rows.masters other.masters more.masters place row.name row.version
@@ -179,7 +178,7 @@ module _ (rows : Rows) (valid : AreValid rows) (other : Published) (more : AreMo
   AreNamedApart-more : (masters : List ℕ) → All (λ place. place < length rows.masters) masters
       → AreNamedApart (published_of rows) masters → AreNamedApart other masters
   AreNamedApart-more masters within apart i j past before last same =
-      let name : Option MasterRow → Option (List ℕ) = option_map (λ master. master.name) in
+      let name : Option TextRow → Option (List ℕ) = option_map (λ master. master.name) in
       let Within : ℕ → Type 0 = λ place. place < length rows.masters in
       let first = slice_get-begins rows.masters other.masters more.masters (get_or masters i past)
       (All-get_or Within masters i past (omega arith) within) in

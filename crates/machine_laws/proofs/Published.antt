@@ -22,12 +22,11 @@ use Rattle.desk_words.specs.declared.refusal.Kind.TheVariants as kind
 use Rattle.desk_words.specs.declared.reply.Reply.{Reply}
 use Rattle.desk_words.specs.declared.reply.Reply.TheVariants as reply
 use Rattle.desk_words.specs.declared.rows.act.Act.TheVariants as act
-use Rattle.desk_words.specs.declared.rows.master.MasterRow.{MasterRow}
 use Rattle.desk_words.specs.declared.rows.rulebook.RulebookRow.{RulebookRow}
-use Rattle.desk_words.specs.declared.rows.schema.SchemaRow.{SchemaRow}
+use Rattle.desk_words.specs.declared.rows.text.TextRow.{TextRow}
 use Rattle.desk_words.specs.declared.steward_work.StewardWork.{StewardWork}
-use Rattle.desk_words.specs.declared.steward_work.StewardWork.TheVariants.{AddClerk, AddSchema, AddMaster, AddRulebook}
-use Rattle.desk_words.specs.declared.steward_work.StewardWork.TheVariants.{AddEdition, AddRegion, AddDerived}
+use Rattle.desk_words.specs.declared.proposal.Proposal.TheVariants as proposal
+use Rattle.desk_words.specs.declared.steward_work.StewardWork.TheVariants.{AddClerk, Publish, AddRegion, AddDerived}
 use Rattle.desk_words.specs.Changes.{changed, changed_all}
 use Rattle.desk_words.specs.Tables.{Published, Rows, published_of}
 use Rattle.desk_valid.specs.Valid.{AreValid}
@@ -167,14 +166,15 @@ same_made one other is = cc
 module _ (rows : Rows) (valid : AreValid rows) (ticket : Ticket) (answer : Reply) (changes : List Change)
     (next_valid : AreValid (changed_all rows changes)) (name : List ℕ) (version : ℕ) (body : List ℕ) where
   -- a schema stands under what the steward is told
-  schema-published : IsStewardsNew rows ticket (AddSchema body) answer changes
+  schema-published : IsStewardsNew rows ticket (Publish (proposal.Schema body)) answer changes
       → answer ≡ reply.Made (made.Schema name version)
       → HasText (published_of (changed_all rows changes)) Schema name version body
   schema-published new told =
       let (row, (_, reads, (_, few, row_is)), making) =
-      Met-Gives (making_of rows (AddSchema body)) (Ok new.making) new.makes in
+      Met-Gives (making_of rows (Publish (proposal.Schema body))) (Ok new.making) new.makes in
       let pushed : (changed_all rows changes).schemas ≡ rows.schemas ++ row ∷ [] =
-      ap (λ (one : Rows). one.schemas) (after-steward rows valid ticket (AddSchema body) answer changes new)
+      ap (λ (one : Rows). one.schemas)
+      (after-steward rows valid ticket (Publish (proposal.Schema body)) answer changes new)
       ∙ ap (λ (one : Making). (changed rows one.change).schemas) making in
       let (there, stands, made_is) = Met-Gives (kept_made (changed rows (change.Schema row)) act.Schema
       (length rows.schemas)) (Ok new.made) (subst (λ (one : Making).
@@ -185,17 +185,18 @@ module _ (rows : Rows) (valid : AreValid rows) (ticket : Ticket) (answer : Reply
       HasBody-pushed (λ one. one.name) (λ one. one.version) (λ one. one.body) rows.schemas
       (changed_all rows changes).schemas row name version body pushed
       (λ place one at. (next_valid.schemas place one at).version) (cc) (cc)
-      (ap (λ (one : SchemaRow). one.body) row_is)
+      (ap (λ (one : TextRow). one.body) row_is)
 
   -- and so does a master
-  master-published : (named : List ℕ) → IsStewardsNew rows ticket (AddMaster named body) answer changes
+  master-published : (named : List ℕ) → IsStewardsNew rows ticket (Publish (proposal.Master named body)) answer changes
       → answer ≡ reply.Made (made.Master name version)
       → HasText (published_of (changed_all rows changes)) Master name version body
   master-published named new told =
       let (row, (_, proper, (_, reads, (_, few, (_, cells, row_is)))), making) =
-      Met-Gives (making_of rows (AddMaster named body)) (Ok new.making) new.makes in
+      Met-Gives (making_of rows (Publish (proposal.Master named body))) (Ok new.making) new.makes in
       let pushed : (changed_all rows changes).masters ≡ rows.masters ++ row ∷ [] =
-      ap (λ (one : Rows). one.masters) (after-steward rows valid ticket (AddMaster named body) answer changes new)
+      ap (λ (one : Rows). one.masters)
+      (after-steward rows valid ticket (Publish (proposal.Master named body)) answer changes new)
       ∙ ap (λ (one : Making). (changed rows one.change).masters) making in
       let (there, stands, made_is) = Met-Gives (kept_made (changed rows (change.Master row)) act.Master
       (length rows.masters)) (Ok new.made) (subst (λ (one : Making).
@@ -206,19 +207,19 @@ module _ (rows : Rows) (valid : AreValid rows) (ticket : Ticket) (answer : Reply
       HasBody-pushed (λ one. one.name) (λ one. one.version) (λ one. one.body) rows.masters
       (changed_all rows changes).masters row name version body pushed
       (λ place one at. (next_valid.masters place one at).version) (cc) (cc)
-      (ap (λ (one : MasterRow). one.body) row_is)
+      (ap (λ (one : TextRow). one.body) row_is)
 
   -- and a rulebook
   rulebook-published : (named schema : List ℕ) (over : ℕ)
-      → IsStewardsNew rows ticket (AddRulebook named schema over body) answer changes
+      → IsStewardsNew rows ticket (Publish (proposal.Rulebook named schema over body)) answer changes
       → answer ≡ reply.Made (made.Rulebook name version)
       → HasText (published_of (changed_all rows changes)) Rulebook name version body
   rulebook-published named schema over new told =
       let (row, (_, proper, (_, stood, (_, read, (_, reads, (_, few, row_is))))), making) =
-      Met-Gives (making_of rows (AddRulebook named schema over body)) (Ok new.making) new.makes in
+      Met-Gives (making_of rows (Publish (proposal.Rulebook named schema over body))) (Ok new.making) new.makes in
       let pushed : (changed_all rows changes).rulebooks ≡ rows.rulebooks ++ row ∷ [] =
       ap (λ (one : Rows). one.rulebooks)
-      (after-steward rows valid ticket (AddRulebook named schema over body) answer changes new)
+      (after-steward rows valid ticket (Publish (proposal.Rulebook named schema over body)) answer changes new)
       ∙ ap (λ (one : Making). (changed rows one.change).rulebooks) making in
       let (there, stands, made_is) = Met-Gives (kept_made (changed rows (change.Rulebook row)) act.Rulebook
       (length rows.rulebooks)) (Ok new.made) (subst (λ (one : Making).
@@ -254,18 +255,19 @@ module _ (rows : Rows) (valid : AreValid rows) (answer : Reply) (changes : List 
   -- the text of an accepted write stands under what its caller is told
   step-published : (command : Command) → IsStep rows command answer changes → (text : Publication × List ℕ)
       → text_in command ≡ Some text → Stands text
-  step-published (Steward ticket (AddSchema sent)) step text is = Stands-sent (Schema, sent) text is
+  step-published (Steward ticket (Publish (proposal.Schema sent))) step text is = Stands-sent (Schema, sent) text is
       (schema-published rows valid ticket answer changes next_valid name version sent
-      (new-write ticket (AddSchema sent) step))
-  step-published (Steward ticket (AddMaster named sent)) step text is = Stands-sent (Master, sent) text is
+      (new-write ticket (Publish (proposal.Schema sent)) step))
+  step-published (Steward ticket (Publish (proposal.Master named sent))) step text is =
+      Stands-sent (Master, sent) text is
       (master-published rows valid ticket answer changes next_valid name version sent named
-      (new-write ticket (AddMaster named sent) step))
-  step-published (Steward ticket (AddRulebook named schema over sent)) step text is =
+      (new-write ticket (Publish (proposal.Master named sent)) step))
+  step-published (Steward ticket (Publish (proposal.Rulebook named schema over sent))) step text is =
       Stands-sent (Rulebook, sent) text is
       (rulebook-published rows valid ticket answer changes next_valid name version sent named schema over
-      (new-write ticket (AddRulebook named schema over sent) step))
+      (new-write ticket (Publish (proposal.Rulebook named schema over sent)) step))
   step-published (Steward ticket (AddClerk named)) step text is = absurd (cc)
-  step-published (Steward ticket (AddEdition named rulebook masters folded)) step text is = absurd (cc)
+  step-published (Steward ticket (Publish (proposal.Edition named rulebook masters folded))) step text is = absurd (cc)
   step-published (Steward ticket (AddRegion edition over attributes texts)) step text is = absurd (cc)
   step-published (Steward ticket (AddDerived edition over master pairs from)) step text is = absurd (cc)
   step-published (Clerk clerk ticket work) step text is = absurd (cc)

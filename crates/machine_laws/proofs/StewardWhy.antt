@@ -19,8 +19,8 @@ use Rattle.desk_words.specs.declared.refusal.Refusal.TheVariants.{BadText, Unkno
 use Rattle.desk_words.specs.declared.rows.clerk.ClerkRow.{ClerkRow}
 use Rattle.desk_words.specs.declared.rows.edition.EditionRow.{EditionRow}
 use Rattle.desk_words.specs.declared.steward_work.StewardWork.{StewardWork}
-use Rattle.desk_words.specs.declared.steward_work.StewardWork.TheVariants.{AddClerk, AddSchema, AddMaster, AddRulebook}
-use Rattle.desk_words.specs.declared.steward_work.StewardWork.TheVariants.{AddEdition, AddRegion, AddDerived}
+use Rattle.desk_words.specs.declared.proposal.Proposal.TheVariants.{Schema, Master, Rulebook, Edition}
+use Rattle.desk_words.specs.declared.steward_work.StewardWork.TheVariants.{AddClerk, Publish, AddRegion, AddDerived}
 use Rattle.desk_words.specs.Tables.{Published, Rows, published_of}
 use Rattle.desk_valid.specs.Bindings.{binding}
 use Rattle.desk_valid.specs.Readings.{all_of}
@@ -29,7 +29,7 @@ use Rattle.machine_core.specs.Causes.{AreWords, Cause, IsAbout, RefusesBody}
 use Rattle.machine_core.specs.Checked.{each_following, Checked}
 use Rattle.machine_core.specs.Faults.{bind_refusal}
 use Rattle.machine_core.specs.Deriving.{derivation_of}
-use Rattle.machine_core.specs.Finding.{master_named, rulebook_named}
+use Rattle.machine_core.specs.Finding.{rulebook_named, text_named}
 use Rattle.machine_core.specs.Machine.{making_of}
 use Rattle.machine_core.specs.Steward.AddClerk.{clerk_row}
 use Rattle.machine_core.specs.Steward.AddDerived.{derived_region}
@@ -55,15 +55,15 @@ use Rattle.machine_laws.proofs.Wrong.{bind-why, rules-why, schema-why}
 masters-places : (published : Published) (masters : List (List ℕ × ℕ)) (before found : List ℕ)
     → Met (each_following before (another_master published.masters) masters) (Ok found)
     → (places : List ℕ) × (found ≡ before ++ places)
-    × (all_of (map (λ master. master_named published.masters master.0 master.1) masters) ≡ Some places)
+    × (all_of (map (λ master. text_named published.masters master.0 master.1) masters) ≡ Some places)
 masters-places published [] before found is = ([], is ∙ sym (append-nil before), refl)
 masters-places published (master ∷ masters) before found (here, (at, there, (passed, free, is)), left) =
-    let first : master_named published.masters master.0 master.1 ≡ Some here = there ∙ ap Some (sym is) in
+    let first : text_named published.masters master.0 master.1 ≡ Some here = there ∙ ap Some (sym is) in
     let (places, same, all) = masters-places published masters (before ++ here ∷ []) found left in (
       here ∷ places,
       same ∙ append_assoc before (here ∷ []) places,
       ap (option_and_then (λ value. option_map (λ values. value ∷ values)
-          (all_of (map (λ one. master_named published.masters
+          (all_of (map (λ one. text_named published.masters
           one.0 one.1) masters)))) first ∙ ap (option_map (λ values. here ∷ values)) all,
     )
 
@@ -104,16 +104,17 @@ module _ (rows : Rows) (ticket : Ticket) where
       (ticket, one, refl, listed, (bytes_eq-Decides one.name name).0 holds))) (λ _ _.
       causes-bind (limit-why rows command which.Clerks _ (ticket, name, refl, refl)) (λ _ _. causes-done)))
 
-  add_schema-why : (body : List ℕ) → HasCauses (CausesOf (AddSchema body)) (schema_row rows.schemas body)
+  add_schema-why : (body : List ℕ) → HasCauses (CausesOf (Publish (Schema body))) (schema_row rows.schemas body)
   add_schema-why body =
-      let command : Command = Steward ticket (AddSchema body) in
+      let command : Command = Steward ticket (Publish (Schema body)) in
       causes-bind (causes-value_or (λ fault wrong.
       schema-why rows command body fault wrong (λ refusal same. (fault, wrong, same)))) (λ schema reads.
       causes-bind (limit-why rows command which.Schemas _ (ticket, body, refl, refl)) (λ _ _. causes-done))
 
-  add_master-why : (name body : List ℕ) → HasCauses (CausesOf (AddMaster name body)) (master_row rows.masters name body)
+  add_master-why : (name body : List ℕ)
+      → HasCauses (CausesOf (Publish (Master name body))) (master_row rows.masters name body)
   add_master-why name body =
-      let command : Command = Steward ticket (AddMaster name body) in
+      let command : Command = Steward ticket (Publish (Master name body)) in
       causes-bind (name-why command name refl) (λ _ _. causes-bind (causes-value_or (λ fault wrong.
       sheet-why rows command body fault wrong (λ refusal same. (fault, wrong, same)))) (λ master reads.
       causes-bind (limit-why rows command which.Masters _ (ticket, name, body, refl, refl)) (λ _ _.
@@ -121,10 +122,10 @@ module _ (rows : Rows) (ticket : Ticket) where
       (λ _ _. causes-done))))
 
   add_rulebook-why : (name schema : List ℕ) (version : ℕ) (body : List ℕ)
-      → HasCauses (CausesOf (AddRulebook name schema version body))
+      → HasCauses (CausesOf (Publish (Rulebook name schema version body)))
       (rulebook_row (published_of rows) name schema version body)
   add_rulebook-why name schema version body =
-      let command : Command = Steward ticket (AddRulebook name schema version body) in
+      let command : Command = Steward ticket (Publish (Rulebook name schema version body)) in
       causes-bind (name-why command name refl) (λ _ _.
       causes-bind (causes-some_or (λ none. ((schema, version), refl, none))) (λ at found.
       causes-bind causes-certainly (λ over is. causes-bind (causes-value_or (λ fault wrong.
@@ -135,7 +136,7 @@ module _ (rows : Rows) (ticket : Ticket) where
 
   module _ (name : List ℕ) (rulebook : List ℕ × ℕ) (masters : List (List ℕ × ℕ)) (folded : List (List ℕ)) where
     abbrev adding : Command
-    adding = Steward ticket (AddEdition name rulebook masters folded)
+    adding = Steward ticket (Publish (Edition name rulebook masters folded))
 
     -- masters of which one is not there, or stands twice
     masters-why : HasCauses (Cause rows adding) (each_following [] (another_master rows.masters) masters)
@@ -161,7 +162,7 @@ module _ (rows : Rows) (ticket : Ticket) where
 
     -- what an edition names binds so
     bindable-why : (row : EditionRow) → rulebook_named rows.rulebooks rulebook.0 rulebook.1 ≡ Some row.rulebook
-        → all_of (map (λ master. master_named rows.masters master.0 master.1) masters) ≡ Some row.masters
+        → all_of (map (λ master. text_named rows.masters master.0 master.1) masters) ≡ Some row.masters
         → HasCauses (Cause rows adding) (bindable (published_of rows) row)
     bindable-why row names_it places = causes-bind causes-certainly (λ parts are.
         let refuses : (refusal : Refusal) → BindsWrong row.folded parts refusal → RefusesBody rows adding refusal =
@@ -247,11 +248,11 @@ module _ (rows : Rows) (ticket : Ticket) where
   -- each command of the steward
   pub making-why : (work : StewardWork) → HasCauses (CausesOf work) (making_of rows work)
   making-why (AddClerk name) = causes-bind (add_clerk-why name) (λ _ _. causes-done)
-  making-why (AddSchema body) = causes-bind (add_schema-why body) (λ _ _. causes-done)
-  making-why (AddMaster name body) = causes-bind (add_master-why name body) (λ _ _. causes-done)
-  making-why (AddRulebook name schema version body) =
+  making-why (Publish (Schema body)) = causes-bind (add_schema-why body) (λ _ _. causes-done)
+  making-why (Publish (Master name body)) = causes-bind (add_master-why name body) (λ _ _. causes-done)
+  making-why (Publish (Rulebook name schema version body)) =
       causes-bind (add_rulebook-why name schema version body) (λ _ _. causes-done)
-  making-why (AddEdition name rulebook masters folded) =
+  making-why (Publish (Edition name rulebook masters folded)) =
       causes-bind (add_edition-why name rulebook masters folded) (λ _ _. causes-done)
   making-why (AddRegion edition version attributes texts) =
       causes-bind (add_region-why edition version attributes texts) (λ _ _. causes-done)

@@ -18,8 +18,8 @@ use Rattle.desk_words.specs.declared.rows.act.Act.{Act}
 use Rattle.desk_words.specs.declared.rows.act.Act.TheVariants as act
 use Rattle.desk_words.specs.declared.rows.clerk.ClerkRow.{ClerkRow}
 use Rattle.desk_words.specs.declared.steward_work.StewardWork.{StewardWork}
-use Rattle.desk_words.specs.declared.steward_work.StewardWork.TheVariants.{AddClerk, AddSchema, AddMaster, AddRulebook}
-use Rattle.desk_words.specs.declared.steward_work.StewardWork.TheVariants.{AddEdition, AddRegion, AddDerived}
+use Rattle.desk_words.specs.declared.proposal.Proposal.TheVariants.{Schema, Master, Rulebook, Edition}
+use Rattle.desk_words.specs.declared.steward_work.StewardWork.TheVariants.{AddClerk, Publish, AddRegion, AddDerived}
 use Rattle.desk_words.specs.Changes.{changed, put}
 use Rattle.desk_words.specs.Tables.{Published, Rows, new_clerk, published_of}
 use Rattle.machine_core.specs.Checked.{Checked, ◌>>=◌, ◌>>◌, certainly, done, unless, run, and_then, told}
@@ -76,13 +76,14 @@ making-alike : (rows other : Rows) (work : StewardWork) → AreAsToSteward rows 
 making-alike rows other (AddClerk name) alike =
     clerk_making-names rows name ∙ ap (λ names. run (clerk_making names name)) alike.names
     ∙ sym (clerk_making-names other name)
-making-alike rows other (AddSchema body) alike = ap (λ (one : Published). run (schema_row one.schemas body
+making-alike rows other (Publish (Schema body)) alike = ap (λ (one : Published). run (schema_row one.schemas body
     >>= (λ row. done (schema_making one row)))) alike.published
-making-alike rows other (AddMaster name body) alike = ap (λ (one : Published). run (master_row one.masters name body
+making-alike rows other (Publish (Master name body)) alike =
+    ap (λ (one : Published). run (master_row one.masters name body
     >>= (λ row. done (master_making one row)))) alike.published
-making-alike rows other (AddRulebook name schema version body) alike = ap (λ (one : Published).
+making-alike rows other (Publish (Rulebook name schema version body)) alike = ap (λ (one : Published).
     run (rulebook_row one name schema version body >>= (λ row. done (rulebook_making one row)))) alike.published
-making-alike rows other (AddEdition name rulebook masters folded) alike = ap (λ (one : Published).
+making-alike rows other (Publish (Edition name rulebook masters folded)) alike = ap (λ (one : Published).
     run (edition_row one name rulebook masters folded >>= (λ row. done (edition_making one row)))) alike.published
 making-alike rows other (AddRegion edition version attributes texts) alike = ap (λ (one : Published).
     run (region_row one edition version attributes texts >>= (λ row. done (region_making one row)))) alike.published

@@ -12,7 +12,7 @@ use Rattle.desk_words.specs.declared.proposal.Proposal.{Proposal}
 use Rattle.desk_words.specs.declared.reply.Reply.{Reply}
 use Rattle.desk_words.specs.declared.reply.Reply.TheVariants as reply
 use Rattle.desk_words.specs.declared.rows.clerk.Digest.{Digest}
-use Rattle.desk_words.specs.Proposals.{work_of}
+use Rattle.desk_words.specs.declared.steward_work.StewardWork.TheVariants.{Publish}
 use Rattle.desk_words.specs.Tables.{Rows}
 use Rattle.machine_core.specs.Machine.{IsStep}
 use Rattle.machine_core.specs.Own.{own_of}
@@ -20,7 +20,7 @@ use Rattle.machine_core.specs.Own.{own_of}
 -- the steward's next write, which publishes a proposal
 abbrev pub publishing_next : Rows → Digest → Proposal → Command
 publishing_next rows digest proposal =
-    Steward (record { number = (own_of rows 0).row.last + 1; digest = digest }) (work_of proposal)
+    Steward (record { number = (own_of rows 0).row.last + 1; digest = digest }) (Publish proposal)
 
 -- what the steward is told of what was made, by what would be
 abbrev pub made_for : Fits → Made

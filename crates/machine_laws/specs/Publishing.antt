@@ -8,14 +8,15 @@ use Rattle.desk_words.specs.declared.desk_look.Publication.TheVariants.{Schema, 
 use Rattle.desk_words.specs.declared.made.Made.{Made}
 use Rattle.desk_words.specs.declared.made.Made.TheVariants as made
 use Rattle.desk_words.specs.declared.reply.Reply.TheVariants as reply
-use Rattle.desk_words.specs.declared.steward_work.StewardWork.TheVariants.{AddSchema, AddMaster, AddRulebook}
+use Rattle.desk_words.specs.declared.proposal.Proposal.TheVariants as proposal
+use Rattle.desk_words.specs.declared.steward_work.StewardWork.TheVariants.{Publish}
 use Rattle.machine_laws.specs.Events.{Event, is_accepted}
 
 -- the text that a write is to publish, with what it is
 abbrev pub text_in : Command → Option (Publication × List ℕ)
-text_in (Steward ticket (AddSchema body)) = Some (Schema, body)
-text_in (Steward ticket (AddMaster name body)) = Some (Master, body)
-text_in (Steward ticket (AddRulebook name schema version body)) = Some (Rulebook, body)
+text_in (Steward ticket (Publish (proposal.Schema body))) = Some (Schema, body)
+text_in (Steward ticket (Publish (proposal.Master name body))) = Some (Master, body)
+text_in (Steward ticket (Publish (proposal.Rulebook name schema version body))) = Some (Rulebook, body)
 text_in command = None
 
 -- what the steward is told of a text that was published under this name as this version

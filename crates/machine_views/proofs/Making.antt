@@ -7,10 +7,9 @@ use Rattle.desk_words.specs.declared.rows.act.Act.{Act}
 use Rattle.desk_words.specs.declared.rows.act.Act.TheVariants as act
 use Rattle.desk_words.specs.declared.rows.clerk.ClerkRow.{ClerkRow}
 use Rattle.desk_words.specs.declared.rows.edition.EditionRow.{EditionRow}
-use Rattle.desk_words.specs.declared.rows.master.MasterRow.{MasterRow}
 use Rattle.desk_words.specs.declared.rows.region.RegionRow.{RegionRow}
 use Rattle.desk_words.specs.declared.rows.rulebook.RulebookRow.{RulebookRow}
-use Rattle.desk_words.specs.declared.rows.schema.SchemaRow.{SchemaRow}
+use Rattle.desk_words.specs.declared.rows.text.TextRow.{TextRow}
 use Rattle.desk_words.specs.Tables.{Published, Rows, published_of}
 use Rattle.desk_valid.specs.declared.bound.Bound.{Bound}
 use Rattle.desk_valid.specs.Bindings.{bound_at}
@@ -28,11 +27,11 @@ module _ (rows : Rows) (place : ℕ) (name : List ℕ) where
       → Gives (kept_made rows act.Clerk place) (Ok (made.Clerk name))
   clerk-given row stands named = rw stands (ap (λ one. Ok (made.Clerk one)) named)
 
-  pub schema-given : (row : SchemaRow) → slice_get rows.schemas place ≡ Some row → name ≡ row.name
+  pub schema-given : (row : TextRow) → slice_get rows.schemas place ≡ Some row → name ≡ row.name
       → Gives (kept_made rows act.Schema place) (Ok (made.Schema name row.version))
   schema-given row stands named = rw stands (ap (λ one. Ok (made.Schema one row.version)) named)
 
-  pub master-given : (row : MasterRow) → slice_get rows.masters place ≡ Some row → name ≡ row.name
+  pub master-given : (row : TextRow) → slice_get rows.masters place ≡ Some row → name ≡ row.name
       → Gives (kept_made rows act.Master place) (Ok (made.Master name row.version))
   master-given row stands named = rw stands (ap (λ one. Ok (made.Master one row.version)) named)
 

@@ -24,7 +24,7 @@ use Rattle.master_rows.specs.declared.master.Master.{Master}
 use Rattle.machine_core.specs.Checked.{Answer, answer_for, done, Gives, IsFound, some_or}
 use Rattle.machine_core.specs.DeskLook.Region.{region_shown, region_with, row_answers, row_verdict}
 use Rattle.machine_core.specs.DeskLook.Row.{row_shown}
-use Rattle.machine_core.specs.Finding.{edition_named, master_named, numbered}
+use Rattle.machine_core.specs.Finding.{edition_named, numbered, text_named}
 use Rattle.machine_core.specs.Look.Suggest.{regions_of}
 use Rattle.machine_core.proofs.Chains.{Gives-bind}
 use Rattle.machine_core.proofs.Widths.{kit-width}
@@ -118,7 +118,7 @@ module _ (rows : Rows) (valid : AreValid rows) (place : ℕ) (bound : Bound)
 -- a row of a master
 pub row-found : (published : Published) (name : List ℕ) (version number place : ℕ) (master : List ℕ × Master)
     (cells : List (List ℕ)) (shown : List (List ℕ × List ℕ))
-    → IsFound (some_or (master_named published.masters name version) (NoSuch kind.Master)) place
+    → IsFound (some_or (text_named published.masters name version) (NoSuch kind.Master)) place
     → master_at published place ≡ Some master → numbered master.1.grid.rows number ≡ Some cells
     → shown ≡ zip master.1.columns cells
     → IsFound (row_shown published name version number)

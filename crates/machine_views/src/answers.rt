@@ -26,6 +26,13 @@ use machine_workplace::{Cells, Upshot, Workplace};
 use master_index::{Shelf, Shelved, SortedBook};
 use std::alloc::Global;
 
+/// A session that is asked about, with the book of its edition.
+#[derive(Clone, Copy)]
+pub(crate) struct Asked<'a> {
+    pub shelved: &'a Shelved,
+    pub session: &'a SessionRow,
+}
+
 /// The verdict on a session, and the state that is shown of it. The runs stand in the work.
 #[derive(Debug, Drop)]
 pub(crate) struct Answered {

@@ -28,26 +28,12 @@ pub(crate) fn upshot_at(
     if let Some(upshot) = workplace.upshots.known(at, session) {
         return Ok(upshot);
     }
-    let upshot = assess(tables, workplace, session)?;
-    workplace.upshots.note(at, session, upshot);
-    Ok(upshot)
-}
-
-/// What a session comes to, decided now. Its edition comes first on the shelf.
-fn assess(
-    tables: &Tables,
-    workplace: &mut Workplace,
-    session: &SessionRow,
-) -> Result<Upshot, NoMemory>
-    requires ready { IsReady (rows_of tables.now) workplace.old }
-    requires session { IsSessionOf (published_of (rows_of tables.now)) session.now }
-    ensures upshot { IfOk result (IsUpshotOf (published_of (rows_of tables.now)) session.now) }
-    ensures ready { IsReady (rows_of tables.now) workplace.new }
-{
     workplace.hold(tables, session.edition)?;
     let shelved = book_for(tables, &workplace.shelf, session);
     let answered = answer_to(workplace.alloc, &mut workplace.room, shelved, session)?;
-    Ok(answered.upshot())
+    let upshot = answered.upshot();
+    workplace.upshots.note(at, session, upshot);
+    Ok(upshot)
 }
 
 /// How many have each verdict.

@@ -179,11 +179,7 @@ fn put_record(deed: &Deed) -> &RecordRow
     requires { IsSome deed.now.record_row }
     ensures { deed.now.record_row ≡ Some result.now }
 {
-    match &deed.record_row {
-        Some(row) => row,
-        // There is one.
-        None => unreachable!(),
-    }
+    deed.record_row.as_ref().unwrap()
 }
 
 /// The batch that a deed puts after the others.
@@ -191,11 +187,7 @@ fn put_batch(deed: &Deed) -> &BatchRow
     requires { IsSome deed.now.batch }
     ensures { deed.now.batch ≡ Some result.now }
 {
-    match &deed.batch {
-        Some(row) => row,
-        // There is one.
-        None => unreachable!(),
-    }
+    deed.batch.as_ref().unwrap()
 }
 
 /// The reply of a commit, by the record of this number, counted from 1.

@@ -14,7 +14,7 @@ ghost use Rattle.machine_views.specs.Counts.{AreAtMost, AreRowVerdicts};
 
 use crate::counting::Verdicts;
 use desk_base::{Duplicate, List, NoMemory, Steps, Text};
-use desk_words::{Act, EditionRow, Made, MasterRow, RegionRow, RulebookRow, SchemaRow, Tables};
+use desk_words::{Act, EditionRow, Made, RegionRow, RulebookRow, Tables, TextRow};
 use fix_engine::{Verdict, Work, decide};
 use fix_model::{Book, Region, row_state};
 use machine_core::{hold, region_count, shelved};
@@ -53,14 +53,14 @@ pub fn kept_made(
 }
 
 /// A version of a schema's name.
-fn schema_made(row: &SchemaRow) -> Result<Made, NoMemory>
+fn schema_made(row: &TextRow) -> Result<Made, NoMemory>
     ensures { IfOk result (λ made. made ≡ Made.Schema row.now.name row.now.version) }
 {
     Ok(Made::Schema(row.name.copy()?, row.version))
 }
 
 /// A version of a master's name.
-fn master_made(row: &MasterRow) -> Result<Made, NoMemory>
+fn master_made(row: &TextRow) -> Result<Made, NoMemory>
     ensures { IfOk result (λ made. made ≡ Made.Master row.now.name row.now.version) }
 {
     Ok(Made::Master(row.name.copy()?, row.version))

@@ -14,7 +14,7 @@ ghost use Rattle.machine_core.specs.Views.{name_at, named_step, outcome_of, show
 ghost use Rattle.machine_views.specs.Answered.{IsBookFor, IsNamedBook, NamesSteps};
 ghost use Rattle.machine_workplace.specs.Upshots.{IsUpshotOf};
 
-use crate::answers::{answer_to, book_for};
+use crate::answers::{Asked, answer_to, book_for};
 use desk_base::{Duplicate, List, NoMemory, Text};
 use desk_words::{Outcome, SessionRow, Shown, ShownStep, Tables, View, ViewCell};
 use fix_engine::{Verdict, Work};
@@ -59,33 +59,28 @@ pub(crate) fn view_and_upshot(
 {
     workplace.hold(tables, session.edition)?;
     let shelved = book_for(tables, &workplace.shelf, session);
-    view_on(
-        workplace.alloc,
-        tables,
-        shelved,
-        &mut workplace.room,
-        number,
-        session,
-    )
+    let asked = Asked { shelved, session };
+    view_on(workplace.alloc, tables, &asked, &mut workplace.room, number)
 }
 
 /// A session as it is shown, by the book of its edition, and what it came to.
 fn view_on(
     alloc: Global,
     tables: &Tables,
-    shelved: &Shelved,
+    asked: &Asked,
     work: &mut Work,
     number: u32,
-    session: &SessionRow,
 ) -> Result<(View, Upshot), NoMemory>
-    requires book { IsBookFor (published_of (rows_of tables.now)) session.now shelved.now }
-    requires edition { session.now.edition < length tables.now.editions.items }
+    requires book { IsBookFor (published_of (rows_of tables.now)) asked.now.session.now asked.now.shelved.now }
+    requires edition { asked.now.session.now.edition < length tables.now.editions.items }
     requires room { IsFullRoom work.old }
     ensures view { IfOk result
-        (λ made. Gives (view_of (published_of (rows_of tables.now)) number session.now) (Ok made.0)) }
-    ensures upshot { IfOk result (λ made. IsUpshotOf (published_of (rows_of tables.now)) session.now made.1) }
+        (λ made. Gives (view_of (published_of (rows_of tables.now)) number asked.now.session.now) (Ok made.0)) }
+    ensures upshot { IfOk result
+        (λ made. IsUpshotOf (published_of (rows_of tables.now)) asked.now.session.now made.1) }
     ensures room { IsFullRoom work.new }
 {
+    let (shelved, session) = (asked.shelved, asked.session);
     let answered = answer_to(alloc, work, shelved, session)?;
     let cells = view_cells(alloc, shelved, &answered.shown)?;
     let first = named_steps(alloc, shelved, work.first())?;

@@ -1,2 +1,3 @@
 pub mod Upshots
 pub mod Ready
+pub mod Words

@@ -5,14 +5,15 @@ ghost use Rattle.desk_words.specs.Tables.{Rows, rows_of};
 ghost use Rattle.desk_valid.specs.Valid.{AreValid};
 ghost use Rattle.machine_core.specs.Shelves.{IsFirst};
 ghost use Rattle.machine_workplace.specs.Ready.{IsReady};
+ghost use Rattle.machine_workplace.specs.Words.{AreWordsOf};
 ghost use Rattle.master_index.specs.Held.{brought_first, put_first};
 ghost use Rattle.master_index.specs.declared.shelf.Shelved.{Shelved as ShelvedBook};
 
 use crate::upshots::Upshots;
-use desk_base::{MAX_ATTRIBUTES, MAX_RULES, NoMemory};
+use desk_base::{MAX_ATTRIBUTES, MAX_RULES, NoMemory, Text};
 use desk_words::Tables;
 use fix_engine::Work;
-use machine_core::hold;
+use machine_core::{hold, shelved};
 use master_index::Shelf;
 use std::alloc::Global;
 
@@ -56,5 +57,13 @@ impl Workplace {
         ensures succeeds { IsSome (lookup (nat_eq edition) self.old.shelf) → OnErr result ⊥ }
     {
         hold(self.alloc, tables, &mut self.shelf, edition)
+    }
+
+    /// The names of the attributes of an edition whose book stands first on the shelf.
+    pub fn attributes(&self, edition: u32) -> &[Text]
+        requires { IsFirst edition self.now.shelf }
+        ensures { (rows : Rows) → IsReady rows self.now → AreWordsOf rows edition result.now }
+    {
+        shelved(&self.shelf, edition).names.attributes.as_slice()
     }
 }

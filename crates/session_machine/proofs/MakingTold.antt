@@ -11,13 +11,10 @@ use Rattle.desk_words.specs.declared.refusal.Refusal.TheVariants.{NoSuch}
 use Rattle.desk_words.specs.declared.rows.act.Act.{Act}
 use Rattle.desk_words.specs.declared.rows.act.Act.TheVariants as act
 use Rattle.desk_words.specs.declared.rows.clerk.ClerkRow.{ClerkRow}
-use Rattle.desk_words.specs.declared.rows.master.MasterRow.{MasterRow}
 use Rattle.desk_words.specs.declared.rows.region.RegionRow.{RegionRow}
-use Rattle.desk_words.specs.declared.rows.schema.SchemaRow.{SchemaRow}
 use Rattle.desk_words.specs.declared.steward_work.StewardWork.{StewardWork}
-use Rattle.desk_words.specs.declared.steward_work.StewardWork.TheVariants.{AddClerk, AddSchema, AddMaster}
-use Rattle.desk_words.specs.declared.steward_work.StewardWork.TheVariants.{AddRulebook, AddEdition, AddRegion}
-use Rattle.desk_words.specs.declared.steward_work.StewardWork.TheVariants.{AddDerived}
+use Rattle.desk_words.specs.declared.proposal.Proposal.TheVariants.{Schema, Master, Edition}
+use Rattle.desk_words.specs.declared.steward_work.StewardWork.TheVariants.{AddClerk, Publish, AddRegion, AddDerived}
 use Rattle.desk_words.specs.Changes.{changed, put}
 use Rattle.desk_words.specs.Tables.{Rows, published_of}
 use Rattle.desk_valid.specs.declared.bound.Bound.{Bound}
@@ -43,6 +40,7 @@ use Rattle.machine_laws.proofs.Deeds.{put-end}
 use Rattle.session_machine.specs.Made.{AddsRegion, made_by, row_by}
 use Rattle.desk_base.proofs.Lists.{slice_get-end}
 use Rattle.desk_words.specs.declared.rows.edition.EditionRow.{EditionRow}
+use Rattle.desk_words.specs.declared.rows.text.TextRow.{TextRow}
 use Rattle.machine_core.specs.Steward.AddEdition.{edition_row}
 use Rattle.machine_core.proofs.Stopping.{Finds-same}
 
@@ -82,37 +80,39 @@ module _ (rows : Rows) (place : ℕ) (told : List ℕ) where
       (clerk-given (changed rows making.change) end told row stands named))
 
   -- a new version of a schema's name
-  pub schema-made : (body : List ℕ) (row : SchemaRow) → IsFound (schema_row rows.schemas body) row → told ≡ row.name
+  pub schema-made : (body : List ℕ) (row : TextRow) → IsFound (schema_row rows.schemas body) row → told ≡ row.name
       → place ≡ length rows.schemas
-      → Gives (made_by rows (AddSchema body))
+      → Gives (made_by rows (Publish (Schema body)))
       (Ok (made.Schema told row.version, put_so (change.Schema row) act.Schema place))
   schema-made body row found named last =
+      let work : StewardWork = Publish (Schema body) in
       let making : ℕ → Making = λ there. put_so (change.Schema row) act.Schema there in
       let end : ℕ = length rows.schemas in
-      subst (λ there. Gives (made_by rows (AddSchema body)) (Ok (made.Schema told row.version, making there)))
-      (sym last) (made-told rows (AddSchema body) (making end) (made.Schema told row.version) (rw found refl)
+      subst (λ there. Gives (made_by rows work) (Ok (made.Schema told row.version, making there))) (sym last)
+      (made-told rows work (making end) (made.Schema told row.version) (rw found refl)
       (schema-given (changed rows (change.Schema row)) end told row (slice_get-end rows.schemas row) named))
 
   -- and of a master's
-  pub master-made : (name body : List ℕ) (row : MasterRow) → IsFound (master_row rows.masters name body) row
+  pub master-made : (name body : List ℕ) (row : TextRow) → IsFound (master_row rows.masters name body) row
       → told ≡ row.name → place ≡ length rows.masters
-      → Gives (made_by rows (AddMaster name body))
+      → Gives (made_by rows (Publish (Master name body)))
       (Ok (made.Master told row.version, put_so (change.Master row) act.Master place))
   master-made name body row found named last =
+      let work : StewardWork = Publish (Master name body) in
       let making : ℕ → Making = λ there. put_so (change.Master row) act.Master there in
       let end : ℕ = length rows.masters in
-      subst (λ there. Gives (made_by rows (AddMaster name body)) (Ok (made.Master told row.version, making there)))
-      (sym last) (made-told rows (AddMaster name body) (making end) (made.Master told row.version) (rw found refl)
+      subst (λ there. Gives (made_by rows work) (Ok (made.Master told row.version, making there))) (sym last)
+      (made-told rows work (making end) (made.Master told row.version) (rw found refl)
       (master-given (changed rows (change.Master row)) end told row (slice_get-end rows.masters row) named))
 
   -- and of an edition's
   pub edition-made : (name : List ℕ) (rulebook : List ℕ × ℕ) (masters : List (List ℕ × ℕ)) (folded : List (List ℕ))
       (row : EditionRow) → IsFound (edition_row (published_of rows) name rulebook masters folded) row → told ≡ row.name
       → place ≡ length rows.editions
-      → Gives (made_by rows (AddEdition name rulebook masters folded))
+      → Gives (made_by rows (Publish (Edition name rulebook masters folded)))
       (Ok (made.Edition told row.version, put_so (change.Edition row) act.Edition place))
   edition-made name rulebook masters folded row found named last =
-      let work : StewardWork = AddEdition name rulebook masters folded in
+      let work : StewardWork = Publish (Edition name rulebook masters folded) in
       let making : ℕ → Making = λ there. put_so (change.Edition row) act.Edition there in
       let end : ℕ = length rows.editions in
       let row_of : Checked EditionRow = edition_row (published_of rows) name rulebook masters folded in
@@ -174,10 +174,7 @@ module _ (rows : Rows) (work : StewardWork) where
         | AddRegion edition version attributes texts ↦ λ _. refl
         | AddDerived edition version master pairs from ↦ λ _. refl
         | AddClerk name ↦ λ none. absurd none
-        | AddSchema body ↦ λ none. absurd none
-        | AddMaster name body ↦ λ none. absurd none
-        | AddRulebook name schema version body ↦ λ none. absurd none
-        | AddEdition name rulebook masters folded ↦ λ none. absurd none
+        | Publish proposal ↦ λ none. absurd none
       ] adds
 
   -- and nothing, where its row is not found

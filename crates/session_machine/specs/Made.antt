@@ -3,9 +3,7 @@ use Rattle.std.specs.Prelude.{⊤}
 use Rattle.desk_words.specs.declared.made.Made.{Made}
 use Rattle.desk_words.specs.declared.rows.region.RegionRow.{RegionRow}
 use Rattle.desk_words.specs.declared.steward_work.StewardWork.{StewardWork}
-use Rattle.desk_words.specs.declared.steward_work.StewardWork.TheVariants.{AddClerk, AddSchema, AddMaster}
-use Rattle.desk_words.specs.declared.steward_work.StewardWork.TheVariants.{AddRulebook, AddEdition, AddRegion}
-use Rattle.desk_words.specs.declared.steward_work.StewardWork.TheVariants.{AddDerived}
+use Rattle.desk_words.specs.declared.steward_work.StewardWork.TheVariants.{AddClerk, Publish, AddRegion, AddDerived}
 use Rattle.desk_words.specs.Changes.{changed}
 use Rattle.desk_words.specs.Tables.{Published, Rows}
 use Rattle.machine_core.specs.Checked.{Checked, ◌>>=◌, done, never}
@@ -27,10 +25,7 @@ abbrev pub AddsRegion : StewardWork → Type 0
 AddsRegion (AddRegion edition version attributes texts) = ⊤
 AddsRegion (AddDerived edition version master pairs from) = ⊤
 AddsRegion (AddClerk name) = ⊥
-AddsRegion (AddSchema body) = ⊥
-AddsRegion (AddMaster name body) = ⊥
-AddsRegion (AddRulebook name schema version body) = ⊥
-AddsRegion (AddEdition name rulebook masters folded) = ⊥
+AddsRegion (Publish proposal) = ⊥
 
 -- the row of the region that it adds
 abbrev pub row_by : Published → StewardWork → Checked RegionRow
@@ -38,7 +33,4 @@ row_by published (AddRegion edition version attributes texts) = region_row publi
 row_by published (AddDerived edition version master pairs from) =
     derived_region published edition version master pairs from
 row_by published (AddClerk name) = never
-row_by published (AddSchema body) = never
-row_by published (AddMaster name body) = never
-row_by published (AddRulebook name schema version body) = never
-row_by published (AddEdition name rulebook masters folded) = never
+row_by published (Publish proposal) = never

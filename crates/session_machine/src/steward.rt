@@ -41,9 +41,14 @@ pub fn steward_write(
     ensures ready { IsReady totalled.now workplace.new }
 {
     let tables = totalled.tables();
-    match use_of(steward_of(tables), ticket)? {
+    let row = steward_of(tables);
+    match use_of(row, ticket)? {
         Use::Repeated => repeated(tables, workplace),
-        Use::Fresh => fresh(totalled, workplace, ticket, work),
+        Use::Fresh => {
+            let (made, making) = made_by(totalled, workplace, work)?;
+            let changes = making_changes(workplace.alloc, row, ticket, making)?;
+            Ok((Reply::Made(made), changes))
+        }
     }
 }
 
@@ -68,29 +73,6 @@ fn repeated(tables: &Tables, workplace: &mut Workplace) -> Result<(Reply, List<C
     let row = steward_of(tables);
     let made = kept_made(tables, workplace, row.act, row.target)?;
     Ok((Reply::Made(made), List::new(workplace.alloc)))
-}
-
-/// A new write: what it makes, with its reply.
-fn fresh(
-    totalled: &Totalled,
-    workplace: &mut Workplace,
-    ticket: &Ticket,
-    work: &StewardWork,
-) -> Result<(Reply, List<Change>), Stop>
-    requires ready { IsReady totalled.now workplace.old }
-    ensures answers { Answers result (steward_write totalled.now ticket.now work.now Fresh) }
-    ensures booked { (command : CommandOf) → IfOk result
-        (λ made. IsBooked totalled.now command made.0 workplace.new.shelf) }
-    ensures ready { IsReady totalled.now workplace.new }
-{
-    let (made, making) = made_by(totalled, workplace, work)?;
-    let changes = making_changes(
-        workplace.alloc,
-        steward_of(totalled.tables()),
-        ticket,
-        making,
-    )?;
-    Ok((Reply::Made(made), changes))
 }
 
 /// The changes of what was made: the steward's own row stands last.

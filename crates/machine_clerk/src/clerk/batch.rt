@@ -12,13 +12,14 @@ ghost use Rattle.machine_core.specs.Clerk.Batch.{another_column, batch_of, batch
 ghost use Rattle.machine_core.specs.Clerk.Batch.{is_starred, placed, row_session, word_of};
 ghost use Rattle.machine_core.specs.Outcomes.{Finds};
 ghost use Rattle.machine_core.specs.Own.{IsOwn};
+ghost use Rattle.machine_clerk.specs.Headings.{IsHeading};
 
 use crate::clerk::bytes::{bytes_in, within_bytes};
 use crate::clerk::enter::new_session;
 use crate::clerk::opening::open_edition;
 use desk_base::{Grid, List, NoMemory, Str, Text};
 use desk_words::{Act, BatchRow, Refusal, SessionRow, Tables, Which};
-use machine_core::{Column, Deed, Own, Stop, attribute_of, read_master, shelved, within};
+use machine_core::{Column, Deed, Own, Stop, attribute_of, read_master, within};
 use machine_workplace::Workplace;
 use std::alloc::Global;
 
@@ -45,7 +46,7 @@ pub fn batch_deed(
     ensures ready { IsReady (rows_of tables.now) workplace.new }
 {
     let place = open_edition(tables, workplace, edition)?;
-    let attributes = shelved(&workplace.shelf, place).names.attributes.as_slice();
+    let attributes = workplace.attributes(place);
     let sheet = read_master(workplace.alloc, body)?;
     let columns = columns_of(workplace.alloc, attributes, sheet.columns.as_slice())?;
     let heading = Heading {
@@ -119,9 +120,7 @@ fn is_starred(column: &str) -> bool
 fn batch_rows(alloc: Global, own: &Own, heading: &Heading, grid: &Grid) -> Result<Deed, Stop>
     requires sessions { length own.now.sessions < 2 ^ 31 }
     requires batches { length own.now.batches < 2 ^ 31 }
-    requires columns { length heading.now.columns.now ≡ grid.now.columns }
-    requires within { All (λ column. column.attribute < heading.now.width) heading.now.columns.now }
-    requires narrow { heading.now.width ≤ MAX_ATTRIBUTES }
+    requires heading { IsHeading heading.now.width grid.now.columns heading.now.columns.now }
     ensures { Finds result
         (batch_rows own.now heading.now.edition heading.now.width heading.now.columns.now grid.now.rows) }
 {
@@ -140,9 +139,7 @@ fn batch_rows(alloc: Global, own: &Own, heading: &Heading, grid: &Grid) -> Resul
 fn batch_of(alloc: Global, own: &Own, heading: &Heading, grid: &Grid) -> Result<Deed, Stop>
     requires sessions { length own.now.sessions < 2 ^ 31 }
     requires batches { length own.now.batches < 2 ^ 31 }
-    requires columns { length heading.now.columns.now ≡ grid.now.columns }
-    requires within { All (λ column. column.attribute < heading.now.width) heading.now.columns.now }
-    requires narrow { heading.now.width ≤ MAX_ATTRIBUTES }
+    requires heading { IsHeading heading.now.width grid.now.columns heading.now.columns.now }
     requires few { length grid.now.rows ≤ 20000 }
     ensures { Finds result (batch_of own.now heading.now.edition (length grid.now.rows)
         (map (row_session heading.now.edition heading.now.width (length own.now.batches + 1) heading.now.columns.now)
@@ -174,8 +171,7 @@ fn row_sessions(
     first: u32,
 ) -> Result<List<(u32, SessionRow)>, NoMemory>
     requires first { first < 2 ^ 31 }
-    requires columns { length heading.now.columns.now ≡ grid.now.columns }
-    requires within { All (λ column. column.attribute < heading.now.width) heading.now.columns.now }
+    requires heading { IsHeading heading.now.width grid.now.columns heading.now.columns.now }
     ensures sessions { IfOk result (λ sessions. sessions ≡ placed first
         (map (row_session heading.now.edition heading.now.width batch heading.now.columns.now) grid.now.rows)) }
 {
@@ -197,8 +193,7 @@ fn row_session(
 ) -> Result<SessionRow, NoMemory>
     requires row { row < length grid.now.rows }
     requires full { All (λ row. length row ≡ grid.now.columns) grid.now.rows }
-    requires columns { length heading.now.columns.now ≡ grid.now.columns }
-    requires within { All (λ column. column.attribute < heading.now.width) heading.now.columns.now }
+    requires heading { IsHeading heading.now.width grid.now.columns heading.now.columns.now }
     ensures { IfOk result (λ session. session ≡ row_session heading.now.edition heading.now.width batch
         heading.now.columns.now (slice_index_or grid.now.rows row [])) }
 {

@@ -9,10 +9,10 @@ ghost use Rattle.machine_core.specs.Own.{IsOwn};
 
 use crate::clerk::bytes::within_replaced;
 use crate::clerk::enter::type_over;
-use crate::clerk::opening::open_session;
+use crate::clerk::opening::{open_session, with_texts};
 use desk_base::{List, NoMemory, Shared, Str, Text};
 use desk_words::{Act, SessionRow, Tables};
-use machine_core::{Deed, Own, Stop, shelved, typed_cells};
+use machine_core::{Deed, Own, Stop, typed_cells};
 use machine_workplace::Workplace;
 use std::alloc::Global;
 
@@ -51,10 +51,7 @@ pub fn confirm_row(
     ensures ready { IsReady (rows_of tables.now) workplace.new }
 {
     let session = open_session(tables, workplace, own, number)?;
-    let attributes = shelved(&workplace.shelf, session.edition)
-        .names
-        .attributes
-        .as_slice();
+    let attributes = workplace.attributes(session.edition);
     cells_confirmed(workplace.alloc, attributes, session, cells)
 }
 
@@ -88,13 +85,9 @@ fn with_cells(
     let mut confirmed = session.confirmed.to_list(alloc)?;
     confirm_at(&mut confirmed, cells.as_slice());
     type_over(&mut typed, cells);
-    Ok(SessionRow {
-        edition: session.edition,
-        typed: Shared::of(typed)?,
-        confirmed: Shared::of(confirmed)?,
-        stage: session.stage,
-        batch: session.batch,
-    })
+    let typed = Shared::of(typed)?;
+    let confirmed = Shared::of(confirmed)?;
+    Ok(with_texts(session, typed, confirmed))
 }
 
 /// Sets the flags at the places of these cells.

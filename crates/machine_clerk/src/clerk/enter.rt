@@ -11,7 +11,7 @@ use crate::clerk::bytes::{bytes_in, within_bytes};
 use crate::clerk::opening::open_edition;
 use desk_base::{List, NoMemory, Shared, Str, Text, flags_of};
 use desk_words::{Act, SessionRow, Stage, Tables, Which};
-use machine_core::{Deed, Own, Stop, attributes_of, shelved, typed_cells, within};
+use machine_core::{Deed, Own, Stop, attributes_of, typed_cells, within};
 use machine_workplace::Workplace;
 use std::alloc::Global;
 
@@ -52,7 +52,7 @@ fn enter_row(
     ensures ready { IsReady (rows_of tables.now) workplace.new }
 {
     let place = open_edition(tables, workplace, edition)?;
-    let attributes = shelved(&workplace.shelf, place).names.attributes.as_slice();
+    let attributes = workplace.attributes(place);
     entered(workplace.alloc, own, place, attributes, cells, confirmed)
 }
 

@@ -12,7 +12,7 @@ ghost use Rattle.machine_core.specs.Own.{IsOwn};
 ghost use Rattle.machine_core.specs.Shelves.{IsFirst};
 ghost use Rattle.machine_core.specs.Tests.{active_session};
 
-use desk_base::Str;
+use desk_base::{Shared, Str, Text};
 use desk_words::{Kind, Refusal, SessionRow, Tables};
 use machine_core::{Own, Stop, active_session, hold, newest_of};
 use machine_workplace::Workplace;
@@ -37,6 +37,23 @@ pub(crate) fn open_session<'t>(
     let session = active_session(own.sessions(), number)?;
     workplace.hold(tables, session.edition)?;
     Ok(session)
+}
+
+/// A session with other texts and flags.
+pub(crate) fn with_texts(
+    session: &SessionRow,
+    typed: Shared<Text>,
+    confirmed: Shared<bool>,
+) -> SessionRow
+    ensures { result ≡ record session.now { typed = typed; confirmed = confirmed } }
+{
+    SessionRow {
+        edition: session.edition,
+        typed,
+        confirmed,
+        stage: session.stage,
+        batch: session.batch,
+    }
 }
 
 /// The place of the newest version of an edition, counted from 0; its book stands first on the shelf.

@@ -7,10 +7,10 @@ ghost use Rattle.machine_core.specs.Clerk.Withdraw.{cleared, confirmed_place, wi
 ghost use Rattle.machine_core.specs.Outcomes.{Finds};
 ghost use Rattle.machine_core.specs.Own.{IsOwn};
 
-use crate::clerk::opening::open_session;
+use crate::clerk::opening::{open_session, with_texts};
 use desk_base::{Duplicate, List, NoMemory, Shared, Str, Text};
 use desk_words::{Act, Refusal, SessionRow, Tables};
-use machine_core::{Deed, Own, Stop, attribute_of, shelved};
+use machine_core::{Deed, Own, Stop, attribute_of};
 use machine_workplace::Workplace;
 use std::alloc::Global;
 
@@ -46,10 +46,7 @@ fn withdraw_row(
     ensures ready { IsReady (rows_of tables.now) workplace.new }
 {
     let session = open_session(tables, workplace, own, number)?;
-    let attributes = shelved(&workplace.shelf, session.edition)
-        .names
-        .attributes
-        .as_slice();
+    let attributes = workplace.attributes(session.edition);
     let places = confirmed_places(
         workplace.alloc,
         attributes,
@@ -73,13 +70,7 @@ fn without_flags(
     let typed = session.typed.copy()?;
     let mut confirmed = session.confirmed.to_list(alloc)?;
     clear(&mut confirmed, places);
-    Ok(SessionRow {
-        edition: session.edition,
-        typed,
-        confirmed: Shared::of(confirmed)?,
-        stage: session.stage,
-        batch: session.batch,
-    })
+    Ok(with_texts(session, typed, Shared::of(confirmed)?))
 }
 
 /// The places of confirmed attributes with these names.

@@ -8,8 +8,7 @@ use Rattle.desk_words.specs.declared.refusal.Refusal.{Refusal}
 use Rattle.desk_words.specs.declared.reply.Reply.{Reply}
 use Rattle.desk_words.specs.declared.reply.Reply.TheVariants as reply
 use Rattle.desk_words.specs.declared.rows.edition.EditionRow.{EditionRow}
-use Rattle.desk_words.specs.declared.rows.master.MasterRow.{MasterRow}
-use Rattle.desk_words.specs.declared.rows.schema.SchemaRow.{SchemaRow}
+use Rattle.desk_words.specs.declared.rows.text.TextRow.{TextRow}
 use Rattle.desk_words.specs.Tables.{Published}
 use Rattle.desk_valid.specs.Bindings.{binding, parts_of}
 use Rattle.desk_valid.specs.Readings.{schema_at}
@@ -28,14 +27,14 @@ use Rattle.machine_core.specs.Steward.AddRulebook.{rulebook_row}
 use Rattle.machine_core.specs.Steward.AddSchema.{schema_row}
 
 -- the schema that would be made, with the attributes that it reads as
-abbrev pub schema_fits : List SchemaRow → List ℕ → Checked Fits
+abbrev pub schema_fits : List TextRow → List ℕ → Checked Fits
 schema_fits schemas body = do
   row ← schema_row schemas body
   schema ← value_or (schema_of row.body) schema_refusal
   done (fits.Schema row.name row.version schema.attributes)
 
 -- the master that would be made, with its columns and how many rows it has
-abbrev pub master_fits : List MasterRow → List ℕ → List ℕ → Checked Fits
+abbrev pub master_fits : List TextRow → List ℕ → List ℕ → Checked Fits
 master_fits masters name body = do
   row ← master_row masters name body
   outline ← value_or (read_outline row.body) sheet_refusal

@@ -5,9 +5,8 @@ use Rattle.desk_words.specs.declared.published.RuleSummary.{RuleSummary}
 use Rattle.desk_words.specs.declared.refusal.Kind.TheVariants as kind
 use Rattle.desk_words.specs.declared.refusal.Refusal.TheVariants.{NoSuch}
 use Rattle.desk_words.specs.declared.rows.edition.EditionRow.{EditionRow}
-use Rattle.desk_words.specs.declared.rows.master.MasterRow.{MasterRow}
 use Rattle.desk_words.specs.declared.rows.rulebook.RulebookRow.{RulebookRow}
-use Rattle.desk_words.specs.declared.rows.schema.SchemaRow.{SchemaRow}
+use Rattle.desk_words.specs.declared.rows.text.TextRow.{TextRow}
 use Rattle.desk_words.specs.Tables.{Published}
 use Rattle.desk_valid.specs.declared.reading.Rules.{Rules}
 use Rattle.desk_valid.specs.Readings.{all_of, rules_at}
@@ -21,8 +20,8 @@ use Rattle.machine_core.specs.Views.{name_at}
 pub record Makings : Type 0 where
   pub edition : EditionRow
   pub rulebook : RulebookRow
-  pub schema : SchemaRow
-  pub masters : List MasterRow
+  pub schema : TextRow
+  pub masters : List TextRow
 
 -- the rows that the edition at a place was made of
 abbrev pub makings_at : Published → ℕ → Checked Makings

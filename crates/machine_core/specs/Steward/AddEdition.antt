@@ -8,7 +8,7 @@ use Rattle.desk_words.specs.declared.refusal.Kind.TheVariants as kind
 use Rattle.desk_words.specs.declared.refusal.Reader.TheVariants as reader
 use Rattle.desk_words.specs.declared.refusal.Refusal.TheVariants.{BadText, NoSuch, Twice}
 use Rattle.desk_words.specs.declared.rows.edition.EditionRow.{EditionRow}
-use Rattle.desk_words.specs.declared.rows.master.MasterRow.{MasterRow}
+use Rattle.desk_words.specs.declared.rows.text.TextRow.{TextRow}
 use Rattle.desk_words.specs.Tables.{Published}
 use Rattle.desk_valid.specs.declared.parts.Parts.{Parts}
 use Rattle.desk_valid.specs.declared.reading.Rules.{Rules}
@@ -20,12 +20,12 @@ use Rattle.rule_text.specs.Binding.{AreFolded}
 use Rattle.desk_base.specs.Places.{is_listed}
 use Rattle.machine_core.specs.Checked.{Checked, ◌>>=◌, ◌>>◌, done, each_following, value_or, some_or, unless, certainly}
 use Rattle.machine_core.specs.Faults.{bind_refusal}
-use Rattle.machine_core.specs.Finding.{master_named, next_version, rulebook_named}
+use Rattle.machine_core.specs.Finding.{next_version, rulebook_named, text_named}
 use Rattle.machine_core.specs.Limits.{within}
 use Rattle.machine_core.specs.Tests as tests
 
 -- the name of the master at a place
-abbrev pub master_name : List MasterRow → ℕ → List ℕ
+abbrev pub master_name : List TextRow → ℕ → List ℕ
 master_name masters place = (slice_index_or masters place (record { name = []; version = 0; body = [] })).name
 
 -- masters of an edition: they stand, each under another name
@@ -42,9 +42,9 @@ pub record HasParts (published : Published) (row : EditionRow) : Type 0 where
   pub folded : (rules : Rules) → rules_at published row.rulebook ≡ Some rules → AreFolded rules.schema row.folded
 
 -- the place of a version of a master whose name none before it has
-abbrev pub another_master : List MasterRow → List ℕ → List ℕ × ℕ → Checked ℕ
+abbrev pub another_master : List TextRow → List ℕ → List ℕ × ℕ → Checked ℕ
 another_master masters before master = do
-  place ← some_or (master_named masters master.0 master.1) (NoSuch kind.Master)
+  place ← some_or (text_named masters master.0 master.1) (NoSuch kind.Master)
   unless (not (list_any (λ earlier. bytes_eq (master_name masters earlier) master.0) before)) (Twice master.0)
   done place
 

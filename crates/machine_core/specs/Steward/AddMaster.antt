@@ -1,7 +1,7 @@
 -- AddMaster: the next version of a master's name.
 use Rattle.std.specs.Prelude.{ℕ, ◌+◌, List, length}
 use Rattle.desk_words.specs.declared.limit.Which.TheVariants as which
-use Rattle.desk_words.specs.declared.rows.master.MasterRow.{MasterRow}
+use Rattle.desk_words.specs.declared.rows.text.TextRow.{TextRow}
 use Rattle.master_rows.specs.Sheet.{read_sheet}
 use Rattle.machine_core.specs.Checked.{Checked, ◌>>=◌, ◌>>◌, done, value_or}
 use Rattle.machine_core.specs.Faults.{sheet_refusal}
@@ -17,7 +17,7 @@ cells_of sheet = do
   done (cell_count master)
 
 -- the tests, in their order, and the row of the new master
-abbrev pub master_row : List MasterRow → List ℕ → List ℕ → Checked MasterRow
+abbrev pub master_row : List TextRow → List ℕ → List ℕ → Checked TextRow
 master_row masters name body = do
   tests.proper_name name
   master ← value_or (read_sheet body) sheet_refusal

@@ -9,7 +9,7 @@ use Rattle.desk_valid.specs.Readings.{schema_at}
 use Rattle.rule_text.specs.Reading.{read_rules}
 use Rattle.machine_core.specs.Checked.{Checked, ◌>>=◌, ◌>>◌, done, value_or, some_or, certainly}
 use Rattle.machine_core.specs.Faults.{rules_refusal}
-use Rattle.machine_core.specs.Finding.{next_version, schema_named}
+use Rattle.machine_core.specs.Finding.{next_version, text_named}
 use Rattle.machine_core.specs.Limits.{within}
 use Rattle.machine_core.specs.Tests as tests
 
@@ -17,7 +17,7 @@ use Rattle.machine_core.specs.Tests as tests
 abbrev pub rulebook_row : Published → List ℕ → List ℕ → ℕ → List ℕ → Checked RulebookRow
 rulebook_row published name schema_name version body = do
   tests.proper_name name
-  place ← some_or (schema_named published.schemas schema_name version) (NoSuch kind.Schema)
+  place ← some_or (text_named published.schemas schema_name version) (NoSuch kind.Schema)
   schema ← certainly (schema_at published place)
   rulebook ← value_or (read_rules body schema) rules_refusal
   within which.Rulebooks (length published.rulebooks + 1)

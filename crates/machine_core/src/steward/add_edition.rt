@@ -26,7 +26,7 @@ use crate::naming::{name_text, proper_name};
 use crate::stop::Stop;
 use desk_base::{Duplicate, List, MAX_ENTRIES, NoMemory, Str};
 use desk_valid::{Parts, Rules, masters_of, rules_of};
-use desk_words::{EditionRow, Kind, MasterRow, Reader, Refusal, Tables, Which};
+use desk_words::{EditionRow, Kind, Reader, Refusal, Tables, TextRow, Which};
 use rule_text::bind;
 use std::alloc::Global;
 
@@ -140,7 +140,7 @@ fn another_master(tables: &Tables, before: &[u32], master: &(Str, u32)) -> Resul
 }
 
 /// Whether one of the masters at these places has the name.
-fn has_name(masters: &[MasterRow], places: &[u32], name: &str) -> bool
+fn has_name(masters: &[TextRow], places: &[u32], name: &str) -> bool
     ensures { result ≡ list_any (λ place. bytes_eq (master_name masters.now place) name.now) places.now }
 {
     places
@@ -149,7 +149,7 @@ fn has_name(masters: &[MasterRow], places: &[u32], name: &str) -> bool
 }
 
 /// The name of the master at a place; past the last, none.
-pub(crate) fn master_name(masters: &[MasterRow], place: u32) -> &str
+pub(crate) fn master_name(masters: &[TextRow], place: u32) -> &str
     ensures { result.now ≡ master_name masters.now place }
 {
     match masters.get(place as usize) {

@@ -11,18 +11,18 @@ use crate::limits::within;
 use crate::naming::{name_text, proper_name};
 use crate::stop::Stop;
 use desk_base::{Duplicate, List, Str};
-use desk_words::{MasterRow, Which};
+use desk_words::{TextRow, Which};
 use master_rows::Master;
 use std::alloc::Global;
 
 /// The row of a new master, where the masters so far have so many cells.
 pub fn master_row(
     alloc: Global,
-    masters: &[MasterRow],
+    masters: &[TextRow],
     cells: u64,
     name: &Str,
     body: &List<u8>,
-) -> Result<MasterRow, Stop>
+) -> Result<TextRow, Stop>
     requires versions { AreVersions (λ row. row.name) (λ row. row.version) masters.now }
     requires few { length masters.now < 2 ^ 31 }
     requires cells { cells ≡ master_cells masters.now }
@@ -34,7 +34,7 @@ pub fn master_row(
     within(Which::Masters, masters.len() as u64 + 1)?;
     within(Which::MasterCells, cells + brought)?;
     let version = next_version(masters, name.as_str());
-    Ok(MasterRow {
+    Ok(TextRow {
         name: name_text(alloc, name)?,
         version,
         body: body.copy()?,

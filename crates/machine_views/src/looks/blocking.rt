@@ -13,11 +13,11 @@ ghost use Rattle.machine_core.specs.Shelves.{IsFullRoom, bound_on};
 ghost use Rattle.machine_views.specs.Answered.{IsNamedBook, Suits};
 ghost use Rattle.machine_views.specs.Naming.{IsBlockedOf, IsBlockedRuleOf, IsBlockerOf};
 
-use crate::answers::{answer_to, book_for, brought_session};
+use crate::answers::{Asked, answer_to, book_for, brought_session};
 use crate::looks::explaining::not_in_conflict;
 use crate::views::{master_name, name_at, named_attributes};
 use desk_base::{List, NoMemory};
-use desk_words::{Blocked, SessionRow, ShownBlocked, ShownBlocker, ShownRule, Tables};
+use desk_words::{Blocked, ShownBlocked, ShownBlocker, ShownRule, Tables};
 use fix_blockers::{BlockedAttribute, BlockedRule, Blocker, blocked};
 use fix_engine::Work;
 use fix_model::State;
@@ -40,31 +40,20 @@ pub fn blocked_at(
 {
     let session = brought_session(tables, workplace, own, number)?;
     let shelved = book_for(tables, &workplace.shelf, session);
-    blocked_on(
-        workplace.alloc,
-        shelved,
-        &mut workplace.room,
-        number,
-        session,
-    )
+    let asked = Asked { shelved, session };
+    blocked_on(workplace.alloc, &asked, &mut workplace.room, number)
 }
 
 /// What is blocked in a session, by the book of its edition and with its names.
-fn blocked_on(
-    alloc: Global,
-    shelved: &Shelved,
-    work: &mut Work,
-    number: u32,
-    session: &SessionRow,
-) -> Result<Blocked, Stop>
-    requires suits { Suits shelved.now session.now }
+fn blocked_on(alloc: Global, asked: &Asked, work: &mut Work, number: u32) -> Result<Blocked, Stop>
+    requires suits { Suits asked.now.shelved.now asked.now.session.now }
     requires room { IsFullRoom work.old }
-    ensures blocked { Answers result (blocked_on number (bound_on shelved.now) session.now) }
+    ensures blocked { Answers result (blocked_on number (bound_on asked.now.shelved.now) asked.now.session.now) }
     ensures room { IsFullRoom work.new }
 {
-    let answered = answer_to(alloc, work, shelved, session)?;
+    let answered = answer_to(alloc, work, asked.shelved, asked.session)?;
     not_in_conflict(answered.verdict)?;
-    Ok(blocked_in(alloc, shelved, number, &answered.shown)?)
+    Ok(blocked_in(alloc, asked.shelved, number, &answered.shown)?)
 }
 
 /// What is blocked at a state where nothing fires, by names.

@@ -15,10 +15,10 @@ ghost use Rattle.machine_core.specs.Shelves.{IsFullRoom, bound_on};
 ghost use Rattle.machine_views.specs.Answered.{IsNamedBook, Suits};
 ghost use Rattle.machine_views.specs.Naming.{IsChoiceOf, IsDissentOf};
 
-use crate::answers::{answer_to, book_for, brought_session};
+use crate::answers::{Asked, answer_to, book_for, brought_session};
 use crate::views::{name_at, shown_step};
 use desk_base::{Duplicate, List, NoMemory};
-use desk_words::{Choices, SessionRow, ShownChoice, ShownDissent, ShownEnd, Tables};
+use desk_words::{Choices, ShownChoice, ShownDissent, ShownEnd, Tables};
 use fix_choices::{Choice, Dissent, Ending, choices, dissent};
 use fix_engine::{Verdict, Work};
 use fix_model::State;
@@ -41,29 +41,24 @@ pub fn choices_at(
 {
     let session = brought_session(tables, workplace, own, number)?;
     let shelved = book_for(tables, &workplace.shelf, session);
-    Ok(choices_on(
-        workplace.alloc,
-        shelved,
-        &mut workplace.room,
-        number,
-        session,
-    )?)
+    let asked = Asked { shelved, session };
+    Ok(choices_on(workplace.alloc, &asked, &mut workplace.room, number)?)
 }
 
 /// What a session is about, by the book of its edition and with its names.
 fn choices_on(
     alloc: Global,
-    shelved: &Shelved,
+    asked: &Asked,
     work: &mut Work,
     number: u32,
-    session: &SessionRow,
 ) -> Result<Choices, NoMemory>
-    requires suits { Suits shelved.now session.now }
+    requires suits { Suits asked.now.shelved.now asked.now.session.now }
     requires room { IsFullRoom work.old }
     ensures choices { IfOk result
-        (λ told. Gives (choices_on number (bound_on shelved.now) session.now) (Ok told)) }
+        (λ told. Gives (choices_on number (bound_on asked.now.shelved.now) asked.now.session.now) (Ok told)) }
     ensures room { IsFullRoom work.new }
 {
+    let (shelved, session) = (asked.shelved, asked.session);
     let answered = answer_to(alloc, work, shelved, session)?;
     let state = state_of(alloc, session)?;
     let choices = choices_in(alloc, shelved, work, &state, answered.verdict)?;

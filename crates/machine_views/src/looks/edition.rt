@@ -1,7 +1,7 @@
 //! Edition: a version of an edition, with what it was made of.
 ghost use Rattle.std.specs.Prelude.{◌≡◌, ◌<◌, All, IfOk, List, Some, length, map, slice_get};
 ghost use Rattle.std.specs.List.{AllByRecursion};
-ghost use Rattle.desk_words.specs.declared.rows.master.MasterRow.{MasterRow as RowOf};
+ghost use Rattle.desk_words.specs.declared.rows.text.TextRow.{TextRow as RowOf};
 ghost use Rattle.desk_words.specs.Tables.{published_of, rows_of};
 ghost use Rattle.desk_valid.specs.Readings.{all_of};
 ghost use Rattle.desk_valid.specs.Valid.{AreValid};
@@ -16,7 +16,7 @@ use crate::looks::published::version_of;
 use crate::views::{name_at, named_attributes};
 use desk_base::{Duplicate, List, NoMemory, Str, Text};
 use desk_valid::rules_of;
-use desk_words::{EditionSheet, Kind, MasterRow, RuleSummary, Tables};
+use desk_words::{EditionSheet, Kind, RuleSummary, Tables, TextRow};
 use machine_core::{Stop, named, region_count};
 use rule_text::RuleLine;
 use std::alloc::Global;
@@ -63,7 +63,7 @@ fn sheet_at(alloc: Global, tables: &Tables, place: u32) -> Result<EditionSheet, 
 /// The masters at these places, counted from 0, by their names and versions.
 fn masters_at(
     alloc: Global,
-    masters: &[MasterRow],
+    masters: &[TextRow],
     places: &[u32],
 ) -> Result<List<(Text, u32)>, NoMemory>
     requires { All (λ place. place < length masters.now) places.now }

@@ -15,11 +15,11 @@ ghost use Rattle.machine_core.specs.Shelves.{IsFullRoom, bound_on};
 ghost use Rattle.machine_views.specs.Answered.{IsNamedBook, Suits};
 ghost use Rattle.machine_views.specs.Looking.{IsSessionFirst, RepliesTo};
 
-use crate::answers::{answer_to, book_for, brought_session};
+use crate::answers::{Asked, answer_to, book_for, brought_session};
 use crate::looks::replied;
 use crate::views::{name_at, named_attributes, named_steps};
 use desk_base::{Duplicate, NoMemory, Str};
-use desk_words::{Explained, Refusal, Reply, SessionRow, Tables};
+use desk_words::{Explained, Refusal, Reply, Tables};
 use fix_engine::{Verdict, Work};
 use fix_explain::{reason, uses};
 use fix_model::{Cell, State, Step};
@@ -45,8 +45,9 @@ pub fn explain(
 {
     let session = brought_session(tables, workplace, own, number)?;
     let shelved = book_for(tables, &workplace.shelf, session);
+    let asked = Asked { shelved, session };
     replied(
-        explained_on(workplace.alloc, shelved, &mut workplace.room, session, word),
+        explained_on(workplace.alloc, &asked, &mut workplace.room, word),
         Reply::Explained,
     )
 }
@@ -54,16 +55,16 @@ pub fn explain(
 /// Why the attribute with this word is fixed in a session, by the book of its edition and with its names.
 fn explained_on(
     alloc: Global,
-    shelved: &Shelved,
+    asked: &Asked,
     work: &mut Work,
-    session: &SessionRow,
     word: &Str,
 ) -> Result<Explained, Stop>
-    requires suits { Suits shelved.now session.now }
+    requires suits { Suits asked.now.shelved.now asked.now.session.now }
     requires room { IsFullRoom work.old }
-    ensures explained { Answers result (explained_on (bound_on shelved.now) session.now word.now) }
+    ensures explained { Answers result (explained_on (bound_on asked.now.shelved.now) asked.now.session.now word.now) }
     ensures room { IsFullRoom work.new }
 {
+    let (shelved, session) = (asked.shelved, asked.session);
     let attribute = attribute_of(shelved.names.attributes.as_slice(), word)? as u16;
     let answered = answer_to(alloc, work, shelved, session)?;
     not_in_conflict(answered.verdict)?;

@@ -14,7 +14,7 @@ ghost use Rattle.machine_core.specs.Views.{name_at};
 ghost use Rattle.machine_views.specs.Answered.{IsBookFor};
 ghost use Rattle.machine_views.specs.Looking.{IsSessionFirst, IsSuggestedFor};
 
-use crate::answers::book_for;
+use crate::answers::{Asked, book_for};
 use crate::views::{name_at, named_attributes};
 use desk_base::{Duplicate, List, NoMemory, Steps, Text};
 use desk_words::{RegionRow, SessionRow, Suggested, Tables};
@@ -43,55 +43,48 @@ pub fn suggestion_of(
     let session = active_session(own.sessions(), number)?;
     workplace.hold(tables, session.edition)?;
     let shelved = book_for(tables, &workplace.shelf, session);
-    Ok(suggestion_on(
-        workplace.alloc,
-        tables,
-        shelved,
-        &mut workplace.room,
-        session,
-    )?)
+    let asked = Asked { shelved, session };
+    Ok(suggestion_on(workplace.alloc, tables, &asked, &mut workplace.room)?)
 }
 
 /// What is suggested for a session, by the book of its edition and with its names.
 fn suggestion_on(
     alloc: Global,
     tables: &Tables,
-    shelved: &Shelved,
+    asked: &Asked,
     work: &mut Work,
-    session: &SessionRow,
 ) -> Result<Suggested, NoMemory>
     requires valid { AreValid (rows_of tables.now) }
-    requires book { IsBookFor (published_of (rows_of tables.now)) session.now shelved.now }
+    requires book { IsBookFor (published_of (rows_of tables.now)) asked.now.session.now asked.now.shelved.now }
     requires room { IsFullRoom work.old }
     ensures suggestion { IfOk result
-        (IsSuggestedFor (published_of (rows_of tables.now)) session.now (bound_on shelved.now)) }
+        (IsSuggestedFor (published_of (rows_of tables.now)) asked.now.session.now (bound_on asked.now.shelved.now)) }
     ensures room { IsFullRoom work.new }
 {
-    let suggestion = advice_on(alloc, tables, shelved, work, session)?;
-    named_suggestion(alloc, shelved.names.attributes.as_slice(), suggestion)
+    let suggestion = advice_on(alloc, tables, asked, work)?;
+    named_suggestion(alloc, asked.shelved.names.attributes.as_slice(), suggestion)
 }
 
 /// What is suggested for a session, by the book of its edition.
 fn advice_on(
     alloc: Global,
     tables: &Tables,
-    shelved: &Shelved,
+    asked: &Asked,
     work: &mut Work,
-    session: &SessionRow,
 ) -> Result<Suggestion, NoMemory>
     requires valid { AreValid (rows_of tables.now) }
-    requires book { IsBookFor (published_of (rows_of tables.now)) session.now shelved.now }
+    requires book { IsBookFor (published_of (rows_of tables.now)) asked.now.session.now asked.now.shelved.now }
     requires room { IsFullRoom work.old }
-    ensures suggestion { IfOk result (IsSuggestion shelved.now.book (state_of session.now)
-        (regions_of tables.now.regions.items session.now.edition)) }
+    ensures suggestion { IfOk result (IsSuggestion asked.now.shelved.now.book (state_of asked.now.session.now)
+        (regions_of tables.now.regions.items asked.now.session.now.edition)) }
     ensures room { IsFullRoom work.new }
 {
-    let regions = regions_of(alloc, tables.regions.as_slice(), session.edition)?;
-    let mut state = state_of(alloc, session)?;
+    let regions = regions_of(alloc, tables.regions.as_slice(), asked.session.edition)?;
+    let mut state = state_of(alloc, asked.session)?;
     suggest(
         alloc,
         work,
-        &shelved.book,
+        &asked.shelved.book,
         &mut state,
         regions.as_slice(),
         &mut Steps::new(()),

@@ -4,7 +4,7 @@ ghost use Rattle.machine_core.specs.Outcomes.{Answers};
 ghost use Rattle.session_machine.specs.Made.{made_by};
 
 use crate::steward::regions::add_region;
-use crate::steward::versions::{add_clerk, add_edition, add_master, add_rulebook, add_schema};
+use crate::steward::versions::{add_clerk, publish};
 use desk_totals::Totalled;
 use desk_words::{Made, StewardWork};
 use machine_core::{Making, Stop};
@@ -23,22 +23,9 @@ pub fn made_by(
     let tables = totalled.tables();
     match work {
         StewardWork::AddClerk { name } => add_clerk(workplace.alloc, tables, name),
-        StewardWork::AddSchema { body } => add_schema(workplace.alloc, tables, body),
-        StewardWork::AddMaster { name, body } => {
-            add_master(workplace.alloc, tables, totalled.master_cells(), name, body)
+        StewardWork::Publish(proposal) => {
+            publish(workplace.alloc, tables, totalled.master_cells(), proposal)
         }
-        StewardWork::AddRulebook {
-            name,
-            schema,
-            version,
-            body,
-        } => add_rulebook(workplace.alloc, tables, name, schema, *version, body),
-        StewardWork::AddEdition {
-            name,
-            rulebook,
-            masters,
-            folded,
-        } => add_edition(workplace.alloc, tables, name, rulebook, masters, folded),
         StewardWork::AddRegion { .. } | StewardWork::AddDerived { .. } => {
             add_region(tables, workplace, work)
         }

@@ -1,6 +1,7 @@
 //! A clerk, and new versions of schemas, masters, rulebooks and editions, each with its reply.
 ghost use Rattle.std.specs.Prelude.{◌≡◌, ◌<◌, ◌^◌};
 ghost use Rattle.desk_words.specs.Tables.{rows_of};
+ghost use Rattle.desk_words.specs.declared.proposal.Proposal.{Proposal};
 ghost use Rattle.desk_words.specs.declared.steward_work.StewardWork.{StewardWork};
 ghost use Rattle.desk_valid.specs.Tallies.{master_cells};
 ghost use Rattle.desk_valid.specs.Valid.{AreValid};
@@ -8,7 +9,7 @@ ghost use Rattle.machine_core.specs.Outcomes.{Answers};
 ghost use Rattle.session_machine.specs.Made.{made_by};
 
 use desk_base::{Duplicate, List, Str};
-use desk_words::{Act, Change, Made, Tables};
+use desk_words::{Act, Change, Made, Proposal, Tables};
 use machine_core::{Making, Stop, clerk_row, edition_row, master_row, rulebook_row, schema_row};
 use std::alloc::Global;
 
@@ -32,10 +33,40 @@ pub fn add_clerk(alloc: Global, tables: &Tables, name: &Str) -> Result<(Made, Ma
     ))
 }
 
+/// The next version of what is proposed, where the masters so far have so many cells.
+pub fn publish(
+    alloc: Global,
+    tables: &Tables,
+    cells: u64,
+    proposal: &Proposal,
+) -> Result<(Made, Making), Stop>
+    requires valid { AreValid (rows_of tables.now) }
+    requires cells { cells ≡ master_cells tables.now.masters.items }
+    requires few { cells < 2 ^ 63 }
+    ensures { Answers result (made_by (rows_of tables.now) (StewardWork.Publish proposal.now)) }
+{
+    match proposal {
+        Proposal::Schema { body } => add_schema(alloc, tables, body),
+        Proposal::Master { name, body } => add_master(alloc, tables, cells, name, body),
+        Proposal::Rulebook {
+            name,
+            schema,
+            version,
+            body,
+        } => add_rulebook(alloc, tables, name, schema, *version, body),
+        Proposal::Edition {
+            name,
+            rulebook,
+            masters,
+            folded,
+        } => add_edition(alloc, tables, name, rulebook, masters, folded),
+    }
+}
+
 /// The next version of a schema's name.
-pub fn add_schema(alloc: Global, tables: &Tables, body: &List<u8>) -> Result<(Made, Making), Stop>
+fn add_schema(alloc: Global, tables: &Tables, body: &List<u8>) -> Result<(Made, Making), Stop>
     requires { AreValid (rows_of tables.now) }
-    ensures { Answers result (made_by (rows_of tables.now) (StewardWork.AddSchema body.now)) }
+    ensures { Answers result (made_by (rows_of tables.now) (StewardWork.Publish (Proposal.Schema body.now))) }
 {
     let rows = tables.schemas.as_slice();
     let row = schema_row(alloc, rows, body)?;
@@ -53,7 +84,7 @@ pub fn add_schema(alloc: Global, tables: &Tables, body: &List<u8>) -> Result<(Ma
 }
 
 /// The next version of a master's name, where the masters so far have so many cells.
-pub fn add_master(
+fn add_master(
     alloc: Global,
     tables: &Tables,
     cells: u64,
@@ -63,7 +94,7 @@ pub fn add_master(
     requires valid { AreValid (rows_of tables.now) }
     requires cells { cells ≡ master_cells tables.now.masters.items }
     requires few { cells < 2 ^ 63 }
-    ensures { Answers result (made_by (rows_of tables.now) (StewardWork.AddMaster name.now body.now)) }
+    ensures { Answers result (made_by (rows_of tables.now) (StewardWork.Publish (Proposal.Master name.now body.now))) }
 {
     let rows = tables.masters.as_slice();
     let row = master_row(alloc, rows, cells, name, body)?;
@@ -81,7 +112,7 @@ pub fn add_master(
 }
 
 /// The next version of a rulebook's name, over a version of a schema.
-pub fn add_rulebook(
+fn add_rulebook(
     alloc: Global,
     tables: &Tables,
     name: &Str,
@@ -91,7 +122,7 @@ pub fn add_rulebook(
 ) -> Result<(Made, Making), Stop>
     requires { AreValid (rows_of tables.now) }
     ensures { Answers result
-        (made_by (rows_of tables.now) (StewardWork.AddRulebook name.now schema.now version body.now)) }
+        (made_by (rows_of tables.now) (StewardWork.Publish (Proposal.Rulebook name.now schema.now version body.now))) }
 {
     let row = rulebook_row(alloc, tables, name, schema, version, body)?;
     let made = Made::Rulebook(row.name.copy()?, row.version);
@@ -108,7 +139,7 @@ pub fn add_rulebook(
 }
 
 /// The next version of an edition's name, of a version of a rulebook and versions of masters.
-pub fn add_edition(
+fn add_edition(
     alloc: Global,
     tables: &Tables,
     name: &Str,
@@ -118,7 +149,7 @@ pub fn add_edition(
 ) -> Result<(Made, Making), Stop>
     requires { AreValid (rows_of tables.now) }
     ensures { Answers result (made_by (rows_of tables.now)
-        (StewardWork.AddEdition name.now rulebook.now masters.now folded.now)) }
+        (StewardWork.Publish (Proposal.Edition name.now rulebook.now masters.now folded.now))) }
 {
     let (masters, folded) = (masters.as_slice(), folded.as_slice());
     let row = edition_row(alloc, tables, name, rulebook, masters, folded)?;

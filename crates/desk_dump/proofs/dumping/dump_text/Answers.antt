@@ -3,8 +3,8 @@ use Rattle.std.specs.Prelude.{codes}
 use Rattle.serde_json.specs.Data.{Data}
 use Rattle.desk_words.specs.Tables.{lists_of, rows_of}
 use Rattle.desk_dump.specs.Dumps.{first_line, lines_of, lists_lines, table_lines}
-use Rattle.desk_dump.specs.Fields.{batch_fields, clerk_fields, edition_fields, master_fields, record_fields}
-use Rattle.desk_dump.specs.Fields.{region_fields, rulebook_fields, schema_fields, session_fields}
+use Rattle.desk_dump.specs.Fields.{batch_fields, clerk_fields, edition_fields, record_fields, region_fields}
+use Rattle.desk_dump.specs.Fields.{rulebook_fields, session_fields, text_fields}
 use Rattle.desk_dump.specs.Writing.{with_lines}
 use Rattle.desk_dump.proofs.Whole.{more-written, nothing, whole-written}
 use Rattle.desk_dump.proofs.dumping.dump_text.Goals as goal
@@ -13,8 +13,8 @@ pub returns : goal.returns
 returns c =
     let tables = c.args.tables.now in
     let clerks : List Data = table_lines (codes "clerk") clerk_fields tables.clerks.items in
-    let schemas : List Data = table_lines (codes "schema") schema_fields tables.schemas.items in
-    let masters : List Data = table_lines (codes "master") master_fields tables.masters.items in
+    let schemas : List Data = table_lines (codes "schema") text_fields tables.schemas.items in
+    let masters : List Data = table_lines (codes "master") text_fields tables.masters.items in
     let rulebooks : List Data = table_lines (codes "rulebook") rulebook_fields tables.rulebooks.items in
     let editions : List Data = table_lines (codes "edition") edition_fields tables.editions.items in
     let regions : List Data = table_lines (codes "region") region_fields tables.regions.items in

@@ -7,7 +7,7 @@ use Rattle.desk_dump.proofs.dumping.write_lists.Goals as goal
 
 pub lists-preserved : goal.lists-preserved
 lists-preserved g c =
-    let kind = g.R.DumpRow.kind in
+    let kind = c.args.kind.now in
     let fields = g.R.DumpRow.fields in
     let rooms = c.args.lists.now.items in
     let room = c.list-item.result in

@@ -1,7 +1,7 @@
 use Rattle.std.proofs.Common.{refl}
 use Rattle.desk_words.specs.declared.fits.Fits.{Fits}
 use Rattle.desk_words.specs.declared.fits.Fits.TheVariants as fits
-use Rattle.desk_words.specs.declared.rows.master.MasterRow.{MasterRow}
+use Rattle.desk_words.specs.declared.rows.text.TextRow.{TextRow}
 use Rattle.master_rows.specs.Outline.{read_outline}
 use Rattle.machine_core.specs.Checked.{Checked, done, value_or, ◌>>=◌}
 use Rattle.machine_core.specs.Faults.{sheet_refusal}
@@ -10,7 +10,7 @@ use Rattle.machine_core.proofs.Stopping.{Finds-stopped, Finds-then}
 use Rattle.machine_core.proofs.checking.master_fits.Goals as goal
 
 -- what is told of a row, once it is made
-abbrev told_of : MasterRow → Checked Fits
+abbrev told_of : TextRow → Checked Fits
 told_of row = value_or (read_outline row.body) sheet_refusal
     >>= (λ outline. done (fits.Master row.name row.version outline.columns outline.rows))
 

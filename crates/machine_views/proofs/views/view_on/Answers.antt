@@ -9,8 +9,8 @@ use Rattle.machine_views.proofs.views.view_on.Goals as goal
 
 pub named_steps-requires-clause-steps : goal.named_steps-requires-clause-steps
 named_steps-requires-clause-steps c =
-    let kit = c.args.shelved.now.book in
-    let state = state_of c.args.session.now in
+    let kit = c.args.asked.now.shelved.now.book in
+    let state = state_of c.args.asked.now.session.now in
     let work = c.answer_to.new.work in
     let is = c.in_ok-answered.ensures.answered.answer in
     rw c.first.ensures
@@ -20,14 +20,14 @@ pub outcome_of-requires-clause-steps : goal.outcome_of-requires-clause-steps
 outcome_of-requires-clause-steps c =
     let work = c.answer_to.new.work in
     rw c.second.ensures
-    (told-steps c.args.shelved.now.book (state_of c.args.session.now) work.first work.second
+    (told-steps c.args.asked.now.shelved.now.book (state_of c.args.asked.now.session.now) work.first work.second
     c.in_ok-answered.answered.verdict c.in_ok-answered.ensures.answered.answer)
 
 pub returns-clause-view : goal.returns-clause-view
 returns-clause-view c =
     let published = published_of (rows_of c.args.tables.now) in
-    let session = c.args.session.now in
-    let bound = bound_on c.args.shelved.now in
+    let session = c.args.asked.now.session.now in
+    let bound = bound_on c.args.asked.now.shelved.now in
     let answer = answer_in c.answer_to.new.work c.in_ok-answered.answered.verdict in
     let row = c.index-as_slice-session.result in
     let edition = edition-read published session.edition row c.requires.edition
@@ -42,6 +42,6 @@ returns-clause-view c =
 
 pub returns-clause-upshot : goal.returns-clause-upshot
 returns-clause-upshot c =
-    upshot-given (published_of (rows_of c.args.tables.now)) c.args.session.now c.args.shelved.now
+    upshot-given (published_of (rows_of c.args.tables.now)) c.args.asked.now.session.now c.args.asked.now.shelved.now
     c.answer_to.new.work c.in_ok-answered.answered c.upshot.result c.requires.book.bound
     c.in_ok-answered.ensures.answered c.upshot.ensures.verdict c.upshot.ensures.cells c.upshot.ensures.few

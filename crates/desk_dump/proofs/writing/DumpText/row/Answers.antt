@@ -7,7 +7,7 @@ use Rattle.desk_dump.proofs.writing.DumpText.row.Goals as goal
 
 pub returns : goal.returns
 returns g c =
-    let kind = g.R.DumpRow.kind in
+    let kind = c.args.kind.now in
     let fields = g.R.DumpRow.fields c.args.row.now in
     let value : Data = row_line kind c.args.places.now fields in
     let tokens : c.end_array.new.self ≡ with_value [] value = rw (
@@ -15,7 +15,6 @@ returns g c =
       c.in_ok-write_fields.ensures,
       c.in_ok-write_numbers.ensures,
       c.in_ok-string.ensures,
-      c.kind.ensures,
       c.in_ok-begin_array.ensures,
       c.in_ok-out.ensures,
     ) (row_line-tokens kind c.args.places.now fields) in

@@ -15,7 +15,7 @@ typed_bytes-requires-clause-narrow c =
     let sessions = rw (c.sessions.ensures, c.batches.ensures) at c.in_ok-sessions.ensures.sessions in
     narrow-sessions c.args.heading.now.edition c.args.heading.now.width (length c.args.own.now.batches + 1)
     (length c.args.own.now.sessions) c.args.heading.now.columns.now c.args.grid.now.rows (c.as_slice.ensures ∙ sessions)
-    c.requires.narrow
+    c.requires.heading.narrow
 
 pub returns-in_err-within_bytes : goal.returns-in_err-within_bytes
 returns-in_err-within_bytes c =

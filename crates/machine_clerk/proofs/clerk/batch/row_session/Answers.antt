@@ -6,6 +6,7 @@ use Rattle.machine_clerk.proofs.clerk.batch.row_session.Goals as goal
 pub new_session-requires : goal.new_session-requires
 new_session-requires c =
     let columns = c.args.heading.now.columns.now in
-    let whole = whole-row columns c.args.grid.now.rows c.args.row c.requires.full c.requires.row c.requires.columns in
+    let whole = whole-row columns c.args.grid.now.rows c.args.row c.requires.full c.requires.row
+    c.requires.heading.whole in
     rw c.in_ok-cells.ensures (cells-within c.args.heading.now.width columns
-    (slice_index_or c.args.grid.now.rows c.args.row []) whole c.requires.within)
+    (slice_index_or c.args.grid.now.rows c.args.row []) whole c.requires.heading.within)

@@ -4,30 +4,30 @@ use Rattle.std.proofs.lemmas.Result.{IfOk-weaker}
 use Rattle.desk_words.specs.Tables.{published_of, rows_of}
 use Rattle.machine_core.specs.Clerk.Confirm.{cells_confirmed}
 use Rattle.machine_core.specs.Outcomes.{Finds}
-use Rattle.machine_core.specs.Shelves.{bound_on}
 use Rattle.machine_core.proofs.Widths.{confirmed-width, typed-width}
 use Rattle.machine_clerk.proofs.FewTexts.{few-texts}
 use Rattle.machine_clerk.proofs.clerk.confirm.confirm_row.Goals as goal
 
 pub cells_confirmed-requires-clause-typed : goal.cells_confirmed-requires-clause-typed
 cells_confirmed-requires-clause-typed c =
-    let published = published_of (rows_of c.args.tables.now) in
-    rw c.as_slice-attributes.ensures (typed-width published c.args.own.now.batches c.in_ok-session.session.now
-    (bound_on c.shelved.result.now) (c.shelved.ensures.bound published c.in_ok-session.ensures.ready.held)
-    c.in_ok-session.ensures.good)
+    let rows = rows_of c.args.tables.now in
+    let named = c.attributes-attributes.ensures rows c.in_ok-session.ensures.ready in
+    rw named.are (typed-width (published_of rows) c.args.own.now.batches c.in_ok-session.session.now
+    named.bound
+    named.is_bound c.in_ok-session.ensures.good)
 
 pub cells_confirmed-requires-clause-confirmed : goal.cells_confirmed-requires-clause-confirmed
 cells_confirmed-requires-clause-confirmed c =
-    let published = published_of (rows_of c.args.tables.now) in
-    rw c.as_slice-attributes.ensures (confirmed-width published c.args.own.now.batches c.in_ok-session.session.now
-    (bound_on c.shelved.result.now) (c.shelved.ensures.bound published c.in_ok-session.ensures.ready.held)
-    c.in_ok-session.ensures.good)
+    let rows = rows_of c.args.tables.now in
+    let named = c.attributes-attributes.ensures rows c.in_ok-session.ensures.ready in
+    rw named.are (confirmed-width (published_of rows) c.args.own.now.batches c.in_ok-session.session.now
+    named.bound named.is_bound c.in_ok-session.ensures.good)
 
 pub returns-clause-finds : goal.returns-clause-finds
 returns-clause-finds c =
-    let bound = c.shelved.ensures.bound (published_of (rows_of c.args.tables.now)) c.in_ok-session.ensures.ready.held in
-    rw (c.in_ok-session.ensures.finds, bound) (subst (λ words. Finds c.cells_confirmed.result (cells_confirmed words
-    c.in_ok-session.session.now c.args.cells.now)) c.as_slice-attributes.ensures c.cells_confirmed.ensures.finds)
+    let named = c.attributes-attributes.ensures (rows_of c.args.tables.now) c.in_ok-session.ensures.ready in
+    rw (c.in_ok-session.ensures.finds, named.is_bound) (subst (λ words. Finds c.cells_confirmed.result (cells_confirmed
+    words c.in_ok-session.session.now c.args.cells.now)) named.are c.cells_confirmed.ensures.finds)
 
 pub returns-clause-within : goal.returns-clause-within
 returns-clause-within c =

@@ -49,15 +49,15 @@ module _ (number : ℕ) (bound : Bound) (session : SessionRow) (answer : Answer)
 
 pub returns-in_err-not_in_conflict-clause-blocked : goal.returns-in_err-not_in_conflict-clause-blocked
 returns-in_err-not_in_conflict-clause-blocked c =
-    blocked-conflicting c.args.number (bound_on c.args.shelved.now) c.args.session.now
+    blocked-conflicting c.args.number (bound_on c.args.asked.now.shelved.now) c.args.asked.now.session.now
     (answer_in c.answer_to.new.work c.in_ok-answered.answered.verdict) c.in_ok-answered.ensures.answered.answer
     c.in_err-not_in_conflict.field-0.0 c.from_residual-in_err-not_in_conflict.result
     c.from_residual-in_err-not_in_conflict.ensures.1 c.in_err-not_in_conflict.ensures.finds
 
 pub returns-clause-blocked : goal.returns-clause-blocked
 returns-clause-blocked c =
-    let bound = bound_on c.args.shelved.now in
-    let session = c.args.session.now in
+    let bound = bound_on c.args.asked.now.shelved.now in
+    let session = c.args.asked.now.session.now in
     let state = state_of session in
     let verdict = c.in_ok-answered.answered.verdict in
     let answer = answer_in c.answer_to.new.work verdict in

@@ -10,8 +10,8 @@ use Rattle.machine_views.proofs.looks.choosing.choices_on.Goals as goal
 
 pub returns-clause-choices : goal.returns-clause-choices
 returns-clause-choices c =
-    let session = c.args.session.now in
-    let bound = bound_on c.args.shelved.now in
+    let session = c.args.asked.now.session.now in
+    let bound = bound_on c.args.asked.now.shelved.now in
     let state = state_of session in
     let work = c.answer_to.new.work in
     let verdict = c.in_ok-answered.answered.verdict in

@@ -1,6 +1,6 @@
 use Rattle.std.proofs.Common.{◌<◌, ◌∙◌, ◌++◌, [], ◌∷◌, List, ℕ, arith, length, refl, sym}
 use Rattle.std.proofs.lemmas.List.{map-append}
-use Rattle.desk_words.specs.declared.rows.master.MasterRow.{MasterRow}
+use Rattle.desk_words.specs.declared.rows.text.TextRow.{TextRow}
 use Rattle.machine_core.proofs.ReadRows.{row-stands}
 use Rattle.machine_views.proofs.Publishing.{standing-more}
 use Rattle.machine_views.proofs.looks.edition.masters_at.Goals as goal
@@ -14,7 +14,7 @@ places-preserved c =
     let count = c.places.place-index in
     let inside : count < length places = omega (arith, c.places-test.true) in
     let stands = row-stands refl (c.requires count 0 inside) c.index-masters-place.is in
-    let image : MasterRow → List ℕ × ℕ = λ one. (one.name, one.version) in (
+    let image : TextRow → List ℕ × ℕ = λ one. (one.name, one.version) in (
       rows ++ row ∷ [],
       standing-more masters places count 0 row rows inside stands are,
       c.in_ok-push.ensures.pushed ∙ (λ i. named i ++ c.in_ok-version_of.ensures i ∷ [])

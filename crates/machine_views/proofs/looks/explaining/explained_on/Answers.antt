@@ -62,7 +62,8 @@ module _ (bound : Bound) (session : SessionRow) (word : List ℕ) (attribute : �
         → Answers result (explained_on bound session word)
     explained-unfixed stop result stops finds =
         let end : State = end_of bound.kit (state_of session) answer.first in
-        let ends = subst (λ (one : State). Finds {A = Unit {0}} (Err stop) (fixed_at one attribute word)) is-end finds in
+        let ends = subst (λ (one : State). Finds {A = Unit {0}} (Err stop) (fixed_at one attribute word)) is-end finds
+        in
         explained-answered result (rw fix (Answers-stopped (fixed_at end attribute word)
         (λ _. explanation_of bound (state_of session) answer.first attribute) stop result stops
         (Answers-found (fixed_at end attribute word) (Err stop) ends)))
@@ -84,7 +85,8 @@ module _ (bound : Bound) (session : SessionRow) (word : List ℕ) (attribute : �
 pub returns-in_err-not_in_conflict-clause-explained : goal.returns-in_err-not_in_conflict-clause-explained
 returns-in_err-not_in_conflict-clause-explained c =
     let found = rw c.as_slice.ensures at c.in_ok-attribute.ensures.finds in
-    explained-conflicting (bound_on c.args.shelved.now) c.args.session.now c.args.word.now c.in_ok-attribute.field-0
+    explained-conflicting (bound_on c.args.asked.now.shelved.now) c.args.asked.now.session.now c.args.word.now
+    c.in_ok-attribute.field-0
     (answer_in c.answer_to.new.work c.in_ok-answered.answered.verdict) found c.in_ok-answered.ensures.answered.answer
     c.in_err-not_in_conflict.field-0.0 c.from_residual-in_err-not_in_conflict.result
     c.from_residual-in_err-not_in_conflict.ensures.1 c.in_err-not_in_conflict.ensures.finds
@@ -92,7 +94,8 @@ returns-in_err-not_in_conflict-clause-explained c =
 pub returns-in_err-fixed_at-clause-explained : goal.returns-in_err-fixed_at-clause-explained
 returns-in_err-fixed_at-clause-explained c =
     let found = rw c.as_slice.ensures at c.in_ok-attribute.ensures.finds in
-    explained-unfixed (bound_on c.args.shelved.now) c.args.session.now c.args.word.now c.in_ok-attribute.field-0
+    explained-unfixed (bound_on c.args.asked.now.shelved.now) c.args.asked.now.session.now c.args.word.now
+    c.in_ok-attribute.field-0
     (answer_in c.answer_to.new.work c.in_ok-answered.answered.verdict) found c.in_ok-answered.ensures.answered.answer
     c.in_ok-answered.answered.shown c.in_ok-answered.ensures.answered.shown c.in_ok-not_in_conflict.ensures.finds
     c.in_err-fixed_at.field-0.0 c.from_residual-in_err-fixed_at.result c.from_residual-in_err-fixed_at.ensures.1
@@ -101,7 +104,8 @@ returns-in_err-fixed_at-clause-explained c =
 pub explanation_of-requires-clause-fixed : goal.explanation_of-requires-clause-fixed
 explanation_of-requires-clause-fixed c =
     let found = rw c.as_slice.ensures at c.in_ok-attribute.ensures.finds in
-    rw (c.in_ok-state.ensures.state, c.first.ensures) (end-fixed (bound_on c.args.shelved.now) c.args.session.now
+    rw (c.in_ok-state.ensures.state, c.first.ensures) (end-fixed (bound_on c.args.asked.now.shelved.now)
+    c.args.asked.now.session.now
     c.args.word.now c.in_ok-attribute.field-0 (answer_in c.answer_to.new.work c.in_ok-answered.answered.verdict) found
     c.in_ok-answered.ensures.answered.answer c.in_ok-answered.answered.shown c.in_ok-answered.ensures.answered.shown
     c.in_ok-not_in_conflict.ensures.finds c.in_ok-fixed_at.ensures)
@@ -110,12 +114,12 @@ pub explanation_of-requires-clause-run : goal.explanation_of-requires-clause-run
 explanation_of-requires-clause-run c =
     let work = c.answer_to.new.work in
     rw (c.in_ok-state.ensures.state, c.first.ensures)
-    (first-run c.args.shelved.now.book (state_of c.args.session.now) work.first work.second
+    (first-run c.args.asked.now.shelved.now.book (state_of c.args.asked.now.session.now) work.first work.second
     c.in_ok-answered.answered.verdict c.in_ok-answered.ensures.answered.answer)
 
 pub explanation_of-requires-clause-fits : goal.explanation_of-requires-clause-fits
 explanation_of-requires-clause-fits c =
-    c.in_ok-state.ensures.fits c.args.shelved.now.book c.requires.suits.typed
+    c.in_ok-state.ensures.fits c.args.asked.now.shelved.now.book c.requires.suits.typed
 
 pub explanation_of-requires-clause-attribute : goal.explanation_of-requires-clause-attribute
 explanation_of-requires-clause-attribute c =
@@ -129,7 +133,8 @@ explanation_of-requires-clause-attribute c =
 pub returns-clause-explained : goal.returns-clause-explained
 returns-clause-explained c =
     let found = rw c.as_slice.ensures at c.in_ok-attribute.ensures.finds in
-    explained-fixed (bound_on c.args.shelved.now) c.args.session.now c.args.word.now c.in_ok-attribute.field-0
+    explained-fixed (bound_on c.args.asked.now.shelved.now) c.args.asked.now.session.now c.args.word.now
+    c.in_ok-attribute.field-0
     (answer_in c.answer_to.new.work c.in_ok-answered.answered.verdict) found c.in_ok-answered.ensures.answered.answer
     c.in_ok-answered.answered.shown c.in_ok-answered.ensures.answered.shown c.in_ok-not_in_conflict.ensures.finds
     c.in_ok-fixed_at.ensures (Ok c.in_ok-explanation_of.field-0)

@@ -9,21 +9,9 @@ pub returns-in-AddClerk-clause-answers : goal.returns-in-AddClerk-clause-answers
 returns-in-AddClerk-clause-answers c =
     Answers-made c.add_clerk.result c.tables-tables.ensures.tables c.in-AddClerk.is c.add_clerk.ensures
 
-pub returns-in-AddSchema-clause-answers : goal.returns-in-AddSchema-clause-answers
-returns-in-AddSchema-clause-answers c =
-    Answers-made c.add_schema.result c.tables-tables.ensures.tables c.in-AddSchema.is c.add_schema.ensures
-
-pub returns-in-AddMaster-clause-answers : goal.returns-in-AddMaster-clause-answers
-returns-in-AddMaster-clause-answers c =
-    Answers-made c.add_master.result c.tables-tables.ensures.tables c.in-AddMaster.is c.add_master.ensures
-
-pub returns-in-AddRulebook-clause-answers : goal.returns-in-AddRulebook-clause-answers
-returns-in-AddRulebook-clause-answers c =
-    Answers-made c.add_rulebook.result c.tables-tables.ensures.tables c.in-AddRulebook.is c.add_rulebook.ensures
-
-pub returns-in-AddEdition-clause-answers : goal.returns-in-AddEdition-clause-answers
-returns-in-AddEdition-clause-answers c =
-    Answers-made c.add_edition.result c.tables-tables.ensures.tables c.in-AddEdition.is c.add_edition.ensures
+pub returns-in-Publish-clause-answers : goal.returns-in-Publish-clause-answers
+returns-in-Publish-clause-answers c =
+    Answers-made c.publish.result c.tables-tables.ensures.tables c.in-Publish.is c.publish.ensures
 
 pub returns-in-AddRegion-clause-answers : goal.returns-in-AddRegion-clause-answers
 returns-in-AddRegion-clause-answers c =

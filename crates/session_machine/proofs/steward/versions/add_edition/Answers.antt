@@ -3,7 +3,8 @@ use Rattle.desk_words.specs.declared.change.Change.TheVariants as change
 use Rattle.desk_words.specs.declared.rows.act.Act.TheVariants as act
 use Rattle.desk_words.specs.declared.rows.edition.EditionRow.{EditionRow}
 use Rattle.desk_words.specs.declared.steward_work.StewardWork.{StewardWork}
-use Rattle.desk_words.specs.declared.steward_work.StewardWork.TheVariants.{AddEdition}
+use Rattle.desk_words.specs.declared.proposal.Proposal.TheVariants.{Edition}
+use Rattle.desk_words.specs.declared.steward_work.StewardWork.TheVariants.{Publish}
 use Rattle.desk_words.specs.Tables.{Rows, published_of, rows_of}
 use Rattle.machine_core.specs.Checked.{Checked}
 use Rattle.machine_core.specs.Steward.AddEdition.{edition_row}
@@ -15,7 +16,8 @@ use Rattle.session_machine.proofs.steward.versions.add_edition.Goals as goal
 pub returns-in_err-row : goal.returns-in_err-row
 returns-in_err-row c =
     let rows : Rows = rows_of c.args.tables.now in
-    let work : StewardWork = AddEdition c.args.name.now c.args.rulebook.now c.args.masters.now c.args.folded.now in
+    let work : StewardWork =
+    Publish (Edition c.args.name.now c.args.rulebook.now c.args.masters.now c.args.folded.now) in
     let found : Checked EditionRow =
     edition_row (published_of rows) c.args.name.now c.args.rulebook.now c.args.masters.now c.args.folded.now in
     let stop = c.in_err-row.field-0.0 in
