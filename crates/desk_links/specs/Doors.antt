@@ -1,6 +1,8 @@
 -- What a clause sees of a door's links, and what a door's calls do to what it tells.
 use Rattle.std.specs.Prelude.{◌≡◌, ℕ, ◌+◌, ◌-◌, ◌^◌, ◌<◌, List, [], ◌∷◌, ◌++◌, Option, Some, None, ⊤}
 use Rattle.desk_base.specs.declared.both.Both.{Both}
+use Rattle.desk_base.specs.declared.sink.Sink.{Ghosts as SinkTells}
+use Rattle.desk_base.specs.declared.source.Source.{Ghosts as SourceTells}
 
 -- a link: the bytes that it has left and those that were written to it, where it tells them, and its counts of faults
 pub record LinkSeen : Type 0 where
@@ -10,14 +12,25 @@ pub record LinkSeen : Type 0 where
   pub write_faults : ℕ
 
 -- a link as its two ends tell it
-abbrev pub link_seen : {S W : Type 0} → (S → Option (List ℕ)) → (S → ℕ) → (W → Option (List ℕ)) → (W → ℕ)
-    → Both S W → LinkSeen
-link_seen left read_faults written write_faults link = record {
-  left = left link.source;
-  written = written link.sink;
-  read_faults = read_faults link.source;
-  write_faults = write_faults link.sink;
+abbrev pub link_seen : {S W : Type 0} → SourceTells S → SinkTells W → Both S W → LinkSeen
+link_seen source sink link = record {
+  left = source.left link.source;
+  written = sink.written link.sink;
+  read_faults = source.read_faults link.source;
+  write_faults = sink.write_faults link.sink;
 }
+
+-- how often a door has failed, which stands at 2^64 - 1; the port and how many links were handed out since it was
+-- bound, none before it is bound; how many were handed out and are not closed; and, where it tells these, the bytes of
+-- each link that is still to come, the next one first, and the links that were closed, the first one first, as each
+-- was then
+pub record Door : Type 0 where
+  pub faults : ℕ
+  pub port : Option ℕ
+  pub accepted : Option ℕ
+  pub live : ℕ
+  pub waiting : Option (List (List ℕ))
+  pub closed : Option (List LinkSeen)
 
 -- one more link may be handed out: the door is bound, and the count of its links is below its last value
 abbrev pub MayAccept : Option ℕ → Type 0

@@ -1,9 +1,9 @@
 -- A door in memory: what a clause sees of it and of its links.
-use Rattle.std.specs.Prelude.{◌≡◌, ℕ, List, [], Option, Some}
+use Rattle.std.specs.Prelude.{◌≡◌, ℕ, List, [], Option, Some, map}
 use Rattle.desk_base.specs.Counts.{risen}
 use Rattle.desk_base.specs.declared.both.Both.{Both}
 use Rattle.desk_base.specs.Memory.{Schedule, SinkSeen, SourceSeen, after_call}
-use Rattle.desk_links.specs.Doors.{LinkSeen}
+use Rattle.desk_links.specs.Doors.{Door, LinkSeen}
 
 -- the links that are still to come and those that were closed, the first one first; the port and how many links were
 -- handed out, once the door is bound, and how many are open; which calls fail, and how often one has failed
@@ -23,6 +23,17 @@ told_link link = record {
   written = Some link.sink.written;
   read_faults = link.source.faults;
   write_faults = link.sink.faults;
+}
+
+-- what such a door tells, the links that are still to come and those that were closed among it
+abbrev pub told_door : DoorSeen → Door
+told_door door = record {
+  faults = door.faults;
+  port = door.port;
+  accepted = door.accepted;
+  live = door.live;
+  waiting = Some (map (λ link. link.source.left) door.links);
+  closed = Some (map told_link door.closed);
 }
 
 -- no end of the link was called

@@ -4,7 +4,7 @@ ghost use Rattle.std.specs.Prelude.{IsOk, IfOk, OnOk, OnErr, IsErr};
 ghost use Rattle.desk_base.specs.Faults.{CountsFaults, HasCause};
 ghost use Rattle.desk_base.specs.Memory.{NextFails, after_call};
 ghost use Rattle.desk_links.specs.Doors.{Closes, HandsOut, IsFresh, MayAccept, one_more};
-ghost use Rattle.desk_links.specs.Memory.{IsUncalled, told_link, with_fault};
+ghost use Rattle.desk_links.specs.Memory.{IsUncalled, told_door, with_fault};
 
 use crate::door::Listener;
 use desk_base::{
@@ -102,17 +102,7 @@ impl Listener for MemDoor {
 
     type Sink = MemSink;
 
-    ghost door_faults = { λ d. d.faults };
-
-    ghost port = { λ d. d.port };
-
-    ghost accepted = { λ d. d.accepted };
-
-    ghost live = { λ d. d.live };
-
-    ghost waiting = { λ d. Some (map (λ link. link.source.left) d.links) };
-
-    ghost closed = { λ d. Some (map told_link d.closed) };
+    ghost seen = { told_door };
 
     ghost offers = { λ d count. (d.schedule.fails ≡ []) × (count ≤ length d.links) };
 

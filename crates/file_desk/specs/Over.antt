@@ -1,6 +1,6 @@
 -- What the programs leave over the files at a path.
 use Rattle.std.specs.Prelude.{ℕ, List, Option, None}
-use Rattle.desk_links.specs.Doors.{LinkSeen}
+use Rattle.desk_links.specs.Doors.{Door, LinkSeen}
 use Rattle.desk_words.specs.Tables.{Rows}
 use Rattle.keeper_core.specs.Keeping.{Uses}
 use Rattle.sqlite_wal.specs.Recovery.{Image}
@@ -8,7 +8,6 @@ use Rattle.keeper_sqlite.specs.Files.{StandFor}
 use Rattle.http_desk.specs.declared.front.Page.{Page}
 use Rattle.fixdesk_run.specs.Run.{Leaves}
 use Rattle.fixdesk_run.specs.Serve.{LeavesServed}
-use Rattle.fixdesk_run.specs.Site.{Door}
 use Rattle.fixdesk_run.specs.World.{World}
 use Rattle.web_run.specs.Serving.{LeavesPages}
 use Rattle.restore_run.specs.declared.ended.RestoreEnd.{RestoreEnd}

@@ -3,7 +3,6 @@ ghost use Rattle.std.specs.Prelude.{◌≡◌, map, string_bytes, None};
 ghost use Rattle.sqlite.specs.WalFiles.{image_at};
 ghost use Rattle.keeper_sqlite.specs.Files.{told_opened};
 ghost use Rattle.fixdesk_run.specs.Link.{link_with};
-ghost use Rattle.fixdesk_run.specs.Site.{door_seen};
 ghost use Rattle.file_desk.specs.Over.{PagesOver};
 
 use crate::ended::Run;
@@ -26,13 +25,12 @@ pub fn pages_over<'r, S: Start, P: PageTable, L: Listener, W: Sink>(
     door: &mut L,
     out: &mut W,
 ) -> Run<'r, S>
-    requires { L.live door.old ≡ 0 }
-    ensures serves { let link = link_with W.written W.write_faults None 0 in
-        let seen = door_seen L.door_faults L.port L.accepted L.live L.waiting L.closed in
-        PagesOver (image_at S.Start) (P.listed pages.now) (map string_bytes words.now) (link out.old) (seen door.old)
-        (link out.new) (seen door.new) (told_opened result.1.tables)
+    requires { (L.seen door.old).live ≡ 0 }
+    ensures serves { let link = link_with W.Sink None 0 in
+        PagesOver (image_at S.Start) (P.listed pages.now) (map string_bytes words.now) (link out.old) (L.seen door.old)
+        (link out.new) (L.seen door.new) (told_opened result.1.tables)
         (record { calls = result.1.calls; faults = result.1.faults }) result.0 }
-    ensures idle { L.live door.new ≡ 0 }
+    ensures idle { (L.seen door.new).live ≡ 0 }
 {
     let mut keeper = FileKeeper::over(rt, path, start);
     let code = serve_pages::<Desk, _, _, _, _>(rt.alloc(), words, pages, &mut keeper, door, out);

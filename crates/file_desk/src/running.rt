@@ -23,7 +23,7 @@ pub fn run_over<'r, S: Start, R: Source, W: Sink>(
     link: &mut Both<R, W>,
     said: &mut Said,
 ) -> Run<'r, S>
-    ensures { let seen = link_seen R.left R.read_faults W.written W.write_faults in
+    ensures { let seen = link_seen R.Source W.Sink in
         RunsOver (image_at S.Start) (map string_bytes words.now) (seen link.old) (seen link.new)
         (told_opened result.1.tables)
         (record { calls = result.1.calls; faults = result.1.faults }) result.0 }

@@ -1,7 +1,8 @@
 //! The program `fixdesk_restore`: standard streams, and the tables in `desk.db`, handed to `file_desk`.
 #![tactic(auto)]
 
-use desk_base::{Both, StdSink, StdSource, Str};
+use desk_base::Str;
+use desk_links::std_link;
 use file_desk::{Called, Program, end_restoring, is_there, restore_over, start};
 use restore_run::RestoreEnd;
 use sqlite::Unknown;
@@ -26,10 +27,7 @@ impl Program for FixdeskRestore {
             called.tell_restoring(rt, RestoreEnd::Standing, None);
             return RestoreEnd::Standing.code();
         }
-        let mut link = Both {
-            source: StdSource::new(rt.stdin()),
-            sink: StdSink::new(rt.stdout()),
-        };
+        let mut link = std_link(rt);
         let restoring = restore_over(rt, called.words, path, Unknown, &mut link);
         end_restoring(rt, called, restoring)
     }

@@ -5,7 +5,6 @@ pub mod OneSummary
 pub mod Openings
 pub mod Reports
 pub mod Served
-pub mod Sights
 pub mod Summaries
 pub mod Turns
 pub mod Visiting

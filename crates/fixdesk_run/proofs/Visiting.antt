@@ -5,13 +5,13 @@ use Rattle.std.specs.Int.{from_bool}
 use Rattle.std.specs.Prelude.{Option, Some, None}
 use Rattle.std.proofs.lemmas.List.{append_assoc, length_push, map-append}
 use Rattle.std.proofs.lemmas.List.Sums.{sum_by-append}
-use Rattle.desk_links.specs.Doors.{Closes, HandsOut, IsFresh, LinkSeen, one_more}
+use Rattle.desk_links.specs.Doors.{Closes, Door, HandsOut, IsFresh, LinkSeen, one_more}
 use Rattle.http_desk.specs.declared.serving.Ended.{Ended}
 use Rattle.http_desk.specs.Answered.{all_most_calls, all_sure_calls, failures}
 use Rattle.http_desk.specs.Fronts.{Front}
 use Rattle.http_desk.specs.Scenes.{RoseBy, RoseWithin}
 use Rattle.http_desk.proofs.Progress.{RoseBy-then, RoseWithin-then, not_raised}
-use Rattle.fixdesk_run.specs.Site.{Door, PassesAll, PassesCount, PassesOne}
+use Rattle.fixdesk_run.specs.Site.{PassesAll, PassesCount, PassesOne}
 use Rattle.fixdesk_run.specs.Standing.{Standing}
 use Rattle.fixdesk_run.specs.Visits.{AreClosed, AreFirst, AreHandedOut, AreVisits, IsVisit, Visit, early_count}
 use Rattle.fixdesk_run.specs.Visits.{is_early, last_standing, most_visits, refusals, sure_visits, with_bytes}

@@ -2,15 +2,16 @@
 use Rattle.std.specs.Prelude.{◌≡◌, ℕ, List, Option}
 use Rattle.std.specs.Io.KnownBytes.{Appends}
 use Rattle.desk_base.specs.Faults.{AppendsPart, Rose}
+use Rattle.desk_base.specs.declared.sink.Sink.{Ghosts as SinkTells}
 use Rattle.desk_links.specs.Doors.{LinkSeen}
 
 -- a link with this left to read, so many failed reads, and an output as it tells it
-abbrev pub link_with : {W : Type 0} → (W → Option (List ℕ)) → (W → ℕ) → Option (List ℕ) → ℕ → W → LinkSeen
-link_with written write_faults left read_faults out = record {
+abbrev pub link_with : {W : Type 0} → SinkTells W → Option (List ℕ) → ℕ → W → LinkSeen
+link_with of_sink left read_faults out = record {
   left = left;
-  written = written out;
+  written = of_sink.written out;
   read_faults = read_faults;
-  write_faults = write_faults out;
+  write_faults = of_sink.write_faults out;
 }
 
 -- nothing was read

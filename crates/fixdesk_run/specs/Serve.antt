@@ -1,6 +1,7 @@
 -- What a call of `serve` leaves of the output, the keeper and the door, and when no fault comes.
 use Rattle.std.specs.Prelude.{◌≡◌, ◌⊎◌, ℕ, ◌<◌, ◌≤◌, List, ◌++◌, length, Option, Some, None, codes, decimal, ⊤}
 use Rattle.desk_base.specs.Faults.{Rose}
+use Rattle.desk_links.specs.Doors.{Door}
 use Rattle.json_parts.specs.Shapes.{line}
 use Rattle.desk_words.specs.Tables.{Rows}
 use Rattle.keeper_core.specs.Keeping.{IfTold, LoadsHeld}
@@ -15,7 +16,7 @@ use Rattle.fixdesk_run.specs.declared.serving.ServeEnd.TheVariants.{Done, WriteF
 use Rattle.fixdesk_run.specs.Link.{IsSilent, Says, SaysPart}
 use Rattle.fixdesk_run.specs.Opening.{MayBeDamageLine, StaysShut}
 use Rattle.fixdesk_run.specs.Plan.{plan_of}
-use Rattle.fixdesk_run.specs.Site.{Door, IsPassed, IsUnchanged, Later, Site}
+use Rattle.fixdesk_run.specs.Site.{IsPassed, IsUnchanged, Later, Site}
 use Rattle.fixdesk_run.specs.Standing.{Standing}
 use Rattle.fixdesk_run.specs.Visits.{AreVisits, Visit, early_count, last_standing, most_visits, refusals}
 use Rattle.fixdesk_run.specs.Visits.{sure_visits}

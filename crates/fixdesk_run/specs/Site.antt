@@ -1,60 +1,32 @@
 -- What a clause of `serve` sees: an output, a keeper and a door.
 use Rattle.std.specs.Prelude.{◌≡◌, ℕ, ◌<◌, ◌≤◌, List, [], Option, Some, None, length}
 use Rattle.desk_base.specs.Faults.{Rose}
-use Rattle.desk_links.specs.Doors.{Closes, HandsOut, LinkSeen, one_more}
+use Rattle.desk_base.specs.declared.sink.Sink.{Ghosts as SinkTells}
+use Rattle.desk_links.specs.declared.door.Listener.{Ghosts as ListenerTells}
+use Rattle.desk_links.specs.Doors.{Closes, Door, HandsOut, one_more}
 use Rattle.desk_words.specs.Tables.{Rows}
-use Rattle.keeper_core.specs.Keeping.{Uses, uses}
+use Rattle.keeper_core.specs.declared.keeper.Keeper.{Ghosts as KeeperTells}
+use Rattle.keeper_core.specs.Keeping.{Uses}
 use Rattle.http_desk.specs.declared.serving.Ended.{Ended}
 use Rattle.http_desk.specs.Fronts.{Front}
 use Rattle.http_desk.specs.Logs.{last_line}
 use Rattle.http_desk.specs.Scenes.{RoseBy, RoseWithin}
 use Rattle.http_desk.specs.Streams.{IfShown}
-use Rattle.fixdesk_run.specs.Link.{link_with}
 use Rattle.fixdesk_run.specs.Standing.{Standing}
 use Rattle.fixdesk_run.specs.Visits.{AreClosed, AreHandedOut, AreVisits, IsVisit, Visit, early_count}
 use Rattle.fixdesk_run.specs.Visits.{last_standing, most_visits, refusals, sure_visits}
-use Rattle.fixdesk_run.specs.World.{Later as LaterWorld, World}
-
--- how often a door has failed, the port and how many links it handed out, once it is bound, how many are open, and the
--- links that wait and those that were closed, where it tells these
-pub record Door : Type 0 where
-  pub faults : ℕ
-  pub port : Option ℕ
-  pub accepted : Option ℕ
-  pub live : ℕ
-  pub waiting : Option (List (List ℕ))
-  pub closed : Option (List LinkSeen)
+use Rattle.fixdesk_run.specs.World.{Later as LaterWorld, World, world_with}
 
 -- an output, as a link that has nothing to read, with a keeper; and a door
 pub record Site : Type 0 where
   pub world : World
   pub door : Door
 
--- a door as it tells it
-abbrev pub door_seen : {L : Type 0} → (L → ℕ) → (L → Option ℕ) → (L → Option ℕ) → (L → ℕ)
-    → (L → Option (List (List ℕ))) → (L → Option (List LinkSeen)) → L → Door
-door_seen faults port accepted live waiting closed door = record {
-  faults = faults door;
-  port = port door;
-  accepted = accepted door;
-  live = live door;
-  waiting = waiting door;
-  closed = closed door;
-}
-
--- and all three
-abbrev pub site : {W K L : Type 0} → (W → Option (List ℕ)) → (W → ℕ) → (K → Option Rows) → (K → ℕ) → (K → ℕ)
-    → (L → ℕ)
-    → (L → Option ℕ) → (L → Option ℕ) → (L → ℕ) → (L → Option (List (List ℕ))) → (L → Option (List LinkSeen))
-    → W → K → L → Site
-site written write_faults told calls faults door_faults port accepted live waiting closed out keeper door = record {
-  world = record {
-    link = link_with written write_faults None 0 out;
-    told = told keeper;
-    uses = uses calls faults
-        keeper;
-  };
-  door = door_seen door_faults port accepted live waiting closed door;
+-- all three as they tell it
+abbrev pub site : {W K L A B : Type 0} → SinkTells W → KeeperTells K → ListenerTells L A B → W → K → L → Site
+site of_sink of_keeper of_door out keeper door = record {
+  world = world_with of_sink of_keeper None 0 out keeper;
+  door = of_door.seen door;
 }
 
 -- a site with another keeper

@@ -35,7 +35,7 @@ pub fn make<M: Machine + Drop, S: Source, W: Sink>(
 ) -> Status
     requires most { sessions ≤ 5000 }
     requires start { start < 2 ^ 31 }
-    ensures ended { let seen = link_seen S.left S.read_faults W.written W.write_faults in
+    ensures ended { let seen = link_seen S.Source W.Sink in
         EndsMake sessions start (seen link.old) (seen link.new) result }
     ensures read_faults { S.read_faults link.old.source ≤ S.read_faults link.new.source }
     ensures write_faults { W.write_faults link.old.sink ≤ W.write_faults link.new.sink }

@@ -21,10 +21,10 @@ pub(crate) fn begin_machine<M: Machine, K: Keeper, W: Sink>(
     out: &mut W,
 ) -> Result<M, Status>
     ensures begun { IfOk result (λ machine. Begins (K.holds keeper.old) (K.tables keeper.old)
-        (uses K.calls K.faults keeper.old) (standing M.rows K.tables K.calls K.faults machine keeper.new)) }
+        (uses K.calls K.faults keeper.old) (standing M.Machine K.Keeper machine keeper.new)) }
     ensures silent { OnOk result (out.new ≡ out.old) }
     ensures shut { (left : Option (List ℕ)) (read_faults : ℕ)
-        → let world = world_with W.written W.write_faults K.tables K.calls K.faults left read_faults in
+        → let world = world_with W.Sink K.Keeper left read_faults in
         IfErr result (StaysShut (world out.old keeper.old) (world out.new keeper.new)) }
     ensures write_faults { W.write_faults out.old ≤ W.write_faults out.new }
     ensures steady { K.is_steady keeper.old → OnOk result (K.is_steady keeper.new) }
@@ -42,7 +42,7 @@ pub(crate) fn begin_machine<M: Machine, K: Keeper, W: Sink>(
 /// the input stays, whatever it is.
 pub fn stay_shut<W: Sink>(alloc: Global, fail: StartFail, out: &mut W) -> Status
     ensures told { (left : Option (List ℕ)) (read_faults : ℕ)
-        → let seen = link_with W.written W.write_faults left read_faults in
+        → let seen = link_with W.Sink left read_faults in
         TellsFail fail (seen out.old) (seen out.new) result }
     ensures write_faults { W.write_faults out.old ≤ W.write_faults out.new }
     ensures complete { TakesFail (W.takes out.old) fail → result ≢ Status.WriteFault }
@@ -57,7 +57,7 @@ pub fn stay_shut<W: Sink>(alloc: Global, fail: StartFail, out: &mut W) -> Status
 /// Writes the line that names a damaged row.
 fn tell_damage<W: Sink>(alloc: Global, damage: Damage, out: &mut W) -> Status
     ensures told { (left : Option (List ℕ)) (read_faults : ℕ)
-        → let seen = link_with W.written W.write_faults left read_faults in
+        → let seen = link_with W.Sink left read_faults in
         TellsDamage damage (seen out.old) (seen out.new) result }
     ensures write_faults { W.write_faults out.old ≤ W.write_faults out.new }
     ensures complete { W.takes out.old (length (damage_line damage)) → result ≢ Status.WriteFault }

@@ -22,11 +22,11 @@ pub fn pipe<M: Machine + Drop, K: Keeper, S: Source, W: Sink>(
     link: &mut Both<S, W>,
 ) -> Status
     requires { 1 ≤ limit }
-    ensures ended { let world = world S.left S.read_faults W.written W.write_faults K.tables K.calls K.faults in
+    ensures ended { let world = world S.Source W.Sink K.Keeper in
         EndsPipe (K.holds keeper.old) limit (world link.old keeper.old) (world link.new keeper.new) result }
-    ensures later { let world = world S.left S.read_faults W.written W.write_faults K.tables K.calls K.faults in
+    ensures later { let world = world S.Source W.Sink K.Keeper in
         Later (world link.old keeper.old) (world link.new keeper.new) }
-    ensures complete { let world = world S.left S.read_faults W.written W.write_faults K.tables K.calls K.faults in
+    ensures complete { let world = world S.Source W.Sink K.Keeper in
         S.is_steady link.old.source → K.is_steady keeper.old
         → TakesText (W.takes link.old.sink) (Some (Pipe limit)) (world link.old keeper.old)
         → IsFaultless (W.takes link.old.sink) (Some (Pipe limit)) (world link.old keeper.old)

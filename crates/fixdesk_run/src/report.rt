@@ -21,11 +21,11 @@ pub fn report<M: Machine + Drop, K: Keeper, S: Source, W: Sink>(
     keeper: &mut K,
     link: &mut Both<S, W>,
 ) -> Status
-    ensures ended { let world = world S.left S.read_faults W.written W.write_faults K.tables K.calls K.faults in
+    ensures ended { let world = world S.Source W.Sink K.Keeper in
         EndsReport (K.holds keeper.old) (world link.old keeper.old) (world link.new keeper.new) result }
-    ensures later { let world = world S.left S.read_faults W.written W.write_faults K.tables K.calls K.faults in
+    ensures later { let world = world S.Source W.Sink K.Keeper in
         Later (world link.old keeper.old) (world link.new keeper.new) }
-    ensures complete { let world = world S.left S.read_faults W.written W.write_faults K.tables K.calls K.faults in
+    ensures complete { let world = world S.Source W.Sink K.Keeper in
         K.is_steady keeper.old
         → TakesText (W.takes link.old.sink) (Some Report) (world link.old keeper.old)
         → IsFaultless (W.takes link.old.sink) (Some Report) (world link.old keeper.old) (world link.new keeper.new)

@@ -51,18 +51,16 @@ pub trait Service {
         door: &mut L,
         out: &mut W,
     ) -> ServeEnd
-        requires idle { L.live door.old ≡ 0 }
+        requires idle { (L.seen door.old).live ≡ 0 }
         requires told { IfTold (K.tables keeper.old) (M.rows machine.old) }
-        ensures ends { let site = site W.written W.write_faults K.tables K.calls K.faults L.door_faults L.port
-            L.accepted L.live L.waiting L.closed in
+        ensures ends { let site = site W.Sink K.Keeper L.Listener in
             (told : Option Rows) (used : Uses)
-            → leaves self.now plan (standing M.rows K.tables K.calls K.faults machine.old keeper.old)
+            → leaves self.now plan (standing M.Machine K.Keeper machine.old keeper.old)
             (with_keeper (site out.old keeper.old door.old) told used) (site out.new keeper.new door.new) result }
         ensures no_more { TellsNoMore (K.tables keeper.old) (K.tables keeper.new) }
-        ensures later { let site = site W.written W.write_faults K.tables K.calls K.faults L.door_faults L.port
-            L.accepted L.live L.waiting L.closed in
+        ensures later { let site = site W.Sink K.Keeper L.Listener in
             Later (site out.old keeper.old door.old) (site out.new keeper.new door.new) }
-        ensures idle { L.live door.new ≡ 0 }
+        ensures idle { (L.seen door.new).live ≡ 0 }
         ensures complete { L.offers door.old plan.count → takes self.now (W.takes out.old) plan
             → (end_code result ≡ 0) ⊎ (end_code result ≡ 5) };
 }
@@ -79,15 +77,13 @@ pub fn run_service<M: Machine + Drop, S: Service, K: Keeper, L: Listener, W: Sin
     door: &mut L,
     out: &mut W,
 ) -> u8
-    requires { L.live door.old ≡ 0 }
-    ensures leaves { let site = site W.written W.write_faults K.tables K.calls K.faults L.door_faults L.port
-        L.accepted L.live L.waiting L.closed in
+    requires { (L.seen door.old).live ≡ 0 }
+    ensures leaves { let site = site W.Sink K.Keeper L.Listener in
         Leaves (S.usage_line service.now) (K.holds keeper.old) (S.leaves service.now)
         (S.planned service.now (map string_bytes words.now)) (site out.old keeper.old door.old)
         (site out.new keeper.new door.new) result }
-    ensures idle { L.live door.new ≡ 0 }
-    ensures complete { let site = site W.written W.write_faults K.tables K.calls K.faults L.door_faults L.port
-        L.accepted L.live L.waiting L.closed in
+    ensures idle { (L.seen door.new).live ≡ 0 }
+    ensures complete { let site = site W.Sink K.Keeper L.Listener in
         let plan = S.planned service.now (map string_bytes words.now) in
         AreSteadyFor (K.is_steady keeper.old) (L.offers door.old) plan
         → TakesDue (S.usage_line service.now) (S.takes service.now) (W.takes out.old) plan

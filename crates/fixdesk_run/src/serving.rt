@@ -64,14 +64,12 @@ pub fn serve<M: Machine + Drop, K: Keeper, L: Listener, W: Sink>(
     door: &mut L,
     out: &mut W,
 ) -> u8
-    requires { L.live door.old ≡ 0 }
-    ensures leaves { let site = site W.written W.write_faults K.tables K.calls K.faults L.door_faults L.port
-        L.accepted L.live L.waiting L.closed in
+    requires { (L.seen door.old).live ≡ 0 }
+    ensures leaves { let site = site W.Sink K.Keeper L.Listener in
         LeavesServed (K.holds keeper.old) (map string_bytes words.now) (site out.old keeper.old door.old)
         (site out.new keeper.new door.new) result }
-    ensures idle { L.live door.new ≡ 0 }
-    ensures complete { let site = site W.written W.write_faults K.tables K.calls K.faults L.door_faults L.port
-        L.accepted L.live L.waiting L.closed in
+    ensures idle { (L.seen door.new).live ≡ 0 }
+    ensures complete { let site = site W.Sink K.Keeper L.Listener in
         let plan = plan_of (map string_bytes words.now) in
         AreSteadyFor (K.is_steady keeper.old) (L.offers door.old) plan
         → TakesSaid (W.takes out.old) plan (site out.old keeper.old door.old)

@@ -39,10 +39,10 @@ pub fn run<M: Machine + Drop, K: Keeper, S: Source, W: Sink>(
     link: &mut Both<S, W>,
     said: &mut Said,
 ) -> u8
-    ensures leaves { let world = world S.left S.read_faults W.written W.write_faults K.tables K.calls K.faults in
+    ensures leaves { let world = world S.Source W.Sink K.Keeper in
         Leaves (K.holds keeper.old) (map string_bytes words.now) (world link.old keeper.old)
         (world link.new keeper.new) result }
-    ensures complete { let world = world S.left S.read_faults W.written W.write_faults K.tables K.calls K.faults in
+    ensures complete { let world = world S.Source W.Sink K.Keeper in
         let task = task_of (map string_bytes words.now) in
         AreSteady (S.is_steady link.old.source) (K.is_steady keeper.old) task
         → TakesText (W.takes link.old.sink) task (world link.old keeper.old)
@@ -60,11 +60,11 @@ fn perform<M: Machine + Drop, K: Keeper, S: Source, W: Sink>(
     said: &mut Said,
 ) -> Status
     requires { IsLimited task }
-    ensures ended { let world = world S.left S.read_faults W.written W.write_faults K.tables K.calls K.faults in
+    ensures ended { let world = world S.Source W.Sink K.Keeper in
         Ends (K.holds keeper.old) task (world link.old keeper.old) (world link.new keeper.new) result }
-    ensures later { let world = world S.left S.read_faults W.written W.write_faults K.tables K.calls K.faults in
+    ensures later { let world = world S.Source W.Sink K.Keeper in
         Later (world link.old keeper.old) (world link.new keeper.new) }
-    ensures complete { let world = world S.left S.read_faults W.written W.write_faults K.tables K.calls K.faults in
+    ensures complete { let world = world S.Source W.Sink K.Keeper in
         AreSteady (S.is_steady link.old.source) (K.is_steady keeper.old) task
         → TakesText (W.takes link.old.sink) task (world link.old keeper.old)
         → IsFaultless (W.takes link.old.sink) task (world link.old keeper.old) (world link.new keeper.new)
@@ -81,7 +81,7 @@ fn perform<M: Machine + Drop, K: Keeper, S: Source, W: Sink>(
 
 /// Writes the usage line.
 fn tell_usage<S: Source, W: Sink>(link: &mut Both<S, W>) -> Status
-    ensures ended { let seen = link_seen S.left S.read_faults W.written W.write_faults in
+    ensures ended { let seen = link_seen S.Source W.Sink in
         EndsUsage (seen link.old) (seen link.new) result }
     ensures read_faults { S.read_faults link.old.source ≤ S.read_faults link.new.source }
     ensures write_faults { W.write_faults link.old.sink ≤ W.write_faults link.new.sink }

@@ -9,7 +9,7 @@ use once_run::Status;
 /// Writes the usage line of a program that serves links, with status 1, or a part of it where the output fails, with
 /// status 3.
 pub fn tell_usage<W: Sink>(usage: &[u8], out: &mut W) -> Status
-    ensures told { let seen = link_with W.written W.write_faults None 0 in
+    ensures told { let seen = link_with W.Sink None 0 in
         ((status_code result ≡ 1) × Says usage.now (seen out.old) (seen out.new))
         ⊎ ((status_code result ≡ 3) × SaysPart usage.now (seen out.old) (seen out.new)) }
     ensures later { W.write_faults out.old ≤ W.write_faults out.new }

@@ -3,7 +3,7 @@ ghost use Rattle.std.specs.Prelude.{◌≡◌, ◌+◌, ◌<◌, ◌≤◌, ℕ,
 ghost use Rattle.desk_base.specs.Faults.{Rose};
 ghost use Rattle.desk_links.specs.Doors.{MayAccept};
 ghost use Rattle.keeper_core.specs.Keeping.{IfTold, TellsNoMore};
-ghost use Rattle.fixdesk_run.specs.Site.{IsUnchanged, LogsOne, PassesCount, PassesFewer, door_seen};
+ghost use Rattle.fixdesk_run.specs.Site.{IsUnchanged, LogsOne, PassesCount, PassesFewer};
 ghost use Rattle.fixdesk_run.specs.Standing.{standing};
 ghost use Rattle.fixdesk_run.specs.Visits.{is_early};
 
@@ -24,21 +24,19 @@ pub fn serve_links<M: Machine + Drop, K: Keeper, L: Listener>(
     keeper: &mut K,
     door: &mut L,
 ) -> Result<u32, Failed>
-    requires bound { L.accepted door.old ≡ Some 0 }
-    requires idle { L.live door.old ≡ 0 }
+    requires bound { (L.seen door.old).accepted ≡ Some 0 }
+    requires idle { (L.seen door.old).live ≡ 0 }
     requires told { IfTold (K.tables keeper.old) (M.rows machine.old) }
-    ensures passed { let desk = standing M.rows K.tables K.calls K.faults in
-        let seen = door_seen L.door_faults L.port L.accepted L.live L.waiting L.closed in
-        IfOk result (PassesCount front.now (desk machine.old keeper.old) (desk machine.new keeper.new) (seen door.old)
-        (seen door.new) count) }
-    ensures refused { let desk = standing M.rows K.tables K.calls K.faults in
-        let seen = door_seen L.door_faults L.port L.accepted L.live L.waiting L.closed in
-        OnErr result (PassesFewer front.now (desk machine.old keeper.old) (desk machine.new keeper.new) (seen door.old)
-        (seen door.new) count) }
+    ensures passed { let desk = standing M.Machine K.Keeper in
+        IfOk result (PassesCount front.now (desk machine.old keeper.old) (desk machine.new keeper.new) (L.seen door.old)
+        (L.seen door.new) count) }
+    ensures refused { let desk = standing M.Machine K.Keeper in
+        OnErr result (PassesFewer front.now (desk machine.old keeper.old) (desk machine.new keeper.new) (L.seen door.old)
+        (L.seen door.new) count) }
     ensures told { IfTold (K.tables keeper.new) (M.rows machine.new) }
     ensures no_more { TellsNoMore (K.tables keeper.old) (K.tables keeper.new) }
-    ensures later { L.door_faults door.old ≤ L.door_faults door.new }
-    ensures idle { L.live door.new ≡ 0 }
+    ensures later { (L.seen door.old).faults ≤ (L.seen door.new).faults }
+    ensures idle { (L.seen door.new).live ≡ 0 }
     ensures offers { L.offers door.old count → IsOk result }
 {
     let mut served: u32 = 0;
@@ -61,22 +59,20 @@ pub fn serve_next<M: Machine + Drop, K: Keeper, L: Listener, G: Log>(
     door: &mut L,
     log: &mut G,
 ) -> Result<Ended, Failed>
-    requires idle { L.live door.old ≡ 0 }
-    requires bound { MayAccept (L.accepted door.old) }
+    requires idle { (L.seen door.old).live ≡ 0 }
+    requires bound { MayAccept (L.seen door.old).accepted }
     requires told { IfTold (K.tables keeper.old) (M.rows machine.old) }
-    ensures passed { let desk = standing M.rows K.tables K.calls K.faults in
-        let seen = door_seen L.door_faults L.port L.accepted L.live L.waiting L.closed in
-        IfOk result (LogsOne front.now (desk machine.old keeper.old) (desk machine.new keeper.new) (seen door.old)
-        (seen door.new) (G.line log.new)) }
-    ensures refused { let desk = standing M.rows K.tables K.calls K.faults in
-        let seen = door_seen L.door_faults L.port L.accepted L.live L.waiting L.closed in
+    ensures passed { let desk = standing M.Machine K.Keeper in
+        IfOk result (LogsOne front.now (desk machine.old keeper.old) (desk machine.new keeper.new) (L.seen door.old)
+        (L.seen door.new) (G.line log.new)) }
+    ensures refused { let desk = standing M.Machine K.Keeper in
         OnErr result ((desk machine.new keeper.new ≡ desk machine.old keeper.old)
-        × IsUnchanged (seen door.old) (seen door.new) × Rose (L.door_faults door.old) (L.door_faults door.new)) }
+        × IsUnchanged (L.seen door.old) (L.seen door.new) × Rose (L.seen door.old).faults (L.seen door.new).faults) }
     ensures untouched { OnErr result ((intake.new ≡ intake.old) × (machine.new ≡ machine.old)
         × (keeper.new ≡ keeper.old) × (log.new ≡ log.old)) }
     ensures told { IfTold (K.tables keeper.new) (M.rows machine.new) }
     ensures no_more { TellsNoMore (K.tables keeper.old) (K.tables keeper.new) }
-    ensures later { L.door_faults door.old ≤ L.door_faults door.new }
+    ensures later { (L.seen door.old).faults ≤ (L.seen door.new).faults }
     ensures offers { (count : ℕ) → L.offers door.old (count + 1) → IsOk result × L.offers door.new count }
 {
     let mut link = door.accept()?;

@@ -1,7 +1,8 @@
 //! The program `fixdesk` with its tables in memory: words and standard streams, handed to `fixdesk_run` with the desk.
 #![tactic(auto)]
 
-use desk_base::{Both, List, NoMemory, StdSink, StdSource};
+use desk_base::{List, NoMemory};
+use desk_links::std_link;
 use desk_words::Tables;
 use fixdesk_run::{Said, Status, run, tell_said};
 use keeper_core::MemKeeper;
@@ -33,10 +34,7 @@ fn words(rt: &HostRuntime) -> Result<Vec<String>, AllocError> {
 
 /// Runs over the tables of an empty desk.
 fn run_words(rt: &HostRuntime, words: &[String], said: &mut Said) -> u8 {
-    let mut link = Both {
-        source: StdSource::new(rt.stdin()),
-        sink: StdSink::new(rt.stdout()),
-    };
+    let mut link = std_link(rt);
     match keeper(rt.alloc()) {
         Ok(mut keeper) => {
             let code = run::<Desk, _, _, _>(rt.alloc(), words, &mut keeper, &mut link, said);

@@ -1,8 +1,13 @@
 -- What a clause sees of a link, of a desk and of its keeper.
 use Rattle.std.specs.Prelude.{◌≡◌, ℕ, zero, suc, ◌≤◌, List, Option}
+use Rattle.desk_base.specs.declared.both.Both.{Both}
 use Rattle.desk_base.specs.Counts.{risen}
+use Rattle.desk_base.specs.declared.sink.Sink.{Ghosts as SinkTells}
+use Rattle.desk_base.specs.declared.source.Source.{Ghosts as SourceTells}
 use Rattle.desk_words.specs.Tables.{Rows}
+use Rattle.keeper_core.specs.declared.keeper.Keeper.{Ghosts as KeeperTells}
 use Rattle.keeper_core.specs.Keeping.{TellsNoMore, Uses, uses}
+use Rattle.machine_core.specs.declared.machine.Machine.{Ghosts as MachineTells}
 
 -- ---- counts
 
@@ -36,16 +41,16 @@ pub record Scene : Type 0 where
   pub uses : Uses
 
 -- what the parts of a desk tell of it
-abbrev pub scene : {S W M K : Type 0} → (S → Option (List ℕ)) → (S → ℕ) → (W → Option (List ℕ)) → (W → ℕ) → (M → Rows)
-    → (K → Option Rows) → (K → ℕ) → (K → ℕ) → S → W → M → K → Scene
-scene left read_faults written write_faults rows told calls faults source sink machine keeper = record {
-  left = left source;
-  written = written sink;
-  read_faults = read_faults source;
-  write_faults = write_faults sink;
-  tables = rows machine;
-  told = told keeper;
-  uses = uses calls faults keeper;
+abbrev pub scene : {S W M K : Type 0} → SourceTells S → SinkTells W → MachineTells M → KeeperTells K
+    → Both S W → M → K → Scene
+scene of_source of_sink of_machine of_keeper link machine keeper = record {
+  left = of_source.left link.source;
+  written = of_sink.written link.sink;
+  read_faults = of_source.read_faults link.source;
+  write_faults = of_sink.write_faults link.sink;
+  tables = of_machine.rows machine;
+  told = of_keeper.tables keeper;
+  uses = uses of_keeper.calls of_keeper.faults keeper;
 }
 
 -- no count of faults of the link fell, and the keeper tells no tables that it did not tell before; how often it failed

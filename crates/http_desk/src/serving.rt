@@ -53,23 +53,19 @@ pub fn serve_stream<M: Machine, K: Keeper, S: Source, W: Sink>(
     requires told { IfTold (K.tables keeper.old) (M.rows machine.old) }
 
     // The answered requests are the first of the stream's, and each reply and the tables after it are the machine's.
-    ensures streams { let scene = scene S.left S.read_faults W.written W.write_faults M.rows K.tables K.calls
-        K.faults in
-        Streams front.now limit (scene link.old.source link.old.sink machine.old keeper.old)
-        (scene link.new.source link.new.sink machine.new keeper.new) result }
+    ensures streams { let scene = scene S.Source W.Sink M.Machine K.Keeper in
+        Streams front.now limit (scene link.old machine.old keeper.old) (scene link.new machine.new keeper.new) result }
 
     // Each request is answered before the source is read on, and nothing is read after the one that reaches the limit.
-    ensures prompt { let scene = scene S.left S.read_faults W.written W.write_faults M.rows K.tables K.calls K.faults in
-        ServesPromptly S.reads front.now link.old.source link.new.source limit
-        (scene link.old.source link.old.sink machine.old keeper.old)
-        (scene link.new.source link.new.sink machine.new keeper.new) result }
+    ensures prompt { let scene = scene S.Source W.Sink M.Machine K.Keeper in
+        ServesPromptly S.reads front.now link.old.source link.new.source limit (scene link.old machine.old keeper.old)
+        (scene link.new machine.new keeper.new) result }
 
     // Over a source and a keeper that do not fail no fault comes, but for want of room for what is due of this stream.
-    ensures complete { let scene = scene S.left S.read_faults W.written W.write_faults M.rows K.tables K.calls
-        K.faults in
+    ensures complete { let scene = scene S.Source W.Sink M.Machine K.Keeper in
         S.is_steady link.old.source → K.is_steady keeper.old
-        → IsFaultless front.now (W.takes link.old.sink) limit (scene link.old.source link.old.sink machine.old keeper.old)
-        (scene link.new.source link.new.sink machine.new keeper.new) result }
+        → IsFaultless front.now (W.takes link.old.sink) limit (scene link.old machine.old keeper.old)
+        (scene link.new machine.new keeper.new) result }
 {
     match Intake::new(alloc) {
         Ok(mut intake) => serve_link(front, &mut intake, machine, keeper, link, limit, &mut NoLog),
@@ -89,24 +85,20 @@ pub fn serve_link<M: Machine, K: Keeper, S: Source, W: Sink, L: Log>(
 ) -> Ended
     requires limit { 1 ≤ limit }
     requires told { IfTold (K.tables keeper.old) (M.rows machine.old) }
-    ensures streams { let scene = scene S.left S.read_faults W.written W.write_faults M.rows K.tables K.calls
-        K.faults in
-        Streams front.now limit (scene link.old.source link.old.sink machine.old keeper.old)
-        (scene link.new.source link.new.sink machine.new keeper.new) result }
-    ensures prompt { let scene = scene S.left S.read_faults W.written W.write_faults M.rows K.tables K.calls K.faults in
-        ServesPromptly S.reads front.now link.old.source link.new.source limit
-        (scene link.old.source link.old.sink machine.old keeper.old)
-        (scene link.new.source link.new.sink machine.new keeper.new) result }
-    ensures complete { let scene = scene S.left S.read_faults W.written W.write_faults M.rows K.tables K.calls
-        K.faults in
+    ensures streams { let scene = scene S.Source W.Sink M.Machine K.Keeper in
+        Streams front.now limit (scene link.old machine.old keeper.old) (scene link.new machine.new keeper.new) result }
+    ensures prompt { let scene = scene S.Source W.Sink M.Machine K.Keeper in
+        ServesPromptly S.reads front.now link.old.source link.new.source limit (scene link.old machine.old keeper.old)
+        (scene link.new machine.new keeper.new) result }
+    ensures complete { let scene = scene S.Source W.Sink M.Machine K.Keeper in
         S.is_steady link.old.source → K.is_steady keeper.old
-        → IsFaultless front.now (W.takes link.old.sink) limit (scene link.old.source link.old.sink machine.old keeper.old)
-        (scene link.new.source link.new.sink machine.new keeper.new) result }
+        → IsFaultless front.now (W.takes link.old.sink) limit (scene link.old machine.old keeper.old)
+        (scene link.new machine.new keeper.new) result }
 
     // A log that shows its line shows that of the last request that was answered, or no bytes where none was.
-    ensures logged { let scene = scene S.left S.read_faults W.written W.write_faults M.rows K.tables K.calls K.faults in
-        LogsStream front.now limit (scene link.old.source link.old.sink machine.old keeper.old)
-        (scene link.new.source link.new.sink machine.new keeper.new) result (L.line log.new) }
+    ensures logged { let scene = scene S.Source W.Sink M.Machine K.Keeper in
+        LogsStream front.now limit (scene link.old machine.old keeper.old)
+        (scene link.new machine.new keeper.new) result (L.line log.new) }
 {
     intake.clear();
     log.clear();
@@ -127,11 +119,10 @@ fn serve<M: Machine, K: Keeper, S: Source, W: Sink, L: Log>(
     requires empty { intake.old ≡ [] }
     requires unlogged { IfShown (L.line log.old) [] }
     requires told { IfTold (K.tables keeper.old) (M.rows machine.old) }
-    ensures { let scene = scene S.left S.read_faults W.written W.write_faults M.rows K.tables K.calls K.faults in
+    ensures { let scene = scene S.Source W.Sink M.Machine K.Keeper in
         ServesLogged S.reads front.now link.old.source link.new.source (S.is_steady link.old.source)
-        (W.takes link.old.sink) (K.is_steady keeper.old) limit
-        (scene link.old.source link.old.sink machine.old keeper.old)
-        (scene link.new.source link.new.sink machine.new keeper.new) result (L.line log.new) }
+        (W.takes link.old.sink) (K.is_steady keeper.old) limit (scene link.old machine.old keeper.old)
+        (scene link.new machine.new keeper.new) result (L.line log.new) }
 {
     let mut answered: u32 = 0;
     'requests: while answered < limit {

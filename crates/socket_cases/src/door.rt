@@ -1,6 +1,7 @@
 //! A door on a port to which the peers of a case have connected as soon as it is bound.
 ghost use Rattle.std.specs.Prelude.{◌≡◌, ℕ, None};
 ghost use Rattle.desk_base.specs.Faults.{HasCause};
+ghost use Rattle.tcp_door.specs.Tcp.{door_told};
 
 use crate::peers::Peers;
 use desk_base::{Both, Failed, FaultCount};
@@ -60,17 +61,7 @@ impl<'r> Listener for PeerDoor<'r> {
 
     type Sink = TcpSink<'r>;
 
-    ghost door_faults = { λ d. d.faults };
-
-    ghost port = { λ d. d.port };
-
-    ghost accepted = { λ d. d.accepted };
-
-    ghost live = { λ d. d.live };
-
-    ghost waiting = { λ _. None };
-
-    ghost closed = { λ _. None };
+    ghost seen = { door_told };
 
     ghost offers = { λ _ _. ⊥ };
 

@@ -2,6 +2,7 @@
 use Rattle.std.specs.Prelude.{ℕ, Option, None, Result}
 use Rattle.desk_base.specs.declared.error.Failed.{Failed}
 use Rattle.desk_base.specs.Faults.{CountsFaults}
+use Rattle.desk_links.specs.Doors.{Door}
 use Rattle.tcp_door.specs.Time.{TimeSeen, KeepsTime}
 
 -- the port and how many links were handed out, once the door is bound; how many are open, and how often the door failed
@@ -10,6 +11,17 @@ pub record TcpSeen : Type 0 where
   pub accepted : Option ℕ
   pub live : ℕ
   pub faults : ℕ
+
+-- what such a door tells, which is nothing of the bytes of its peers
+abbrev pub door_told : TcpSeen → Door
+door_told door = record {
+  faults = door.faults;
+  port = door.port;
+  accepted = door.accepted;
+  live = door.live;
+  waiting = None;
+  closed = None;
+}
 
 -- how often an end of a link has failed, and the time that its peer has
 pub record TcpEnd : Type 0 where

@@ -1,6 +1,6 @@
 //! A door on a TCP port of the loopback address. A clause sees its counts and its port.
 ghost use Rattle.std.specs.Prelude.{◌≡◌, IfOk, None};
-ghost use Rattle.tcp_door.specs.Tcp.{fresh_end};
+ghost use Rattle.tcp_door.specs.Tcp.{door_told, fresh_end};
 
 use crate::door_state::DoorState;
 use crate::ends::{TcpSink, TcpSource};
@@ -55,17 +55,7 @@ impl<'r> Listener for TcpDoor<'r> {
 
     type Sink = TcpSink<'r>;
 
-    ghost door_faults = { λ d. d.faults };
-
-    ghost port = { λ d. d.port };
-
-    ghost accepted = { λ d. d.accepted };
-
-    ghost live = { λ d. d.live };
-
-    ghost waiting = { λ _. None };
-
-    ghost closed = { λ _. None };
+    ghost seen = { door_told };
 
     ghost offers = { λ _ _. ⊥ };
 

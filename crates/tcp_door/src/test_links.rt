@@ -16,9 +16,9 @@ pub(crate) struct Asked {
 
 /// Binds the door to the first port that is free of a hundred from this one on, since another program may have one.
 pub(crate) fn bind_some<D: Listener>(door: &mut D, first: u16) -> Option<u16>
-    requires idle { D.live door.old ≡ 0 }
+    requires idle { (D.seen door.old).live ≡ 0 }
     requires ports { first + 100 < 2 ^ 16 }
-    ensures { IfSome result (λ _. (D.live door.new ≡ 0) × (D.accepted door.new ≡ Some 0)) }
+    ensures { IfSome result (λ _. ((D.seen door.new).live ≡ 0) × ((D.seen door.new).accepted ≡ Some 0)) }
 {
     'ports: for port in first..first + 100 {
         if door.bind(port).is_ok() {
@@ -30,10 +30,10 @@ pub(crate) fn bind_some<D: Listener>(door: &mut D, first: u16) -> Option<u16>
 
 /// Hands out the next link, reads it twice, writes to it and closes it. None where no link is handed out.
 pub(crate) fn answer_next<D: Listener>(door: &mut D, response: &[u8]) -> Option<Asked>
-    requires idle { D.live door.old ≡ 0 }
-    requires bound { MayAccept (D.accepted door.old) }
-    ensures idle { D.live door.new ≡ 0 }
-    ensures counted { IfSome result (λ _. D.accepted door.new ≡ one_more (D.accepted door.old)) }
+    requires idle { (D.seen door.old).live ≡ 0 }
+    requires bound { MayAccept (D.seen door.old).accepted }
+    ensures idle { (D.seen door.new).live ≡ 0 }
+    ensures counted { IfSome result (λ _. (D.seen door.new).accepted ≡ one_more (D.seen door.old).accepted) }
 {
     let Ok(mut link) = door.accept() else {
         return None;

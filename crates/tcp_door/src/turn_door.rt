@@ -1,5 +1,6 @@
 //! A door on a TCP port of the loopback address that reads its peers in turns. A clause sees its counts and its port.
 ghost use Rattle.std.specs.Prelude.{◌≡◌, None};
+ghost use Rattle.tcp_door.specs.Tcp.{door_told};
 
 use crate::door_state::DoorState;
 use crate::peers::Peers;
@@ -53,17 +54,7 @@ impl<'r, T: ReadyTest> Listener for TurnDoor<'r, T> {
 
     type Sink = TurnSink;
 
-    ghost door_faults = { λ d. d.faults };
-
-    ghost port = { λ d. d.port };
-
-    ghost accepted = { λ d. d.accepted };
-
-    ghost live = { λ d. d.live };
-
-    ghost waiting = { λ _. None };
-
-    ghost closed = { λ _. None };
+    ghost seen = { door_told };
 
     ghost offers = { λ _ _. ⊥ };
 

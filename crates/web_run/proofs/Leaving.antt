@@ -1,7 +1,7 @@
 -- What is left where links were served on a port, and what was written.
 use Rattle.std.proofs.Common.{◌≡◌, ◌∙◌, inr, ℕ, ◌+◌, ◌-◌, ◌≤◌, List, [], ◌++◌, ap, sym, subst, arith}
 use Rattle.std.proofs.Common.{append-nil, Option, Some}
-use Rattle.desk_links.specs.Doors.{LinkSeen}
+use Rattle.desk_links.specs.Doors.{Door, LinkSeen}
 use Rattle.desk_base.proofs.Growth.{Appends-then}
 use Rattle.keeper_core.specs.Keeping.{IfTold, Uses}
 use Rattle.http_desk.specs.Fronts.{Front}
@@ -11,7 +11,7 @@ use Rattle.fixdesk_run.specs.declared.serving.ServeEnd.{ServeEnd}
 use Rattle.fixdesk_run.specs.declared.serving.ServeEnd.TheVariants.{Done, WriteFault, NoMemory, DoorFault}
 use Rattle.fixdesk_run.specs.Link.{Says, SaysPart}
 use Rattle.fixdesk_run.specs.Serve.{Serves}
-use Rattle.fixdesk_run.specs.Site.{Door, PassesAll, Site}
+use Rattle.fixdesk_run.specs.Site.{PassesAll, Site}
 use Rattle.fixdesk_run.specs.Standing.{Standing}
 use Rattle.fixdesk_run.specs.Visits.{AreClosed, AreHandedOut, Visit, most_visits, refusals, sure_visits}
 use Rattle.fixdesk_run.proofs.Visiting.{PassesAll-none}

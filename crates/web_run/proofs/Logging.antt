@@ -8,12 +8,13 @@ use Rattle.std.proofs.lemmas.List.Concat.{flat_map-append}
 use Rattle.std.proofs.Math.Seq.{take-append-add}
 use Rattle.desk_base.specs.Faults.{AppendsPart}
 use Rattle.desk_base.proofs.Growth.{Appends-then}
+use Rattle.desk_links.specs.Doors.{Door}
 use Rattle.http_desk.specs.Fronts.{Front}
 use Rattle.http_desk.specs.declared.serving.Ended.{Ended}
 use Rattle.http_desk.specs.Logs.{last_line, log_of}
 use Rattle.http_desk.proofs.Logging.{Streams-log}
 use Rattle.http_desk.proofs.Taking.{Appends-none}
-use Rattle.fixdesk_run.specs.Site.{Door, LogsOne, PassesAll}
+use Rattle.fixdesk_run.specs.Site.{LogsOne, PassesAll}
 use Rattle.fixdesk_run.specs.Standing.{Standing}
 use Rattle.fixdesk_run.specs.Visits.{IsVisit, Visit}
 use Rattle.fixdesk_run.proofs.Visiting.{PassesAll-none, PassesAll-push}

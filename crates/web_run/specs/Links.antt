@@ -2,13 +2,13 @@
 use Rattle.std.specs.Prelude.{◌≡◌, ℕ, ◌<◌, ◌≤◌, List, length}
 use Rattle.std.specs.List.{flat_map}
 use Rattle.desk_base.specs.Faults.{Rose}
-use Rattle.desk_links.specs.Doors.{LinkSeen}
+use Rattle.desk_links.specs.Doors.{Door, LinkSeen}
 use Rattle.http_desk.specs.Fronts.{Front}
 use Rattle.http_desk.specs.Logs.{log_of}
 use Rattle.fixdesk_run.specs.declared.serving.ServeEnd.{ServeEnd}
 use Rattle.fixdesk_run.specs.declared.serving.ServeEnd.TheVariants.{Done, WriteFault, NoMemory, DoorFault}
 use Rattle.fixdesk_run.specs.Link.{Says, SaysPart}
-use Rattle.fixdesk_run.specs.Site.{Door, PassesAll}
+use Rattle.fixdesk_run.specs.Site.{PassesAll}
 use Rattle.fixdesk_run.specs.Standing.{Standing}
 use Rattle.fixdesk_run.specs.Visits.{Visit}
 

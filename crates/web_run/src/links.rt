@@ -2,7 +2,6 @@
 ghost use Rattle.std.specs.Prelude.{◌≡◌, ◌≤◌, Some, None};
 ghost use Rattle.keeper_core.specs.Keeping.{IfTold, TellsNoMore};
 ghost use Rattle.fixdesk_run.specs.Link.{link_with};
-ghost use Rattle.fixdesk_run.specs.Site.{door_seen};
 ghost use Rattle.fixdesk_run.specs.Standing.{standing};
 ghost use Rattle.web_run.specs.Links.{EndsLinks};
 ghost use Rattle.web_run.specs.Serving.{TakesAll};
@@ -27,19 +26,18 @@ pub fn serve_links<M: Machine + Drop, K: Keeper, L: Listener, W: Sink>(
     door: &mut L,
     out: &mut W,
 ) -> ServeEnd
-    requires bound { L.accepted door.old ≡ Some 0 }
-    requires idle { L.live door.old ≡ 0 }
+    requires bound { (L.seen door.old).accepted ≡ Some 0 }
+    requires idle { (L.seen door.old).live ≡ 0 }
     requires told { IfTold (K.tables keeper.old) (M.rows machine.old) }
-    ensures ends { let desk = standing M.rows K.tables K.calls K.faults in
-        let seen = door_seen L.door_faults L.port L.accepted L.live L.waiting L.closed in
-        let link = link_with W.written W.write_faults None 0 in
-        EndsLinks front.now count (desk machine.old keeper.old) (desk machine.new keeper.new) (seen door.old)
-        (seen door.new) (link out.old) (link out.new) result }
+    ensures ends { let desk = standing M.Machine K.Keeper in
+        let link = link_with W.Sink None 0 in
+        EndsLinks front.now count (desk machine.old keeper.old) (desk machine.new keeper.new) (L.seen door.old)
+        (L.seen door.new) (link out.old) (link out.new) result }
     ensures told { IfTold (K.tables keeper.new) (M.rows machine.new) }
     ensures no_more { TellsNoMore (K.tables keeper.old) (K.tables keeper.new) }
-    ensures later { L.door_faults door.old ≤ L.door_faults door.new }
+    ensures later { (L.seen door.old).faults ≤ (L.seen door.new).faults }
     ensures later_out { W.write_faults out.old ≤ W.write_faults out.new }
-    ensures idle { L.live door.new ≡ 0 }
+    ensures idle { (L.seen door.new).live ≡ 0 }
     ensures complete { L.offers door.old count → TakesAll (W.takes out.old) → result ≡ ServeEnd.Done }
 {
     let mut served: u32 = 0;

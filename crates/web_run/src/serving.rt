@@ -39,12 +39,11 @@ pub fn serve_pages<M: Machine + Drop, K: Keeper, P: PageTable, L: Listener, W: S
     door: &mut L,
     out: &mut W,
 ) -> u8
-    requires { L.live door.old ≡ 0 }
-    ensures leaves { let site = site W.written W.write_faults K.tables K.calls K.faults L.door_faults L.port
-        L.accepted L.live L.waiting L.closed in
+    requires { (L.seen door.old).live ≡ 0 }
+    ensures leaves { let site = site W.Sink K.Keeper L.Listener in
         LeavesPages (K.holds keeper.old) (P.listed pages.now) (map string_bytes words.now)
         (site out.old keeper.old door.old) (site out.new keeper.new door.new) result }
-    ensures idle { L.live door.new ≡ 0 }
+    ensures idle { (L.seen door.new).live ≡ 0 }
     ensures complete { let plan = web_plan (map string_bytes words.now) in
         AreSteadyFor (K.is_steady keeper.old) (L.offers door.old) plan → TakesAll (W.takes out.old)
         → IsServedFaultless plan result }

@@ -26,8 +26,7 @@ returns-in-Ok g c =
 -- none did
 pub returns-in-Err : goal.returns-in-Err
 returns-in-Err g c =
-    let at = λ (left : Option (List ℕ)) (read_faults : ℕ). world_with g.W.Sink.written g.W.Sink.write_faults
-    g.K.Keeper.tables g.K.Keeper.calls g.K.Keeper.faults left read_faults in
+    let at = λ (left : Option (List ℕ)) (read_faults : ℕ). world_with g.W.Sink g.K.Keeper left read_faults in
     let old = λ (left : Option (List ℕ)) (read_faults : ℕ). at left read_faults c.args.out.now c.args.keeper.now in
     let new = λ (left : Option (List ℕ)) (read_faults : ℕ). at left read_faults c.stay_shut.new.out c.start.new.keeper
     in

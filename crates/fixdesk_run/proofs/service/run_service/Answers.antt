@@ -1,8 +1,7 @@
 use Rattle.std.proofs.Common.{◌≡◌, ◌∙◌, map, refl, sym, inr, arith, string_bytes, None, Some}
-use Rattle.fixdesk_run.specs.Site.{Site}
+use Rattle.fixdesk_run.specs.Site.{Site, site}
 use Rattle.fixdesk_run.proofs.Beginnings.{Leaves-served, Leaves-shut, one_of_three}
 use Rattle.fixdesk_run.proofs.Openings.{shut_code}
-use Rattle.fixdesk_run.proofs.Sights.{site_by}
 use Rattle.fixdesk_run.proofs.service.run_service.Goals as goal
 
 -- no machine began
@@ -10,7 +9,7 @@ pub returns-in-Err : goal.returns-in-Err
 returns-in-Err g c =
     let some : g.S.Service.planned c.args.service.now (map string_bytes c.args.words.now) ≡ Some c.in-Some.plan =
     sym c.plan.ensures ∙ c.in-Some.is in
-    let at = site_by g.W.Sink g.K.Keeper g.L.Listener in
+    let at = site g.W.Sink g.K.Keeper g.L.Listener in
     let old : Site = at c.args.out.now c.args.keeper.now c.args.door.now in
     let new : Site = at c.begin_machine.new.out c.begin_machine.new.keeper c.args.door.now in
     record {
@@ -29,7 +28,7 @@ pub returns : goal.returns
 returns g c =
     let some : g.S.Service.planned c.args.service.now (map string_bytes c.args.words.now) ≡ Some c.in-Some.plan =
     sym c.plan.ensures ∙ c.in-Some.is in
-    let old : Site = site_by g.W.Sink g.K.Keeper g.L.Listener c.args.out.now c.args.keeper.now c.args.door.now in
+    let old : Site = site g.W.Sink g.K.Keeper g.L.Listener c.args.out.now c.args.keeper.now c.args.door.now in
     let later = rw c.in-Ok.ensures.silent at c.serve_plan-end.ensures.later in
     record {
       leaves = rw (some, c.code-2.ensures) (Leaves-served c.serve_plan-end.result c.in-Ok.ensures.begun

@@ -1,13 +1,13 @@
 use Rattle.std.proofs.Common.{◌≡◌, ℕ, ◌+◌, ◌-◌, arith, subst}
-use Rattle.fixdesk_run.proofs.Sights.{desk_by, door_by}
+use Rattle.fixdesk_run.specs.Standing.{standing}
 use Rattle.fixdesk_run.proofs.Visiting.{PassesCount-none, PassesCount-push, early_once}
 use Rattle.fixdesk_run.proofs.visits.serve_links.Goals as goal
 
 -- no link was served yet
 pub links-init : goal.links-init
 links-init g c =
-    let desk = desk_by g.M.Machine g.K.Keeper c.args.machine.now c.args.keeper.now in
-    let door = door_by g.L.Listener c.args.door.now in
+    let desk = standing g.M.Machine g.K.Keeper c.args.machine.now c.args.keeper.now in
+    let door = g.L.Listener.seen c.args.door.now in
     let all : c.args.count ≡ c.args.count - 0 = omega arith in
     record {
       passed = PassesCount-none c.args.front.now desk door c.requires.bound c.requires.idle;

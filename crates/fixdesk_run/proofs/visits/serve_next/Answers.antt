@@ -1,13 +1,12 @@
 use Rattle.std.proofs.Common.{◌∙◌, refl}
 use Rattle.desk_links.specs.Doors.{link_seen}
-use Rattle.fixdesk_run.proofs.Sights.{desk_by}
+use Rattle.fixdesk_run.specs.Standing.{standing}
 use Rattle.fixdesk_run.proofs.visits.serve_next.Goals as goal
 
 -- the link was served and logged
 pub returns-clause-passed : goal.returns-clause-passed
 returns-clause-passed g c =
-    let seen = link_seen g.L.Source.Source.left g.L.Source.Source.read_faults g.L.Sink.Sink.written
-    g.L.Sink.Sink.write_faults in
+    let seen = link_seen g.L.Source.Source g.L.Sink.Sink in
     let (streams, line) = c.serve_link-end.ensures.logged in (
       record {
         visit = record {
@@ -15,7 +14,7 @@ returns-clause-passed g c =
           closed = seen c.serve_link-end.new.link;
           end = c.serve_link-end.result;
           answers = streams.answers;
-          after = desk_by g.M.Machine g.K.Keeper c.serve_link-end.new.machine c.serve_link-end.new.keeper;
+          after = standing g.M.Machine g.K.Keeper c.serve_link-end.new.machine c.serve_link-end.new.keeper;
         };
         end_is = refl;
         after_is = refl;

@@ -8,13 +8,11 @@ use Rattle.http_desk.proofs.serving.serve.Given as goal
 
 abbrev pub invariant-requests : goal.invariant-requests
 invariant-requests g l =
-    let at = scene g.S.Source.left g.S.Source.read_faults g.W.Sink.written g.W.Sink.write_faults g.M.Machine.rows
-    g.K.Keeper.tables g.K.Keeper.calls g.K.Keeper.faults in
+    let at = scene g.S.Source g.W.Sink g.M.Machine g.K.Keeper in
     record {
       serving : Serving l.front g.S.Source.reads l.fn.link.source l.link.source l.intake
           (g.K.Keeper.is_steady l.fn.keeper) (g.W.Sink.takes l.fn.link.sink) (g.W.Sink.takes l.link.sink) l.limit
-          (at l.fn.link.source l.fn.link.sink l.fn.machine l.fn.keeper)
-          (at l.link.source l.link.sink l.machine l.keeper) l.answered l.intake;
+          (at l.fn.link l.fn.machine l.fn.keeper) (at l.link l.machine l.keeper) l.answered l.intake;
       logged : IfShown (g.L.Log.line l.log) (last_line [] serving.answers);
       reads : g.S.Source.is_steady l.fn.link.source → g.S.Source.is_steady l.link.source;
       keeps : g.K.Keeper.is_steady l.fn.keeper → g.K.Keeper.is_steady l.keeper;

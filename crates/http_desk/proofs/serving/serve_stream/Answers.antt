@@ -8,9 +8,8 @@ use Rattle.http_desk.proofs.serving.serve_stream.Goals as goal
 pub returns-in-Err : goal.returns-in-Err
 returns-in-Err g c =
     let source = c.args.link.now.source in
-    let old : Scene = scene g.S.Source.left g.S.Source.read_faults g.W.Sink.written g.W.Sink.write_faults
-    g.M.Machine.rows g.K.Keeper.tables g.K.Keeper.calls g.K.Keeper.faults source c.args.link.now.sink
-    c.args.machine.now c.args.keeper.now in
+    let old : Scene = scene g.S.Source g.W.Sink g.M.Machine g.K.Keeper c.args.link.now c.args.machine.now
+    c.args.keeper.now in
     let served : Serves g.S.Source.reads c.args.front.now source source (g.S.Source.is_steady source)
     (g.W.Sink.takes c.args.link.now.sink) (g.K.Keeper.is_steady c.args.keeper.now) c.args.limit old old NoMemory =
     (ends_at_once c.requires.limit c.requires.told).0 in

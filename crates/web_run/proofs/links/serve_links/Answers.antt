@@ -1,5 +1,5 @@
 use Rattle.std.proofs.Common.{◌-◌, ℕ, length, refl, subst, arith}
-use Rattle.fixdesk_run.proofs.Sights.{desk_by, door_by}
+use Rattle.fixdesk_run.specs.Standing.{standing}
 use Rattle.web_run.proofs.Leaving.{TakesAll-then}
 use Rattle.web_run.proofs.Logging.{Logged-none, Logged-then, Served-push, log-part}
 use Rattle.web_run.proofs.links.serve_links.Goals as goal
@@ -7,8 +7,8 @@ use Rattle.web_run.proofs.links.serve_links.Goals as goal
 -- none was served yet
 pub links-init : goal.links-init
 links-init g c =
-    let desk = desk_by g.M.Machine g.K.Keeper c.args.machine.now c.args.keeper.now in
-    let door = door_by g.L.Listener c.args.door.now in
+    let desk = standing g.M.Machine g.K.Keeper c.args.machine.now c.args.keeper.now in
+    let door = g.L.Listener.seen c.args.door.now in
     record {
       logged = Logged-none c.args.front.now desk door (g.W.Sink.written c.args.out.now) c.requires.bound
           c.requires.idle;

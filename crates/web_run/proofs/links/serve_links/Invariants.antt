@@ -1,20 +1,20 @@
 use Rattle.std.proofs.Common.{◌-◌, ◌≤◌}
 use Rattle.keeper_core.specs.Keeping.{IfTold, TellsNoMore}
-use Rattle.fixdesk_run.proofs.Sights.{desk_by, door_by}
+use Rattle.fixdesk_run.specs.Standing.{standing}
 use Rattle.web_run.specs.Serving.{TakesAll}
 use Rattle.web_run.proofs.Logging.{Logged}
 use Rattle.web_run.proofs.links.serve_links.Given as goal
 
 abbrev pub invariant-links : goal.invariant-links
 invariant-links g l =
-    let desk = desk_by g.M.Machine g.K.Keeper in
-    let seen = door_by g.L.Listener in
+    let desk = standing g.M.Machine g.K.Keeper in
+    let seen = g.L.Listener.seen in
     record {
       logged : Logged l.front (desk l.fn.machine l.fn.keeper) (desk l.machine l.keeper) (seen l.fn.door) (seen l.door)
           (g.W.Sink.written l.fn.out) (g.W.Sink.written l.out) l.served;
       told : IfTold (g.K.Keeper.tables l.keeper) (g.M.Machine.rows l.machine);
       no_more : TellsNoMore (g.K.Keeper.tables l.fn.keeper) (g.K.Keeper.tables l.keeper);
-      later : g.L.Listener.door_faults l.fn.door ≤ g.L.Listener.door_faults l.door;
+      later : (g.L.Listener.seen l.fn.door).faults ≤ (g.L.Listener.seen l.door).faults;
       later_out : g.W.Sink.write_faults l.fn.out ≤ g.W.Sink.write_faults l.out;
       offers : g.L.Listener.offers l.fn.door l.count → g.L.Listener.offers l.door (l.count - l.served);
       takes : TakesAll (g.W.Sink.takes l.fn.out) → TakesAll (g.W.Sink.takes l.out);

@@ -1,9 +1,9 @@
 use Rattle.std.proofs.Common.{ap, inl, length, refl, None}
 use Rattle.fixdesk_run.specs.Link.{link_with}
 use Rattle.fixdesk_run.specs.Serve.{end_code}
-use Rattle.fixdesk_run.specs.Site.{with_keeper}
+use Rattle.fixdesk_run.specs.Site.{site, with_keeper}
 use Rattle.fixdesk_run.specs.declared.serving.ServeEnd.{ServeEnd}
-use Rattle.fixdesk_run.proofs.Sights.{desk_by, door_by, site_by}
+use Rattle.fixdesk_run.specs.Standing.{standing}
 use Rattle.web_run.specs.Serving.{front_of}
 use Rattle.web_run.proofs.Leaving.{EndsPages-linked, EndsPages-unsaid, TakesAll-then, is_bound}
 use Rattle.web_run.proofs.serving.PagingService.serve_plan.Goals as goal
@@ -11,8 +11,8 @@ use Rattle.web_run.proofs.serving.PagingService.serve_plan.Goals as goal
 -- a part of the first line was written
 pub returns-in-Err-write_all-clause-ends : goal.returns-in-Err-write_all-clause-ends
 returns-in-Err-write_all-clause-ends g c told used =
-    let begun = desk_by g.M.Machine g.K.Keeper c.args.machine.now c.args.keeper.now in
-    let at = site_by g.W.Sink g.K.Keeper g.L.Listener in
+    let begun = standing g.M.Machine g.K.Keeper c.args.machine.now c.args.keeper.now in
+    let at = site g.W.Sink g.K.Keeper g.L.Listener in
     EndsPages-unsaid (front_of (g.P.PageTable.listed c.args.self.now.table.now) c.args.plan) c.args.plan begun
     (with_keeper (at c.args.out.now c.args.keeper.now c.args.door.now) told used)
     (at c.write_all.new.sink c.args.keeper.now c.bind.new.self)
@@ -28,13 +28,13 @@ returns-in-Err-write_all-clause-ends g c told used =
 -- links were served after it
 pub returns-clause-ends : goal.returns-clause-ends
 returns-clause-ends g c told used =
-    let desk = desk_by g.M.Machine g.K.Keeper in
-    let at = site_by g.W.Sink g.K.Keeper g.L.Listener in
+    let desk = standing g.M.Machine g.K.Keeper in
+    let at = site g.W.Sink g.K.Keeper g.L.Listener in
     EndsPages-linked (front_of (g.P.PageTable.listed c.args.self.now.table.now) c.args.plan) c.args.plan
     (desk c.args.machine.now c.args.keeper.now) (desk c.serve_links.new.machine c.serve_links.new.keeper)
     (with_keeper (at c.args.out.now c.args.keeper.now c.args.door.now) told used)
-    (at c.serve_links.new.out c.serve_links.new.keeper c.serve_links.new.door) (door_by g.L.Listener c.bind.new.self)
-    (link_with g.W.Sink.written g.W.Sink.write_faults None 0 c.write_all.new.sink) c.serve_links.result
+    (at c.serve_links.new.out c.serve_links.new.keeper c.serve_links.new.door) (g.L.Listener.seen c.bind.new.self)
+    (link_with g.W.Sink None 0 c.write_all.new.sink) c.serve_links.result
     (is_bound c.in_default.ensures.port c.bind.ensures.waiting c.bind.ensures.closed c.bind.ensures.cause.later)
     (record { told = refl; uses = refl; kept = c.serve_links.ensures.told })
     (record {
