@@ -59,7 +59,7 @@ reply_status (replies.Refused refusal) = Refused
 -- the input is taken, and this text is due to it
 pub record IsDue (IsText : List ℕ → List ℕ → Type 0) (old new : Option (List ℕ)) (text : List ℕ) : Type 0 where
   pub bytes : List ℕ
-  pub taken : Takes old new bytes
+  pub taken : Takes most old new bytes
   pub answer : IsText bytes text
 
 -- the text that is due was written
@@ -77,7 +77,7 @@ pub record TellsPart (old new : LinkSeen) : Type 0 where
 
 -- nothing was written, and no more bytes were taken than may be
 pub record IsUnanswered (old new : LinkSeen) : Type 0 where
-  pub taken : TakesPart old.left new.left
+  pub taken : TakesPart most old.left new.left
   pub written : new.written ≡ old.written
   pub write_faults : new.write_faults ≡ old.write_faults
 

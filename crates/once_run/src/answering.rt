@@ -9,15 +9,18 @@ ghost use Rattle.once_run.specs.Input.{most};
 ghost use Rattle.once_run.specs.Once.{EndsOnce, IsOnceCode, IsReplyTo, TakesTold};
 ghost use Rattle.once_run.specs.Status.{status_code};
 
-use crate::input::{InputFault, MOST, input_of};
+use crate::input::{InputFault, input_of};
 use crate::reply::{CaseReply, InputRefusal};
 use crate::status::Status;
 use crate::telling::Said;
 use case_json::{Case, CaseFault, case_of, case_text};
-use desk_base::{Both, Failed, List, NoMemory, Sink, Source, Steps, Text, write_all};
+use desk_base::{Both, Failed, List, MAX_INPUT, NoMemory, Sink, Source, Steps, Text, write_all};
 use fix_engine::{Work, decide};
 use fix_model::{Book, ListBook, State};
 use std::alloc::Global;
+
+/// The most bytes that are taken of an input: one more than it may have.
+const MOST: usize = MAX_INPUT + 1;
 
 /// What the bytes that were taken are answered with.
 pub fn reply_to(alloc: Global, bytes: &[u8]) -> Result<CaseReply, NoMemory>
@@ -70,14 +73,14 @@ pub fn answer_over<B: Book<()>>(
 
 /// Answers the case that the link has left, and points to what keeps another JSON text from being one.
 pub fn once<S: Source, W: Sink>(alloc: Global, link: &mut Both<S, W>, said: &mut Said) -> Status
-    ensures ended { let seen = link_seen S.left S.read_faults W.written W.write_faults in
+    ensures ended { let seen = link_seen S.Source W.Sink in
         EndsOnce (seen link.old) (seen link.new) result }
     ensures read_faults { S.read_faults link.old.source ≤ S.read_faults link.new.source }
     ensures write_faults { W.write_faults link.old.sink ≤ W.write_faults link.new.sink }
     ensures complete { S.is_steady link.old.source
         → TakesTold (W.takes link.old.sink) (S.left link.old.source) → IsOnceCode (status_code result) }
 {
-    let bytes = match input_of(alloc, &mut link.source) {
+    let bytes = match input_of(alloc, MOST, &mut link.source) {
         Ok(bytes) => bytes,
         Err(InputFault::Failed) => return Status::ReadFault,
         Err(InputFault::NoMemory) => return Status::NoMemory,

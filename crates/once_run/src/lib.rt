@@ -12,6 +12,6 @@ mod status;
 mod telling;
 
 pub use answering::{answer_over, once};
-pub use input::InputFault;
+pub use input::{InputFault, input_of};
 pub use status::Status;
 pub use telling::{Said, tell, tell_said};

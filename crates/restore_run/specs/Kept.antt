@@ -1,6 +1,7 @@
 -- What becomes of a keeper to which tables are handed that were restored.
-use Rattle.std.specs.Prelude.{◌≡◌, ◌≢◌, ◌⊎◌, ℕ, Option}
+use Rattle.std.specs.Prelude.{◌≡◌, ◌≢◌, ◌⊎◌, Option}
 use Rattle.desk_words.specs.Tables.{Rows, empty_rows}
+use Rattle.keeper_core.specs.declared.keeper.Keeper.{Ghosts as KeeperTells}
 use Rattle.keeper_core.specs.Keeping.{IfTold, LoadsHeld, StayTold, Uses, uses}
 use Rattle.fixdesk_run.specs.World.{failed, loaded}
 use Rattle.restore_run.specs.declared.ended.RestoreEnd.{RestoreEnd}
@@ -13,8 +14,11 @@ pub record KeeperSeen : Type 0 where
   pub uses : Uses
 
 -- as the keeper tells it
-abbrev pub keeper_seen : {K : Type 0} → (K → Option Rows) → (K → ℕ) → (K → ℕ) → K → KeeperSeen
-keeper_seen told calls faults keeper = record { told = told keeper; uses = uses calls faults keeper }
+abbrev pub keeper_seen : {K : Type 0} → KeeperTells K → K → KeeperSeen
+keeper_seen of_keeper keeper = record {
+  told = of_keeper.tables keeper;
+  uses = uses of_keeper.calls of_keeper.faults keeper;
+}
 
 -- a keeper that was called to load and then to commit, and failed at neither
 abbrev pub called_twice : Uses → Uses

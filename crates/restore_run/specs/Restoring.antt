@@ -2,7 +2,9 @@
 use Rattle.std.specs.Prelude.{◌≡◌, ◌≢◌, ◌⊎◌, ℕ, List, [], ◌∷◌, length, Option, ⊤}
 use Rattle.desk_base.specs.Faults.{HasTaken, Rose}
 use Rattle.desk_base.specs.Sinks.{SinkState, sink_seen}
+use Rattle.desk_base.specs.declared.sink.Sink.{Ghosts as SinkTells}
 use Rattle.desk_words.specs.Tables.{Rows}
+use Rattle.keeper_core.specs.declared.keeper.Keeper.{Ghosts as KeeperTells}
 use Rattle.desk_valid.specs.declared.damage.Damage.{Damage}
 use Rattle.desk_valid.specs.Damage.{IsFirstDamage}
 use Rattle.desk_valid.specs.Valid.{AreValid}
@@ -22,11 +24,10 @@ pub record Scene : Type 0 where
   pub keeper : KeeperSeen
 
 -- as both tell it
-abbrev pub scene : {W K : Type 0} → (W → Option (List ℕ)) → (W → ℕ) → (K → Option Rows) → (K → ℕ) → (K → ℕ)
-    → W → K → Scene
-scene written write_faults told calls faults out keeper = record {
-  output = sink_seen written write_faults out;
-  keeper = keeper_seen told calls faults keeper;
+abbrev pub scene : {W K : Type 0} → SinkTells W → KeeperTells K → W → K → Scene
+scene of_sink of_keeper out keeper = record {
+  output = sink_seen of_sink.written of_sink.write_faults out;
+  keeper = keeper_seen of_keeper keeper;
 }
 
 -- ---- a text that was read

@@ -1,5 +1,5 @@
 -- What is written in place of a desk, on an output as it tells what was written.
-use Rattle.std.specs.Prelude.{◌≡◌, ◌⊎◌, ℕ, List, Option, codes}
+use Rattle.std.specs.Prelude.{◌≡◌, ◌⊎◌, ℕ, List, codes}
 use Rattle.std.specs.Io.KnownBytes.{Appends}
 use Rattle.desk_base.specs.Faults.{AppendsPart, Rose}
 use Rattle.desk_base.specs.Sinks.{SinkState}

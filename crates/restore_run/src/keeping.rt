@@ -13,7 +13,7 @@ use keeper_core::{KeepFail, Keeper};
 /// Has a keeper make these changes, where it has a new desk: in one commit, so all of them or none.
 pub fn keep<K: Keeper>(keeper: &mut K, changes: &List<Change>) -> RestoreEnd
     requires { FitAll empty_rows changes.now }
-    ensures kept { let seen = keeper_seen K.tables K.calls K.faults in
+    ensures kept { let seen = keeper_seen K.Keeper in
         Keeps (K.holds keeper.old) (changed_all empty_rows changes.now) (seen keeper.old) (seen keeper.new) result }
     ensures steady { K.is_steady keeper.old → result ≢ RestoreEnd.Unavailable }
 {

@@ -31,7 +31,7 @@ pub fn restore_desk<K: Keeper, S: Source, W: Sink>(
     keeper: &mut K,
     link: &mut Both<S, W>,
 ) -> RestoreEnd
-    ensures leaves { let world = world S.left S.read_faults W.written W.write_faults K.tables K.calls K.faults in
+    ensures leaves { let world = world S.Source W.Sink K.Keeper in
         LeavesRestored (K.holds keeper.old) (map string_bytes words.now) (world link.old keeper.old)
         (world link.new keeper.new) result }
     ensures complete { let words = map string_bytes words.now in
@@ -56,7 +56,7 @@ fn restore_text<K: Keeper, W: Sink>(
     keeper: &mut K,
     out: &mut W,
 ) -> RestoreEnd
-    ensures ended { let scene = scene W.written W.write_faults K.tables K.calls K.faults in
+    ensures ended { let scene = scene W.Sink K.Keeper in
         EndsText (K.holds keeper.old) text.now (scene out.old keeper.old) (scene out.new keeper.new) result }
     ensures later { W.write_faults out.old ≤ W.write_faults out.new }
     ensures complete { K.is_steady keeper.old → TakesDamage (W.takes out.old) text.now → IsUnfailing result }
@@ -77,7 +77,7 @@ fn restore_rows<K: Keeper, W: Sink>(
 ) -> RestoreEnd
     requires { IsMade restored.now }
     ensures ended { (text : List ℕ) → IsDumpOf text (rows_of restored.now.tables)
-        → let scene = scene W.written W.write_faults K.tables K.calls K.faults in
+        → let scene = scene W.Sink K.Keeper in
         EndsText (K.holds keeper.old) text (scene out.old keeper.old) (scene out.new keeper.new) result }
     ensures later { W.write_faults out.old ≤ W.write_faults out.new }
     ensures complete { (text : List ℕ) → IsDumpOf text (rows_of restored.now.tables)

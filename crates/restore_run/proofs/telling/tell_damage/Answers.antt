@@ -16,7 +16,7 @@ returns-in-WriteFault-clause-told g c =
 -- there was no memory for it
 pub returns-in_default : goal.returns-in_default
 returns-in_default g c =
-    let seen = link_with g.W.Sink.written g.W.Sink.write_faults None 0 in
+    let seen = link_with g.W.Sink None 0 in
     record {
       told = inr (inr (
         refl,
