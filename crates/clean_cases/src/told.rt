@@ -3,6 +3,7 @@ use crate::devices::Device;
 use clean_run::{Ended, Job, summary_line};
 use desk_base::MemSink;
 use desk_cases::Answer;
+use sheet_clean::SheetTexts;
 use sheet_filter::Outputs;
 use std::alloc::Global;
 use std::test::Fail;
@@ -10,46 +11,34 @@ use std::test::Fail;
 /// How a run ended, and what was written.
 pub struct Told {
     pub ended: Ended,
-    pub clean: Vec<u8>,
-    pub changes: Vec<u8>,
-    pub conflicts: Vec<u8>,
-    pub dissents: Vec<u8>,
+    pub sheets: SheetTexts,
 }
 
 /// One call lets it go (`docs/gate.md`).
 impl Drop for Told {
     fn drop(self) {
-        let Told {
-            ended,
-            clean,
-            changes,
-            conflicts,
-            dissents,
-        } = self;
+        let Told { ended, sheets } = self;
         drop(ended);
-        drop(clean);
-        drop(changes);
-        drop(conflicts);
-        drop(dissents);
+        drop(sheets);
     }
 }
 
 impl Told {
     /// What is told where nothing was written.
     pub fn unwritten(alloc: Global, ended: Ended) -> Told {
-        Told {
-            ended,
+        let sheets = SheetTexts {
             clean: Vec::new(alloc),
             changes: Vec::new(alloc),
             conflicts: Vec::new(alloc),
             dissents: Vec::new(alloc),
-        }
+        };
+        Told { ended, sheets }
     }
 
     /// What is told where a text or a clean sheet alone was written.
     pub fn with_clean(alloc: Global, ended: Ended, clean: &MemSink) -> Result<Told, Fail> {
         let mut told = Told::unwritten(alloc, ended);
-        told.clean.extend_from_slice(clean.bytes())?;
+        told.sheets.clean.extend_from_slice(clean.bytes())?;
         Ok(told)
     }
 
@@ -63,9 +52,12 @@ impl Told {
     ) -> Result<Told, Fail> {
         let mut told = Told::with_clean(alloc, ended, &outputs.clean)?;
         if job.changes.is_some() {
-            told.changes.extend_from_slice(outputs.changes.bytes())?;
-            told.conflicts.extend_from_slice(outputs.conflicts.bytes())?;
-            told.dissents.extend_from_slice(outputs.dissents.bytes())?;
+            let sheets = &mut told.sheets;
+            sheets.changes.extend_from_slice(outputs.changes.bytes())?;
+            sheets
+                .conflicts
+                .extend_from_slice(outputs.conflicts.bytes())?;
+            sheets.dissents.extend_from_slice(outputs.dissents.bytes())?;
         }
         Ok(told)
     }
@@ -74,10 +66,10 @@ impl Told {
     pub fn written(&self, device: Device) -> &[u8] {
         match device {
             Device::Source => &[],
-            Device::Clean => self.clean.as_slice(),
-            Device::Changes => self.changes.as_slice(),
-            Device::Conflicts => self.conflicts.as_slice(),
-            Device::Dissents => self.dissents.as_slice(),
+            Device::Clean => self.sheets.clean.as_slice(),
+            Device::Changes => self.sheets.changes.as_slice(),
+            Device::Conflicts => self.sheets.conflicts.as_slice(),
+            Device::Dissents => self.sheets.dissents.as_slice(),
         }
     }
 
@@ -91,10 +83,10 @@ impl Told {
             let line = summary_line(answer.alloc(), summary)?;
             answer.bytes_once("summary", line.as_bytes())?;
         }
-        add_sheet(answer, "clean", self.clean.as_slice())?;
-        add_sheet(answer, "changes", self.changes.as_slice())?;
-        add_sheet(answer, "conflicts", self.conflicts.as_slice())?;
-        add_sheet(answer, "dissents", self.dissents.as_slice())
+        add_sheet(answer, "clean", self.written(Device::Clean))?;
+        add_sheet(answer, "changes", self.written(Device::Changes))?;
+        add_sheet(answer, "conflicts", self.written(Device::Conflicts))?;
+        add_sheet(answer, "dissents", self.written(Device::Dissents))
     }
 }
 

@@ -5,7 +5,7 @@ use crate::texts::{SCHEMA, rules_text, sheet_text};
 use crate::writes::{publish, write};
 use desk_base::{List, NoMemory, Str};
 use desk_trials::KeptDesk;
-use desk_words::{ClerkWork, StewardWork};
+use desk_words::{ClerkWork, Proposal, StewardWork};
 use std::alloc::Global;
 use std::test::Fail;
 use std::time::CpuClock;
@@ -75,37 +75,37 @@ fn clerk(alloc: Global) -> Result<StewardWork, NoMemory> {
 }
 
 fn schema(alloc: Global) -> Result<StewardWork, NoMemory> {
-    Ok(StewardWork::AddSchema {
+    Ok(StewardWork::Publish(Proposal::Schema {
         body: list_of(alloc, SCHEMA)?,
-    })
+    }))
 }
 
 fn master(alloc: Global, sheet: &[u8]) -> Result<StewardWork, NoMemory> {
-    Ok(StewardWork::AddMaster {
+    Ok(StewardWork::Publish(Proposal::Master {
         name: Str::new(alloc, "m")?,
         body: list_of(alloc, sheet)?,
-    })
+    }))
 }
 
 fn rulebook(alloc: Global, rules: &[u8]) -> Result<StewardWork, NoMemory> {
-    Ok(StewardWork::AddRulebook {
+    Ok(StewardWork::Publish(Proposal::Rulebook {
         name: Str::new(alloc, "rules")?,
         schema: Str::new(alloc, "wide")?,
         version: 1,
         body: list_of(alloc, rules)?,
-    })
+    }))
 }
 
 fn edition(alloc: Global) -> Result<StewardWork, NoMemory> {
     let name = Str::new(alloc, "desk")?;
     let rules = Str::new(alloc, "rules")?;
     let masters = masters(alloc)?;
-    Ok(StewardWork::AddEdition {
+    Ok(StewardWork::Publish(Proposal::Edition {
         name,
         rulebook: (rules, 1),
         masters,
         folded: List::new(alloc),
-    })
+    }))
 }
 
 fn masters(alloc: Global) -> Result<List<(Str, u32)>, NoMemory> {

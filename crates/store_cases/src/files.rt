@@ -1,8 +1,8 @@
 //! The script over a file at a path, which is opened anew for each stream.
-use crate::sent::{IN_TURN, Stream};
+use crate::sent::{IN_TURN, Sending, Stream};
 use desk_base::Str;
 use desk_cases::{Answer, Case};
-use desk_trials::{Script, serve};
+use desk_trials::serve;
 use keeper_core::Keeper;
 use keeper_sqlite::FileKeeper;
 use sqlite::{FileFrom, FileStore, Start, Unknown};
@@ -17,23 +17,13 @@ type Keeping<'r, S> = FileKeeper<'r, S, FileStore<FileFrom<S>>>;
 /// without its log, whether that file has the tables that are wanted then, and what stands at its name and at that of
 /// its log. Nothing stands there before but what the case lays there, or a copy of the file that it begins from, and
 /// nothing is left.
-pub fn told(
-    rt: &HostRuntime,
-    script: &Script,
-    case: &Case,
-    answer: &mut Answer,
-) -> Result<(), Fail> {
-    let Some(path) = case.text("file") else {
+pub fn told(rt: &HostRuntime, sending: Sending<'_>, answer: &mut Answer) -> Result<(), Fail> {
+    let Some(path) = sending.case.text("file") else {
         return Err(Fail::new("a case does not name its file"));
     };
     remove(rt, path)?;
-    lay(rt, case, path)?;
-    let trial = Trial {
-        rt,
-        script,
-        case,
-        path,
-    };
+    lay(rt, sending.case, path)?;
+    let trial = Trial { rt, sending, path };
     trial.tell(answer)?;
     remove(rt, path)
 }
@@ -49,8 +39,7 @@ enum Asked {
 #[derive(Drop)]
 struct Trial<'t> {
     rt: &'t HostRuntime,
-    script: &'t Script,
-    case: &'t Case,
+    sending: Sending<'t>,
     path: &'t str,
 }
 
@@ -65,11 +54,11 @@ impl<'t> Trial<'t> {
         self.lay("stands", self.path)?;
         self.lay("log stands", log)?;
         for stream in IN_TURN {
-            if stream.is_in(self.case) {
+            if stream.is_in(self.sending.case) {
                 self.ask(Asked::Stream(stream), log, Unknown, answer)?;
             }
         }
-        if self.case.part("tables").is_some() {
+        if self.sending.case.part("tables").is_some() {
             self.ask(Asked::Tables, log, Unknown, answer)?;
         }
         self.add_left("left", self.path, answer)?;
@@ -78,7 +67,7 @@ impl<'t> Trial<'t> {
 
     /// Writes what stands in a part to a file, where the case has that part.
     fn lay(&self, part: &'static str, path: &str) -> Result<(), Fail> {
-        let Some(text) = self.case.text(part) else {
+        let Some(text) = self.sending.case.text(part) else {
             return Ok(());
         };
         match fs::write(self.rt, path, text.as_bytes()) {
@@ -90,7 +79,7 @@ impl<'t> Trial<'t> {
     /// Adds what stands in a file, where the case asks for it: `as before` where it has the bytes of the file that the
     /// case begins from, `none` where there is none.
     fn add_left(&self, part: &'static str, path: &str, answer: &mut Answer) -> Result<(), Fail> {
-        if self.case.part(part).is_none() {
+        if self.sending.case.part(part).is_none() {
             return Ok(());
         }
         match fs::read(self.rt, path) {
@@ -111,7 +100,7 @@ impl<'t> Trial<'t> {
 
     /// Whether these are the bytes of the file that the case begins from.
     fn is_as_before(&self, bytes: &[u8]) -> Result<bool, Fail> {
-        let Some(from) = self.case.text("from") else {
+        let Some(from) = self.sending.case.text("from") else {
             return Ok(false);
         };
         match fs::read(self.rt, from) {
@@ -148,10 +137,13 @@ impl<'t> Trial<'t> {
         answer: &mut Answer,
     ) -> Result<(), Fail> {
         match asked {
-            Asked::Tables => self.script.add_tables(self.case, keeper, answer),
+            Asked::Tables => self
+                .sending
+                .script
+                .add_tables(self.sending.case, keeper, answer),
             Asked::Stream(stream) => {
                 self.send(stream, keeper, answer)?;
-                if stream == Stream::First && Stream::Beside.is_in(self.case) {
+                if stream == Stream::First && Stream::Beside.is_in(self.sending.case) {
                     self.add_beside(Unknown, answer)?;
                 }
                 Ok(())
@@ -174,9 +166,9 @@ impl<'t> Trial<'t> {
         keeper: &mut K,
         answer: &mut Answer,
     ) -> Result<(), Fail> {
-        let requests = stream.requests(answer.alloc(), self.script, self.case)?;
+        let requests = self.sending.requests(answer.alloc(), stream)?;
         let told = serve(answer.alloc(), keeper, requests.as_slice())?;
-        stream.add_told(self.script, self.case, &told, answer)
+        self.sending.add_told(stream, &told, answer)
     }
 
     fn keeper<S: Start>(&self, start: S) -> Result<Keeping<'t, S>, Fail> {

@@ -32,38 +32,29 @@ const CALLS: [Names; 2] = [
 pub fn told(case: &Case, stored: &mut Stored, answer: &mut Answer) -> Result<(), Fail> {
     for names in &CALLS {
         if case.part(names.status).is_some() {
-            add_call(case, stored, names, answer)?;
+            names.call(case, stored, answer)?;
         }
     }
     Ok(())
 }
 
-/// Makes a call, and adds what it told and which rows stand then.
-fn add_call(
-    case: &Case,
-    stored: &mut Stored,
-    names: &Names,
-    answer: &mut Answer,
-) -> Result<(), Fail> {
-    let before = stored.renew(answer.alloc())?;
-    add_told(case, stored, names, answer)?;
-    let after = stored.renew(answer.alloc())?;
-    if before.as_str() == after.as_str() {
-        answer.text(names.left, "as before")
-    } else {
-        answer.text(names.left, after.as_str())
+impl Names {
+    /// Makes the call, and adds what it told and which rows stand then.
+    fn call(&self, case: &Case, stored: &mut Stored, answer: &mut Answer) -> Result<(), Fail> {
+        let before = stored.renew(answer.alloc())?;
+        let told = stored.call(answer.alloc(), self.words_in(case), &[])?;
+        answer.number(self.status, u64::from(told.status))?;
+        answer.bytes(self.written, told.output.as_slice())?;
+        let after = stored.renew(answer.alloc())?;
+        if before.as_str() == after.as_str() {
+            answer.text(self.left, "as before")
+        } else {
+            answer.text(self.left, after.as_str())
+        }
     }
-}
 
-/// Calls `run`, and adds the status and what was written.
-fn add_told(
-    case: &Case,
-    stored: &mut Stored,
-    names: &Names,
-    answer: &mut Answer,
-) -> Result<(), Fail> {
-    let words = case.part(names.words).unwrap_or(b"report");
-    let told = stored.call(answer.alloc(), words, &[])?;
-    answer.number(names.status, u64::from(told.status))?;
-    answer.bytes(names.written, told.output.as_slice())
+    /// The words of the call.
+    fn words_in<'c>(&self, case: &'c Case) -> &'c [u8] {
+        case.part(self.words).unwrap_or(b"report")
+    }
 }

@@ -14,6 +14,7 @@ mod stopping_store;
 mod stops;
 mod stored;
 
+use crate::sent::Sending;
 use crate::stopping_store::FusedStore;
 use crate::stored::Stored;
 use desk_cases::{Answer, Case, Part, Subject, try_files};
@@ -49,7 +50,8 @@ impl<'r> Subject for Runs<'r> {
 
     fn answer(&mut self, kind: &str, case: &Case, answer: &mut Answer) -> Result<(), Fail> {
         if kind == "file" {
-            return files::told(self.rt, &self.script, case, answer);
+            let script = &self.script;
+            return files::told(self.rt, Sending { script, case }, answer);
         }
         let mut stored = Stored::holding(answer.alloc(), case.text("rows"))?;
         let answered = self.answer_over(kind, case, &mut stored, answer);
@@ -67,14 +69,16 @@ impl<'r> Runs<'r> {
         stored: &mut Stored,
         answer: &mut Answer,
     ) -> Result<(), Fail> {
+        let script = &self.script;
+        let sending = Sending { script, case };
         match kind {
             "desk" => {
-                sent::next(&self.script, case, stored, answer)?;
+                sending.add_next(stored, answer)?;
                 self.script.add(answer.alloc(), case)
             }
-            "script" => sent::told(&self.script, case, stored, answer),
+            "script" => sending.add_streams(stored, answer),
             "rows" => loads::told(case, stored, answer),
-            "stop" => stops::told::<FusedStore>(&self.script, case, stored, answer),
+            "stop" => stops::told::<FusedStore>(sending, stored, answer),
             _ => Err(Fail::new("a file of cases has an unknown kind")),
         }
     }

@@ -54,74 +54,68 @@ impl Stream {
     }
 }
 
-/// What the request of a case is answered in a stream of its own, by a keeper over the database that the script so far
-/// leaves there. The keeper was not called yet.
-pub fn next(
-    script: &Script,
-    case: &Case,
-    stored: &mut Stored,
-    answer: &mut Answer,
-) -> Result<(), Fail> {
-    send(answer.alloc(), script, stored)?;
-    stored.renew(answer.alloc())?;
-    let told = stored.serve(answer.alloc(), case.bytes("request")?)?;
-    told.add_response(answer)
+/// The script, and a case that sends requests of it.
+#[derive(Clone, Copy)]
+pub struct Sending<'c> {
+    pub script: &'c Script,
+    pub case: &'c Case,
 }
 
-/// Sends the requests of the script to a keeper.
-fn send(alloc: Global, script: &Script, stored: &mut Stored) -> Result<(), Fail> {
-    let requests = script.first(alloc, script.len())?;
-    let _told = stored.serve(alloc, requests.as_slice())?;
-    Ok(())
-}
+impl<'c> Sending<'c> {
+    /// Adds what the request of the case is answered in a stream of its own, by a keeper over the database that the
+    /// script so far leaves there. The keeper was not called yet.
+    pub fn add_next(self, stored: &mut Stored, answer: &mut Answer) -> Result<(), Fail> {
+        self.send_script(answer.alloc(), stored)?;
+        stored.renew(answer.alloc())?;
+        let told = stored.serve(answer.alloc(), self.case.bytes("request")?)?;
+        told.add_response(answer)
+    }
 
-/// What the streams of a case are answered, each by a keeper over the database that those before it left, and whether
-/// that database has the tables that are wanted then.
-pub fn told(
-    script: &Script,
-    case: &Case,
-    stored: &mut Stored,
-    answer: &mut Answer,
-) -> Result<(), Fail> {
-    for stream in IN_TURN {
-        if stream.is_in(case) {
-            add_stream(script, case, stored, stream, answer)?;
+    /// Sends the requests of the script to a keeper.
+    fn send_script(self, alloc: Global, stored: &mut Stored) -> Result<(), Fail> {
+        let requests = self.script.first(alloc, self.script.len())?;
+        let _told = stored.serve(alloc, requests.as_slice())?;
+        Ok(())
+    }
+
+    /// Adds what the streams of the case are answered, each by a keeper over the database that those before it left,
+    /// and whether that database has the tables that are wanted then.
+    pub fn add_streams(self, stored: &mut Stored, answer: &mut Answer) -> Result<(), Fail> {
+        for stream in IN_TURN {
+            if stream.is_in(self.case) {
+                self.add_stream(stored, stream, answer)?;
+            }
         }
-    }
-    stored.add_tables(script, case, answer)
-}
-
-/// Sends a stream to a keeper of its own, and adds what it was answered.
-fn add_stream(
-    script: &Script,
-    case: &Case,
-    stored: &mut Stored,
-    stream: Stream,
-    answer: &mut Answer,
-) -> Result<(), Fail> {
-    stored.renew(answer.alloc())?;
-    let requests = stream.requests(answer.alloc(), script, case)?;
-    let told = stored.serve(answer.alloc(), requests.as_slice())?;
-    stream.add_told(script, case, &told, answer)
-}
-
-impl Stream {
-    /// The requests that are sent.
-    pub fn requests(self, alloc: Global, script: &Script, case: &Case) -> Result<Vec<u8>, Fail> {
-        script.named(alloc, case, case.text(self.sent()).unwrap_or(""))
+        stored.add_tables(self, answer)
     }
 
-    /// Adds what was answered.
-    pub fn add_told(
+    /// Sends a stream to a keeper of its own, and adds what it was answered.
+    fn add_stream(
         self,
-        script: &Script,
-        case: &Case,
-        told: &Told,
+        stored: &mut Stored,
+        stream: Stream,
         answer: &mut Answer,
     ) -> Result<(), Fail> {
-        answer.number(self.status(), u64::from(told.status))?;
-        let words = case.text(self.answered()).unwrap_or("");
-        let answered = script.answered(answer.alloc(), case, words, told.output.as_slice())?;
-        answer.bytes(self.answered(), answered.as_slice())
+        stored.renew(answer.alloc())?;
+        let requests = self.requests(answer.alloc(), stream)?;
+        let told = stored.serve(answer.alloc(), requests.as_slice())?;
+        self.add_told(stream, &told, answer)
+    }
+
+    /// The requests of a stream.
+    pub fn requests(self, alloc: Global, stream: Stream) -> Result<Vec<u8>, Fail> {
+        let numbers = self.case.text(stream.sent()).unwrap_or("");
+        self.script.named(alloc, self.case, numbers)
+    }
+
+    /// Adds what a stream was answered.
+    pub fn add_told(self, stream: Stream, told: &Told, answer: &mut Answer) -> Result<(), Fail> {
+        answer.number(stream.status(), u64::from(told.status))?;
+        let words = self.case.text(stream.answered()).unwrap_or("");
+        let output = told.output.as_slice();
+        let answered = self
+            .script
+            .answered(answer.alloc(), self.case, words, output)?;
+        answer.bytes(stream.answered(), answered.as_slice())
     }
 }

@@ -1,9 +1,10 @@
 //! The script over files that stop after so many calls: none, one, two, and so on to the first run that none of them
 //! stops.
 use crate::disks::{Disks, Standing};
+use crate::sent::Sending;
 use crate::stopping_store::StoppingStore;
 use crate::stored::Stored;
-use desk_cases::{Answer, Case};
+use desk_cases::Answer;
 use desk_trials::{Script, Table, Told};
 use std::alloc::Global;
 use std::test::Fail;
@@ -40,12 +41,11 @@ enum Left {
 /// What stops in each step leave. The keeper over a database in memory has the rows of the case, and was not called
 /// yet.
 pub fn told<S: StoppingStore>(
-    script: &Script,
-    case: &Case,
+    sending: Sending<'_>,
     stored: &mut Stored,
     answer: &mut Answer,
 ) -> Result<(), Fail> {
-    let trial = Trial::of::<S>(answer.alloc(), script, case, stored)?;
+    let trial = Trial::of::<S>(answer.alloc(), sending, stored)?;
     let mut left = vec![in answer.alloc(); Left::NoStop; trial.count.saturating_add(1)]?;
     trial.stop_each::<S>(answer.alloc(), left.as_mut_slice())?;
     add_left(left.as_slice(), answer)
@@ -85,15 +85,14 @@ impl<'c> Trial<'c> {
     /// The trial of a case, where a keeper over a database in memory has its rows.
     fn of<S: StoppingStore>(
         alloc: Global,
-        script: &'c Script,
-        case: &Case,
+        sending: Sending<'c>,
         stored: &mut Stored,
     ) -> Result<Trial<'c>, Fail> {
-        let count = count_of(script, case)?;
-        let standing = Standing::with_rows::<S>(alloc, case.text("rows"))?;
-        let states = states(alloc, script, stored, count)?;
+        let count = count_of(sending)?;
+        let standing = Standing::with_rows::<S>(alloc, sending.case.text("rows"))?;
+        let states = states(alloc, sending.script, stored, count)?;
         Ok(Trial {
-            script,
+            script: sending.script,
             count,
             standing,
             states,
@@ -224,12 +223,12 @@ impl<'c> Trial<'c> {
 }
 
 /// How many requests of the script a case sends.
-fn count_of(script: &Script, case: &Case) -> Result<usize, Fail> {
-    match case.number("requests") {
+fn count_of(sending: Sending<'_>) -> Result<usize, Fail> {
+    match sending.case.number("requests") {
         Some(count) => Ok(
             usize::try_from(count)
                 .unwrap_or(usize::MAX)
-                .min(script.len()),
+                .min(sending.script.len()),
         ),
         None => Err(Fail::new("a case does not say how many requests are sent")),
     }

@@ -2,9 +2,10 @@
 ghost use Rattle.std.specs.Prelude.{◌≡◌, false};
 
 use crate::lines::{lines_of, rows_in};
-use desk_cases::{Answer, Case};
+use crate::sent::Sending;
+use desk_cases::Answer;
 use desk_packing::PackedRow;
-use desk_trials::{Script, Told, call_words};
+use desk_trials::{Told, call_words};
 use keeper_sqlite::SqlTables;
 use row_store::{Footing, all_rows, footing_of, make_table, put_rows};
 use sqlite::{Alter, Connection, MemStore};
@@ -47,14 +48,9 @@ impl Stored {
     }
 
     /// Adds whether the tables are those that a case wants.
-    pub fn add_tables(
-        &mut self,
-        script: &Script,
-        case: &Case,
-        answer: &mut Answer,
-    ) -> Result<(), Fail> {
+    pub fn add_tables(&mut self, sending: Sending<'_>, answer: &mut Answer) -> Result<(), Fail> {
         match &mut self.keeper {
-            Some(keeper) => script.add_tables(case, keeper, answer),
+            Some(keeper) => sending.script.add_tables(sending.case, keeper, answer),
             None => Err(no_keeper()),
         }
     }

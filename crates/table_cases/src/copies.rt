@@ -8,8 +8,8 @@ use desk_base::{Duplicate, List, Room, Text};
 use desk_cases::{Answer, Case};
 use desk_valid::{Bound, kit_of, valid};
 use desk_words::{
-    BatchRow, Change, ClerkRow, EditionRow, MasterRow, RecordRow, RegionRow, RulebookRow,
-    SchemaRow, SessionRow, Tables,
+    BatchRow, Change, ClerkRow, EditionRow, RecordRow, RegionRow, RulebookRow, SessionRow, Tables,
+    TextRow,
 };
 use fix_model::{Cell, State, Step};
 use std::alloc::Global;
@@ -40,6 +40,11 @@ fn try_all(alloc: Global, tables: &Tables) -> Result<(), Fail> {
 /// Fails where a copy shows otherwise.
 fn is_copied<T: Duplicate + Debug + Drop>(alloc: Global, origin: &T) -> Result<(), Fail> {
     let copy = origin.copy()?;
+    are_alike(alloc, origin, &copy)
+}
+
+/// Fails where a copy shows otherwise than its origin.
+fn are_alike<T: Debug>(alloc: Global, origin: &T, copy: &T) -> Result<(), Fail> {
     let shown = format!(in alloc; "{copy:?}")?;
     if shows(alloc, origin, shown.as_str())? {
         Ok(())
@@ -60,12 +65,20 @@ fn try_copy<T: Duplicate + Debug + Drop>(alloc: Global, origin: T) -> Result<(),
 
 /// Copies the tables, and each of their rows in a change.
 fn try_tables(alloc: Global, tables: &Tables) -> Result<(), Fail> {
-    is_copied(alloc, tables)?;
+    try_rows(alloc, tables)?;
     try_clerks(alloc, tables.clerks.as_slice())?;
     try_published(alloc, tables)?;
     try_all_sessions(alloc, tables.sessions.as_slice())?;
     try_all_records(alloc, tables.records.as_slice())?;
     try_all_batches(alloc, tables.batches.as_slice())
+}
+
+/// The tables that are made of the same rows.
+fn try_rows(alloc: Global, tables: &Tables) -> Result<(), Fail> {
+    let made = tables.copy_rows(alloc)?;
+    let alike = are_alike(alloc, tables, &made);
+    drop(made);
+    alike
 }
 
 /// Each clerk, in a change.
@@ -86,7 +99,7 @@ fn try_published(alloc: Global, tables: &Tables) -> Result<(), Fail> {
 }
 
 /// Each schema, in a change.
-fn try_schemas(alloc: Global, rows: &[SchemaRow]) -> Result<(), Fail> {
+fn try_schemas(alloc: Global, rows: &[TextRow]) -> Result<(), Fail> {
     for row in rows {
         try_copy(alloc, Change::Schema(row.copy()?))?;
     }
@@ -94,7 +107,7 @@ fn try_schemas(alloc: Global, rows: &[SchemaRow]) -> Result<(), Fail> {
 }
 
 /// Each master, in a change.
-fn try_masters(alloc: Global, rows: &[MasterRow]) -> Result<(), Fail> {
+fn try_masters(alloc: Global, rows: &[TextRow]) -> Result<(), Fail> {
     for row in rows {
         try_copy(alloc, Change::Master(row.copy()?))?;
     }

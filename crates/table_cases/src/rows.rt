@@ -3,9 +3,7 @@ use crate::fields::{act, attributes, body, field, number, numbers, text, texts};
 use crate::own::own_row;
 use desk_base::{List, Room, Text};
 use desk_cases::Case;
-use desk_words::{
-    ClerkRow, Digest, EditionRow, MasterRow, RegionRow, RulebookRow, SchemaRow, Tables,
-};
+use desk_words::{ClerkRow, Digest, EditionRow, RegionRow, RulebookRow, Tables, TextRow};
 use fix_model::Region;
 use std::alloc::Global;
 use std::test::Fail;
@@ -47,8 +45,8 @@ fn fill(alloc: Global, tables: &mut Tables, case: &Case) -> Result<(), Fail> {
 fn row(alloc: Global, tables: &mut Tables, table: &str, line: &str) -> Result<(), Fail> {
     match table {
         "clerk" => clerk(alloc, tables, line),
-        "schema" => schema(alloc, tables, line),
-        "master" => master(alloc, tables, line),
+        "schema" => Ok(tables.schemas.push(text_row(alloc, line)?)?),
+        "master" => Ok(tables.masters.push(text_row(alloc, line)?)?),
         "rulebook" => rulebook(alloc, tables, line),
         "edition" => edition(alloc, tables, line),
         "region" => region(alloc, tables, line),
@@ -86,32 +84,16 @@ fn clerk_row(alloc: Global, line: &str) -> Result<ClerkRow, Fail> {
     })
 }
 
-/// Name, version and body.
-fn schema(alloc: Global, tables: &mut Tables, line: &str) -> Result<(), Fail> {
+/// Name, version and body: a schema or a master.
+fn text_row(alloc: Global, line: &str) -> Result<TextRow, Fail> {
     let (name, line) = field(line)?;
     let (version, rest) = field(line)?;
     let version = number(version)?;
-    let row = SchemaRow {
+    Ok(TextRow {
         name: text(alloc, name)?,
         version,
         body: body(alloc, rest)?,
-    };
-    tables.schemas.push(row)?;
-    Ok(())
-}
-
-/// Name, version and body.
-fn master(alloc: Global, tables: &mut Tables, line: &str) -> Result<(), Fail> {
-    let (name, line) = field(line)?;
-    let (version, rest) = field(line)?;
-    let version = number(version)?;
-    let row = MasterRow {
-        name: text(alloc, name)?,
-        version,
-        body: body(alloc, rest)?,
-    };
-    tables.masters.push(row)?;
-    Ok(())
+    })
 }
 
 /// Name, version, schema and body.
